@@ -1,6 +1,6 @@
 -- What a chain's calls keep of its fields, and the list that they leave.
-use Rattle.std.proofs.Common.{◌≡◌, ℕ, zero, suc, ◌+◌, ◌-◌, ◌<◌, ◌≤◌, Bool, true, false, cond, nat_eq, replicate, List, [], ◌∷◌, ◌++◌,
-    length, get_or, set, Option, Some, None, refl, sym, ap, subst, ◌∙◌, inl, inr, arith}
+use Rattle.std.proofs.Common.{◌≡◌, ℕ, zero, suc, ◌+◌, ◌-◌, ◌<◌, ◌≤◌, Bool, true, false, cond, nat_eq, replicate, List, [], ◌∷◌, ◌++◌}
+use Rattle.std.proofs.Common.{length, get_or, set, Option, Some, None, refl, sym, ap, subst, ◌∙◌, inl, inr, arith}
 use Rattle.std.proofs.lemmas.Bool.Decides.{eqb_tells}
 use Rattle.std.proofs.lemmas.List.{length-set, length-append, get_or-set_same, get_or-set_other, get_or_past, append-nil, length-replicate}
 use Rattle.std.proofs.lemmas.List.Sums.{count_by-le-length}
@@ -38,7 +38,7 @@ module _ {X : Type 0} where
       let short : length xs ≤ length m.places = omega (arith, c.count, count_by-le-length is_some m.places) in
       ap (λ at. entries_of m ss at) c.first_is
       ∙ KeyLemmas.entries-linked (length m.places) m.places ss None xs c.linked
-          (KeyLemmas.Stamped-of ss xs c.apart (λ p s e. c.stamped p ∙ e)) short
+      (KeyLemmas.Stamped-of ss xs c.apart (λ p s e. c.stamped p ∙ e)) short
 
   pub settled : (m : NodeMap X) (ss : List (Option ℕ)) (first last : Option ℕ) (xs : List (Keyed X)) → IsChain m ss first last xs →
       IsChain m ss first last (entries_of m ss first)
@@ -48,7 +48,7 @@ module _ {X : Type 0} where
   pub IsChain-push : (m : NodeMap X) (ss : List (Option ℕ)) (first last : Option ℕ) (xs : List (Keyed X)) (p stamp spare : ℕ) (v : X)
       → IsChain m ss first last xs → p < length m.places → get_or m.places p None ≡ None
       → IsChain (relinked_before (Some p) last (relinked_after last (Some p) (with_node p (Some (node v None None)) spare m)))
-          (set ss p (Some stamp)) (cond (is_some last) first (Some p)) (Some p)
+      (set ss p (Some stamp)) (cond (is_some last) first (Some p)) (Some p)
       (xs ++ keyed (record { place = p; stamp = stamp }) v ∷ [])
   IsChain-push m ss first last xs p stamp spare v c lt none =
       let x : Keyed X = keyed (record { place = p; stamp = stamp }) v in
@@ -68,10 +68,22 @@ module _ {X : Type 0} where
           | inr f ↦ get_or-set_other ss p q (Some stamp) None f.1 ∙ c.stamped q
               ∙ ap (λ ys. stamp_at q ys) (sym (append-nil xs)) ∙ sym (ChainLemmas.stamp-insert q xs x [] (λ e. f.1 (sym e)))
         ];
-        long = omega (arith, length-set ss p (Some stamp), c.long, ChainLemmas.length-places_before (Some p) last c2,
-            ChainLemmas.length-places_after last (Some p) c1, length-set m.places p (Some (node v None None)));
-        count = omega (arith, ChainLemmas.count-places_before (Some p) last c2, ChainLemmas.count-places_after last (Some p) c1,
-            count-fill m.places p (node v None None) lt none, c.count, length-append xs (x ∷ []));
+        long = omega (
+          arith,
+          length-set ss p (Some stamp),
+          c.long,
+          ChainLemmas.length-places_before (Some p) last c2,
+          ChainLemmas.length-places_after last (Some p) c1,
+          length-set m.places p (Some (node v None None)),
+        );
+        count = omega (
+          arith,
+          ChainLemmas.count-places_before (Some p) last c2,
+          ChainLemmas.count-places_after last (Some p) c1,
+          count-fill m.places p (node v None None) lt none,
+          c.count,
+          length-append xs (x ∷ []),
+        );
       }
 
   -- an entry is taken out
@@ -79,9 +91,9 @@ module _ {X : Type 0} where
       (spare : ℕ)
       → IsChain m ss first last (before ++ x ∷ behind)
       → IsChain (with_node x.key.place None spare (relinked_before (first_or behind None) (last_or None before)
-          (relinked_after (last_or None before) (first_or behind None) m))) (set ss x.key.place None)
+      (relinked_after (last_or None before) (first_or behind None) m))) (set ss x.key.place None)
       (cond (is_some (last_or None before)) first (first_or behind None))
-          (cond (is_some (first_or behind None)) last (last_or None before)) (before ++ behind)
+      (cond (is_some (first_or behind None)) last (last_or None before)) (before ++ behind)
   IsChain-unlink m ss first last before behind x spare c =
       let p = x.key.place in
       let b = last_or None before in
@@ -90,11 +102,11 @@ module _ {X : Type 0} where
       let c2 = places_before a b c1 in
       let parts = ChainLemmas.Apart-cut before (x ∷ behind) c.apart in
       let away : NotAt p (before ++ behind) = ChainLemmas.NotAt-append p before behind (ChainLemmas.Apart-before before x behind c.apart)
-            parts.1.0 in
+      parts.1.0 in
       let live : is_some (get_or m.places p None) ≡ true = ap is_some (ChainLemmas.Linked-middle m.places before x behind c.linked) in
       let within = live_within m.places p live in
       let still : is_some (get_or c2 p None) ≡ true = ChainLemmas.live-places_before a b c1 p
-            ∙ ChainLemmas.live-places_after b a m.places p ∙ live in
+      ∙ ChainLemmas.live-places_after b a m.places p ∙ live in
       let long2 : length c2 ≡ length m.places = ChainLemmas.length-places_before a b c1 ∙ ChainLemmas.length-places_after b a m.places in
       record {
         linked = ChainLemmas.Linked-unlink m.places before x behind c.apart c.linked;
@@ -107,8 +119,15 @@ module _ {X : Type 0} where
           | inr f ↦ get_or-set_other ss p q None None f.1 ∙ c.stamped q ∙ ChainLemmas.stamp-insert q before x behind (λ e. f.1 (sym e))
         ];
         long = omega (arith, length-set ss p (no_stamp), c.long, long2, length-set c2 p None);
-        count = omega (arith, count-empty c2 p (omega (arith, within, long2)) still, ChainLemmas.count-places_before a b c1,
-            ChainLemmas.count-places_after b a m.places, c.count, length-append before (x ∷ behind), length-append before behind);
+        count = omega (
+          arith,
+          count-empty c2 p (omega (arith, within, long2)) still,
+          ChainLemmas.count-places_before a b c1,
+          ChainLemmas.count-places_after b a m.places,
+          c.count,
+          length-append before (x ∷ behind),
+          length-append before behind,
+        );
       }
     where
       no_stamp : Option ℕ
@@ -122,7 +141,7 @@ module _ {X : Type 0} where
         o ≡ get_or ss key.place o → r ≡ is_some (value_at key xs)
     live-here r o lt e at =
         e ∙ option_eq-stamp o key.stamp ∙ ap (λ i. KeyLemmas.is_stamp i key.stamp) (at ∙ get_or-any ss key.place o None lt
-            ∙ c.stamped key.place) ∙ KeyLemmas.stamp-tells key xs c.apart
+        ∙ c.stamped key.place) ∙ KeyLemmas.stamp-tells key xs c.apart
 
     pub live-past : length ss ≤ key.place → false ≡ is_some (value_at key xs)
     live-past le = ap (λ i. KeyLemmas.is_stamp i key.stamp) (sym (get_or_past ss key.place None le) ∙ c.stamped key.place)
@@ -145,7 +164,7 @@ module _ {X : Type 0} where
         let at : s.entry ≡ keyed key s.entry.value = λ i. keyed (s.key_is i) s.entry.value in
         let is : xs ≡ s.before ++ keyed key s.entry.value ∷ s.behind = s.is ∙ ap (λ e. s.before ++ e ∷ s.behind) at in
         let linked : Linked m.places None (s.before ++ keyed key s.entry.value ∷ s.behind) None =
-              subst (λ ys. Linked m.places None ys None) is c.linked in
+        subst (λ ys. Linked m.places None ys None) is c.linked in
         let apart : Apart (s.before ++ keyed key s.entry.value ∷ s.behind) = subst (λ ys. Apart ys) is c.apart in
         let away = ChainLemmas.Apart-before s.before (keyed key s.entry.value) s.behind apart in
         record {
@@ -168,17 +187,17 @@ module _ {X : Type 0} where
     pub without-seen : (s : IsSeen) → without key xs ≡ s.before ++ s.behind
     without-seen s =
         ap (λ ys. without key ys) s.is ∙ KeyLemmas.without-append key s.before (keyed key s.value ∷ s.behind) s.away
-            ∙ ap (λ r. s.before ++ r) (KeyLemmas.without-here (keyed key s.value) s.behind s.away_behind)
+        ∙ ap (λ r. s.before ++ r) (KeyLemmas.without-here (keyed key s.value) s.behind s.away_behind)
 
     pub changed-seen : (s : IsSeen) (w : X) → changed key w xs ≡ s.before ++ keyed key w ∷ s.behind
     changed-seen s w =
         ap (λ ys. changed key w ys) s.is ∙ KeyLemmas.changed-append key w s.before (keyed key s.value ∷ s.behind) s.away
-            ∙ ap (λ r. s.before ++ r) (KeyLemmas.changed-here (keyed key s.value) w s.behind s.away_behind)
+        ∙ ap (λ r. s.before ++ r) (KeyLemmas.changed-here (keyed key s.value) w s.behind s.away_behind)
 
     -- the key after it, by the after-link
     pub next-key : (s : IsSeen) (place : ℕ) → first_or s.behind None ≡ Some place
         → (is_some (get_or ss place None) ≡ true) × (key_after key xs ≡ Some
-            (record { place = place; stamp = stamp_or (get_or ss place None) }))
+        (record { place = place; stamp = stamp_or (get_or ss place None) }))
     next-key s place e =
         let stamped = KeyLemmas.Stamped-of ss xs c.apart (λ p t q. c.stamped p ∙ q) in
         let rest = KeyLemmas.Stamped-cut ss s.before (keyed key s.value ∷ s.behind) (subst (λ ys. KeyLemmas.Stamped ss ys) s.is stamped) in
@@ -199,24 +218,24 @@ module _ {X : Type 0} where
     live-behind s b =
         ChainLemmas.live-first m.places b (first_or s.behind None) (Some key.place) s.behind
         (ChainLemmas.Linked-cut m.places None s.before (keyed key s.value ∷ s.behind) None
-            (subst (λ ys. Linked m.places None ys None) s.is c.linked)).1.1
+        (subst (λ ys. Linked m.places None ys None) s.is c.linked)).1.1
 
     pub node-kept : (s : IsSeen)
         → get_or (places_before (first_or s.behind None) (last_or None s.before)
-            (places_after (last_or None s.before) (first_or s.behind None) m.places)) key.place None ≡ Some
-            (node s.value (last_or None s.before) (first_or s.behind None))
+        (places_after (last_or None s.before) (first_or s.behind None) m.places)) key.place None ≡ Some
+        (node s.value (last_or None s.before) (first_or s.behind None))
     node-kept s =
         let b = last_or None s.before in
         let a = first_or s.behind None in
         ChainLemmas.places_before-other (places_after b a m.places) a b key.place (ChainLemmas.first-apart key.place s.behind s.away_behind)
         ∙ ChainLemmas.places_after-other m.places b a key.place (ChainLemmas.NotAt-last key.place None s.before s.away (λ e. cc))
-            ∙ s.node_is
+        ∙ s.node_is
 
     -- the chain without it
     pub unlinked : (s : IsSeen) (lk : Option ℕ × Option ℕ) (m1 m2 m3 : NodeMap X) (ss' : List (Option ℕ)) (first' last' : Option ℕ)
         → lk ≡ (last_or None s.before, first_or s.behind None) → m1 ≡ relinked_after lk.0 lk.1 m → first' ≡ cond (is_some lk.0) first lk.1
         → m2 ≡ relinked_before lk.1 lk.0 m1 → last' ≡ cond (is_some lk.1) last lk.0 → m3 ≡ with_node key.place None (m2.spare + 1) m2 →
-            ss' ≡ set ss key.place None
+        ss' ≡ set ss key.place None
         → IsChain m3 ss' first' last' (s.before ++ s.behind) × (m3.spare ≡ m.spare + 1)
     unlinked s lk m1 m2 m3 ss' first' last' l e1 ef e2 el e3 es =
         let b = last_or None s.before in
@@ -224,13 +243,13 @@ module _ {X : Type 0} where
         let f1 : m1 ≡ relinked_after b a m = e1 ∙ ap (λ (k : Option ℕ × Option ℕ). relinked_after k.0 k.1 m) l in
         let f2 : m2 ≡ relinked_before a b (relinked_after b a m) = e2 ∙ (λ i. relinked_before (l i).1 (l i).0 (f1 i)) in
         let f3 : m3 ≡ with_node key.place None (m.spare + 1) (relinked_before a b (relinked_after b a m)) = e3
-              ∙ ap (λ (k : NodeMap X). with_node key.place None (k.spare + 1) k) f2 in
+        ∙ ap (λ (k : NodeMap X). with_node key.place None (k.spare + 1) k) f2 in
         let ff : first' ≡ cond (is_some b) first a = ef ∙ ap (λ (k : Option ℕ × Option ℕ). cond (is_some k.0) first k.1) l in
         let fl : last' ≡ cond (is_some a) last b = el ∙ ap (λ (k : Option ℕ × Option ℕ). cond (is_some k.1) last k.0) l in (
           subst (λ (q : NodeMap X × List (Option ℕ) × Option ℕ × Option ℕ). IsChain q.0 q.1 q.2 q.3 (s.before ++ s.behind))
               (λ i. (sym f3 i, sym es i, sym ff i, sym fl i))
               (IsChain-unlink m ss first last s.before s.behind (keyed key s.value) (m.spare + 1)
-                  (subst (λ ys. IsChain m ss first last ys) s.is c)),
+              (subst (λ ys. IsChain m ss first last ys) s.is c)),
           ap (λ (k : NodeMap X). k.spare) f3,
         )
 
@@ -245,11 +264,11 @@ module _ {X : Type 0} where
         let ds = set m.places key.place v in
         let within = live_within m.places key.place (ap is_some s.node_is) in
         let here : get_or ds key.place None ≡ Some (node w (last_or None s.before) (first_or s.behind None)) =
-              get_or-set_same m.places key.place v None within ∙ ap (valued w) s.node_is in
+        get_or-set_same m.places key.place v None within ∙ ap (valued w) s.node_is in
         record {
           linked = ChainLemmas.Linked-join ds None s.before (y ∷ s.behind) None
               (ChainLemmas.Linked-set m.places None s.before (Some key.place) key.place v s.away cut.0)
-                  (here, ChainLemmas.Linked-set m.places (Some key.place) s.behind None key.place v s.away_behind cut.1.1);
+              (here, ChainLemmas.Linked-set m.places (Some key.place) s.behind None key.place v s.away_behind cut.1.1);
           first_is = old.first_is ∙ ChainLemmas.first-swap s.before x y s.behind refl;
           last_is = old.last_is ∙ ChainLemmas.last-swap None s.before x y s.behind refl;
           apart = ChainLemmas.Apart-swap s.before x y s.behind refl old.apart;
@@ -264,9 +283,9 @@ module _ {X : Type 0} where
       (m0 m1 m2 : NodeMap X) (ss' : List (Option ℕ)) (first' : Option ℕ)
       → IsChain m ss first last xs → p < length m.places → get_or m.places p None ≡ None
       → m0 ≡ with_node p (Some (node v None None)) (m.spare - 1) m → m1 ≡ relinked_after last (Some p) m0 →
-          first' ≡ cond (is_some last) first (Some p) → m2 ≡ relinked_before (Some p) last m1
+      first' ≡ cond (is_some last) first (Some p) → m2 ≡ relinked_before (Some p) last m1
       → ss' ≡ set ss p (Some stamp) → IsChain m2 ss' first' (Some p) (xs ++ keyed (record { place = p; stamp = stamp }) v ∷ []) ×
-          (m2.spare ≡ m.spare - 1)
+      (m2.spare ≡ m.spare - 1)
   pushed m ss first last xs p stamp v m0 m1 m2 ss' first' c lt none e0 e1 ef e2 es =
       let f2 : m2 ≡ relinked_before (Some p) last (relinked_after last (Some p) (with_node p (Some (node v None None)) (m.spare - 1) m)) =
       e2 ∙ ap (λ k. relinked_before (Some p) last k) (e1 ∙ ap (λ k. relinked_after last (Some p) k) e0) in (
@@ -282,7 +301,7 @@ module _ {X : Type 0} where
       → IfSome last (λ q. is_some (get_or (set m.places p (Some n)) q None) ≡ true)
   live-made m ss first last xs p n c lt =
       subst (λ l. IfSome l (λ q. is_some (get_or (set m.places p (Some n)) q None) ≡ true)) (sym c.last_is)
-          (ChainLemmas.live-last_set m.places None xs None p n lt tt c.linked)
+      (ChainLemmas.live-last_set m.places None xs None p n lt tt c.linked)
 
   Linked-empties : (cs : List (Option (Node X))) (k : ℕ) (b : Option ℕ) (xs : List (Keyed X)) (a : Option ℕ) → Linked cs b xs a →
       Linked (cs ++ replicate k None) b xs a
@@ -297,8 +316,14 @@ module _ {X : Type 0} where
     last_is = c.last_is;
     apart = c.apart;
     stamped = λ p. get_or-empties ℕ ss k p ∙ c.stamped p;
-    long = omega (arith, c.long, length-append m.places (replicate k None), length-append ss (replicate k None),
-        length-replicate k (nothing_in (Node X)), length-replicate k (nothing_in ℕ));
+    long = omega (
+      arith,
+      c.long,
+      length-append m.places (replicate k None),
+      length-append ss (replicate k None),
+      length-replicate k (nothing_in (Node X)),
+      length-replicate k (nothing_in ℕ),
+    );
     count = count-empties m.places k ∙ c.count;
   }
 
@@ -311,6 +336,6 @@ module _ {X : Type 0} where
       → m' ≡ grown k m → ss' ≡ ss ++ replicate j None → (length m'.places ≡ length m.places + k → j ≡ k) → IsChain m' ss' first last xs
   grown-chain m m' ss ss' first last xs k j c e f more =
       let long : length m'.places ≡ length m.places + k = ap (λ (n : NodeMap X). length n.places) e
-            ∙ length-append m.places (replicate k None) ∙ ap (λ n. length m.places + n) (length-replicate k None) in
+      ∙ length-append m.places (replicate k None) ∙ ap (λ n. length m.places + n) (length-replicate k None) in
       subst (λ (q : NodeMap X × List (Option ℕ)). IsChain q.0 q.1 first last xs)
-          (λ i. (sym e i, sym (f ∙ ap (λ n. ss ++ replicate n None) (more long)) i)) (IsChain-grow m ss first last xs k c)
+      (λ i. (sym e i, sym (f ∙ ap (λ n. ss ++ replicate n None) (more long)) i)) (IsChain-grow m ss first last xs k c)

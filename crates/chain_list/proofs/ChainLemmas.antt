@@ -1,6 +1,6 @@
 -- Lists of linked nodes: what a node in the middle sees, and what joining and cutting the links keeps.
-use Rattle.std.proofs.Common.{◌≡◌, ◌≢◌, ℕ, zero, suc, ◌<◌, Bool, true, false, cond, nat_eq, List, [], ◌∷◌, ◌++◌, length, get_or, set,
-    Option, Some, None, refl, sym, ap, subst, ◌∙◌, inl, inr, arith}
+use Rattle.std.proofs.Common.{◌≡◌, ◌≢◌, ℕ, zero, suc, ◌<◌, Bool, true, false, cond, nat_eq, List, [], ◌∷◌, ◌++◌, length, get_or, set}
+use Rattle.std.proofs.Common.{Option, Some, None, refl, sym, ap, subst, ◌∙◌, inl, inr, arith}
 use Rattle.std.proofs.lemmas.List.{get_or-set_same, get_or-set_other, length-set, set_past, append-nil}
 use Rattle.std.proofs.lemmas.Bool.{cases_lt, ne_eqb, eq-eqb}
 use Rattle.std.proofs.lemmas.List.Sums.{sum_by-set}
@@ -73,7 +73,7 @@ module _ {X : Type 0} where
   Apart-last b [] ys q a h e = h e
   Apart-last b (x ∷ xs) ys q a h e =
       Apart-last (Some x.key.place) xs ys q a.1 (λ i. let at : x.key.place ≡ q = cc in
-          subst (λ p. NotAt p ys) at (NotAt-cut x.key.place xs ys a.0).1) e
+      subst (λ p. NotAt p ys) at (NotAt-cut x.key.place xs ys a.0).1) e
 
   -- an entry lies apart from those before it
   pub Apart-before : (xs : List (Keyed X)) (y : Keyed X) (ys : List (Keyed X)) → Apart (xs ++ y ∷ ys) → NotAt y.key.place xs
@@ -115,9 +115,11 @@ module _ {X : Type 0} where
   Linked-after cs b (x ∷ []) a to ap_ l = (here cs x.key.place _ _ l.0 ∙ ap (with_after to) l.0, tt)
   Linked-after cs b (x ∷ y ∷ ys) a to ap_ l =
       let apart : last_or (Some y.key.place) ys ≢ Some x.key.place = NotAt-last x.key.place (Some y.key.place) ys ap_.0.1
-            (λ e. let at : y.key.place ≡ x.key.place = cc in ap_.0.0 at) in
-      (places_after-other cs (last_or (Some y.key.place) ys) to x.key.place apart ∙ l.0, Linked-after cs (Some x.key.place) (y ∷ ys) a to
-          ap_.1 l.1)
+      (λ e. let at : y.key.place ≡ x.key.place = cc in ap_.0.0 at) in (
+        places_after-other cs (last_or (Some y.key.place) ys) to x.key.place apart ∙ l.0,
+        Linked-after cs (Some x.key.place) (y ∷ ys) a to
+            ap_.1 l.1,
+      )
 
   -- the before-link of the first
   pub Linked-before : (cs : List (Option (Node X))) (b : Option ℕ) (xs : List (Keyed X)) (a to : Option ℕ)
@@ -146,7 +148,7 @@ module _ {X : Type 0} where
   pub Linked-joined : (cs : List (Option (Node X))) (xs : List (Keyed X)) (x : Keyed X) (ys : List (Keyed X))
       → Apart (xs ++ x ∷ ys) → Linked cs None (xs ++ x ∷ ys) None
       → Linked (places_before (first_or ys None) (last_or None xs) (places_after (last_or None xs) (first_or ys None) cs)) None (xs ++ ys)
-          None
+      None
   Linked-joined cs xs x ys a l =
       let before = last_or None xs in
       let next = first_or ys None in
@@ -156,7 +158,7 @@ module _ {X : Type 0} where
       let both = Apart-without xs x ys a in
       let left1 = Linked-after cs None xs (Some x.key.place) next parts.0 cut.0 in
       let right1 = Linked-after_elsewhere cs (Some x.key.place) ys None before next (λ q e. Apart-last None xs ys q both (λ i. cc) e)
-            cut.1.1 in
+      cut.1.1 in
       Linked-join (places_before next before c1) None xs ys None
       (Linked-before_elsewhere c1 None xs next next before (λ q e. NotAt-first ys q xs both e) left1)
       (Linked-before c1 (Some x.key.place) ys None before parts.1.1 right1)
@@ -165,18 +167,20 @@ module _ {X : Type 0} where
   pub Linked-unlink : (cs : List (Option (Node X))) (xs : List (Keyed X)) (x : Keyed X) (ys : List (Keyed X))
       → Apart (xs ++ x ∷ ys) → Linked cs None (xs ++ x ∷ ys) None
       → Linked (set (places_before (first_or ys None) (last_or None xs) (places_after (last_or None xs) (first_or ys None) cs))
-          x.key.place None) None (xs ++ ys) None
+      x.key.place None) None (xs ++ ys) None
   Linked-unlink cs xs x ys a l =
       Linked-set (places_before (first_or ys None) (last_or None xs) (places_after (last_or None xs) (first_or ys None) cs)) None
-          (xs ++ ys) None x.key.place None
+      (xs ++ ys) None x.key.place None
       (NotAt-append x.key.place xs ys (Apart-before xs x ys a) (Apart-cut xs (x ∷ ys) a).1.0) (Linked-joined cs xs x ys a l)
 
   -- ---- an entry is put after the last
   pub NotAt-free : (cs : List (Option (Node X))) (b : Option ℕ) (xs : List (Keyed X)) (a : Option ℕ) (p : ℕ) → Linked cs b xs a →
       get_or cs p None ≡ None → NotAt p xs
   NotAt-free cs b [] a p l e = tt
-  NotAt-free cs b (x ∷ xs) a p l e = (λ at. let full = l.0 in let none = subst (λ q. get_or cs q None ≡ None) (sym at) e in cc,
-      NotAt-free cs (Some x.key.place) xs a p l.1 e)
+  NotAt-free cs b (x ∷ xs) a p l e = (
+    λ at. let full = l.0 in let none = subst (λ q. get_or cs q None ≡ None) (sym at) e in cc,
+    NotAt-free cs (Some x.key.place) xs a p l.1 e,
+  )
 
   pub Apart-push : (xs : List (Keyed X)) (x : Keyed X) → Apart xs → NotAt x.key.place xs → Apart (xs ++ x ∷ [])
   Apart-push [] x a n = (tt, tt)
@@ -186,7 +190,7 @@ module _ {X : Type 0} where
   pub Linked-push : (cs : List (Option (Node X))) (xs : List (Keyed X)) (x : Keyed X) → Apart xs → Linked cs None xs None
       → x.key.place < length cs → NotAt x.key.place xs
       → Linked (places_before (Some x.key.place) (last_or None xs)
-          (places_after (last_or None xs) (Some x.key.place) (set cs x.key.place (Some (node x.value None None))))) None (xs ++ x ∷ []) None
+      (places_after (last_or None xs) (Some x.key.place) (set cs x.key.place (Some (node x.value None None))))) None (xs ++ x ∷ []) None
   Linked-push cs xs x a l lt away =
       let p = x.key.place in
       let last = last_or None xs in
@@ -321,7 +325,7 @@ module _ {X : Type 0} where
 
   pub live-last_set : (cs : List (Option (Node X))) (b : Option ℕ) (xs : List (Keyed X)) (a : Option ℕ) (p : ℕ) (n : Node X) → p < length cs
       → IfSome b (λ q. is_some (get_or cs q None) ≡ true) → Linked cs b xs a →
-          IfSome (last_or b xs) (λ q. is_some (get_or (set cs p (Some n)) q None) ≡ true)
+      IfSome (last_or b xs) (λ q. is_some (get_or (set cs p (Some n)) q None) ≡ true)
   live-last_set cs b xs a p n lt h l = live-set_option cs p n (last_or b xs) (live-last cs b xs a h l)
 
   pub live-first : (cs : List (Option (Node X))) (o to b : Option ℕ) (xs : List (Keyed X)) → Linked cs b xs None

@@ -1,6 +1,6 @@
 -- What a key finds in a list whose entries lie apart, and that the list is what the links give.
-use Rattle.std.proofs.Common.{◌≡◌, ℕ, zero, suc, ◌≤◌, Bool, true, false, cond, nat_eq, List, [], ◌∷◌, ◌++◌, length, get_or, Option, Some,
-    None, refl, sym, ap, subst, ◌∙◌, inl, inr, arith}
+use Rattle.std.proofs.Common.{◌≡◌, ℕ, zero, suc, ◌≤◌, Bool, true, false, cond, nat_eq, List, [], ◌∷◌, ◌++◌, length, get_or, Option, Some}
+use Rattle.std.proofs.Common.{None, refl, sym, ap, subst, ◌∙◌, inl, inr, arith}
 use Rattle.std.proofs.lemmas.Bool.{ne_eqb, eq-eqb}
 use Rattle.std.proofs.lemmas.Bool.Decides.{eqb_tells}
 use Rattle.std.specs.Option.{is_some}
@@ -16,7 +16,7 @@ same_key-apart a b n = let apart : nat_eq a.place b.place ≡ false = ne_eqb a.p
 
 pub same_key-refl : (a : ChainKey) → same_key a a ≡ true
 same_key-refl a = let p : nat_eq a.place a.place ≡ true = eq-eqb a.place a.place refl in let s : nat_eq a.stamp a.stamp ≡ true =
-                                                                                               eq-eqb a.stamp a.stamp refl in rw (p, s)
+    eq-eqb a.stamp a.stamp refl in rw (p, s)
 
 pub same_key-stamps : (a b : ChainKey) → (a.stamp ≡ b.stamp → ⊥) → same_key a b ≡ false
 same_key-stamps a b n =
@@ -148,7 +148,7 @@ module _ {X : Type 0} where
   -- ---- a live key stands in the list
   split-test : (key : ChainKey) (x : Keyed X) (xs : List (Keyed X)) (t : Bool) → same_key x.key key ≡ t
       → is_some (cond t (Some x.value) (value_at key xs)) ≡ true → (is_some (value_at key xs) ≡ true → IsSplit key xs) →
-          IsSplit key (x ∷ xs)
+      IsSplit key (x ∷ xs)
   split-test key x xs true e live more = record { before = []; entry = x; behind = xs; is = refl; key_is = same_key-is x.key key e }
   split-test key x xs false e live more = split-more key x xs (more live)
 

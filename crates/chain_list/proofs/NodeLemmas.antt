@@ -1,6 +1,6 @@
 -- What making, freeing and growing keep of nodes.
-use Rattle.std.proofs.Common.{◌≡◌, ◌≢◌, ℕ, zero, suc, ◌+◌, ◌-◌, ◌^◌, ◌<◌, ◌≤◌, Bool, true, cond, List, [], ◌∷◌, ◌++◌, length, get_or, set,
-    replicate, Option, Some, None, refl, sym, ap, subst, ◌∙◌, inl, inr, arith}
+use Rattle.std.proofs.Common.{◌≡◌, ◌≢◌, ℕ, zero, suc, ◌+◌, ◌-◌, ◌^◌, ◌<◌, ◌≤◌, Bool, true, cond, List, [], ◌∷◌, ◌++◌, length, get_or, set}
+use Rattle.std.proofs.Common.{replicate, Option, Some, None, refl, sym, ap, subst, ◌∙◌, inl, inr, arith}
 use Rattle.std.specs.Option.{is_some}
 use Rattle.std.specs.List.{count_by}
 use Rattle.std.specs.Vec.{vec_capacity}
@@ -49,9 +49,9 @@ module _ {X : Type 0} where
     IsNodes-make n is e room =
         let long : length free.items ≡ length free'.items + 1 = ap length e ∙ length-append free'.items (p ∷ []) in
         let here : get_or free.items (length free'.items) 0 ≡ p = ap (λ l. get_or l (length free'.items) 0) e
-              ∙ get_or-append_seam free'.items p [] 0 in
+        ∙ get_or-append_seam free'.items p [] 0 in
         let same : (i : ℕ) → i < length free'.items → get_or free.items i 0 ≡ get_or free'.items i 0 = λ i lt. ap (λ l. get_or l i 0) e
-              ∙ get_or-append free'.items (p ∷ []) 0 i lt in
+        ∙ get_or-append free'.items (p ∷ []) 0 i lt in
         let last = is.empty (length free'.items) (omega arith) in
         let within : p < length cs = subst (λ q. q < length cs) here last.0 in
         let none : get_or cs p None ≡ None = subst (λ q. get_or cs q None ≡ None) here last.1 in (
@@ -61,7 +61,7 @@ module _ {X : Type 0} where
             empty = λ i lt.
                 let first = is.empty i (omega arith) in
                 let apart : get_or free'.items i 0 ≢ p = λ q. is.apart i (length free'.items) lt (omega arith) (same i lt ∙ q ∙ sym here)
-                      in (
+                in (
                   subst (λ q. q < length (set cs p (Some n))) (same i lt) (omega (arith, first.0, length-set cs p (Some n))),
                   get_or-set_other cs p (get_or free'.items i 0) (Some n) None apart ∙ subst (λ q. get_or cs q None ≡ None) (same i lt)
                       first.1,
@@ -84,22 +84,26 @@ module _ {X : Type 0} where
       → length cs + k ≤ vec_capacity free' → IsNodes (cs ++ replicate k None) free'
   IsNodes-grow cs free free' k is small len kept added room =
       let long : length (cs ++ replicate k None) ≡ length cs + k = length-append cs (replicate k None)
-            ∙ ap (λ n. length cs + n) (length-replicate k None) in
+      ∙ ap (λ n. length cs + n) (length-replicate k None) in
       let new : (i : ℕ) → length free.items ≤ i → i < length free'.items →
-            get_or free'.items i 0 ≡ length cs + k - 1 - (i - length free.items) =
+      get_or free'.items i 0 ≡ length cs + k - 1 - (i - length free.items) =
       λ i le lt. let at : length free.items + (i - length free.items) ≡ i = omega arith in
       subst (λ j. get_or free'.items j 0 ≡ length cs + k - 1 - (i - length free.items)) at (added (i - length free.items) (omega arith)) in
       record {
         empty = λ i lt. elim (cases_lt i (length free.items)) [
           | inl a ↦ let old = is.empty i a in let e = kept i a in
-              let within : get_or free'.items i 0 < length cs = subst (λ q. q < length cs) (sym e) old.0 in
-              (omega (arith, within, long), get_or-append cs (replicate k None) None (get_or free'.items i 0) within
-                  ∙ ap (λ q. get_or cs q None) e ∙ old.1)
+              let within : get_or free'.items i 0 < length cs = subst (λ q. q < length cs) (sym e) old.0 in (
+                omega (arith, within, long),
+                get_or-append cs (replicate k None) None (get_or free'.items i 0) within
+                    ∙ ap (λ q. get_or cs q None) e ∙ old.1,
+              )
           | inr b ↦ let e = new i b lt in
               let above : length cs ≤ get_or free'.items i 0 = omega (arith, e) in
-              let below : get_or free'.items i 0 - length cs < k = omega (arith, e) in
-              (omega (arith, e, long), get_or-append_right cs (replicate k None) (length cs) (get_or free'.items i 0) None refl above
-                  ∙ get_or-replicate k (get_or free'.items i 0 - length cs) None None below)
+              let below : get_or free'.items i 0 - length cs < k = omega (arith, e) in (
+                omega (arith, e, long),
+                get_or-append_right cs (replicate k None) (length cs) (get_or free'.items i 0) None refl above
+                    ∙ get_or-replicate k (get_or free'.items i 0 - length cs) None None below,
+              )
         ];
         apart = λ i j lt within q. elim (cases_lt j (length free.items)) [
           | inl a ↦ is.apart i j lt a (sym (kept i (omega arith)) ∙ q ∙ kept j a)

@@ -1,10 +1,10 @@
 -- Lists that are filled up with one entry.
-use Rattle.std.proofs.Common.{◌≡◌, ℕ, zero, suc, ◌+◌, ◌-◌, ◌<◌, ◌≤◌, true, List, [], ◌∷◌, ◌++◌, length, get_or, set, replicate, Option,
-    None, refl, sym, ap, ◌∙◌, inl, inr, arith}
+use Rattle.std.proofs.Common.{◌≡◌, ℕ, zero, suc, ◌+◌, ◌-◌, ◌<◌, ◌≤◌, true, List, [], ◌∷◌, ◌++◌, length, get_or, set, replicate, Option}
+use Rattle.std.proofs.Common.{None, refl, sym, ap, ◌∙◌, inl, inr, arith}
 use Rattle.std.specs.Option.{is_some}
 use Rattle.std.proofs.lemmas.Bool.{cases_lt}
-use Rattle.std.proofs.lemmas.List.{length-append, length-set, length-replicate, get_or_append_left, get_or-append_right, get_or-replicate,
-    get_or_past, set-append_left, set-append_right, append_assoc, replicate-append-replicate}
+use Rattle.std.proofs.lemmas.List.{length-append, length-set, length-replicate, get_or_append_left, get_or-append_right, get_or-replicate}
+use Rattle.std.proofs.lemmas.List.{get_or_past, set-append_left, set-append_right, append_assoc, replicate-append-replicate}
 use Rattle.chain_list.specs.Places.{filled_up}
 
 module _ {X : Type 0} where
@@ -36,7 +36,7 @@ module _ {X : Type 0} where
         let j = i - length xs in
         let n = len - length xs in
         let long : length (filled_up xs i b ++ y ∷ []) ≡ i + 1 =
-              omega (arith, length-append (filled_up xs i b) (y ∷ []), length-append xs (replicate j b), length-replicate j b) in
+        omega (arith, length-append (filled_up xs i b) (y ∷ []), length-append xs (replicate j b), length-replicate j b) in
         let rest : len - length (filled_up xs i b ++ y ∷ []) ≡ n - j - 1 = omega (arith, long) in
         ap (λ k. (filled_up xs i b ++ y ∷ []) ++ replicate k b) rest
         ∙ append_assoc (filled_up xs i b) (y ∷ []) (replicate (n - j - 1) b)
@@ -49,7 +49,7 @@ module _ {X : Type 0} where
     filled-more k le =
         let e : len + k - length xs ≡ len - length xs + k = omega arith in
         ap (λ n. xs ++ replicate n b) e ∙ ap (λ r. xs ++ r) (sym (replicate-append-replicate (len - length xs) k b))
-            ∙ sym (append_assoc xs (replicate (len - length xs) b) (replicate k b))
+        ∙ sym (append_assoc xs (replicate (len - length xs) b) (replicate k b))
 
   -- filled up with one entry, and from there on with another
   pub filled-on : (xs : List X) (len : ℕ) (b c : X) (k : ℕ) → length xs ≤ len → filled_up (filled_up xs len b) (len + k) c ≡ filled_up xs
@@ -70,8 +70,11 @@ get_or-empties Y l k i = elim (cases_lt i (length l)) [
 ]
   where
     no_more : (Y : Type 0) (k i : ℕ) → get_or (replicate k (nothing_in Y)) i None ≡ None
-    no_more Y k i = elim (cases_lt i k) [ inl lt ↦ get_or-replicate k i None None lt | inr le ↦ get_or_past (replicate k None) i None
-        (omega (arith, length-replicate k (nothing_in Y))) ]
+    no_more Y k i = elim (cases_lt i k) [
+      | inl lt ↦ get_or-replicate k i None None lt
+      | inr le ↦ get_or_past (replicate k None) i None
+          (omega (arith, length-replicate k (nothing_in Y)))
+    ]
 
 -- a place that holds something is among the filled ones
 held-within : (Y : Type 0) (l : List (Option Y)) (i : ℕ) → is_some (get_or l i None) ≡ true → i < length l

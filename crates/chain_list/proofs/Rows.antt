@@ -1,6 +1,6 @@
 -- What one write to values or links that lie apart makes of the nodes.
-use Rattle.std.proofs.Common.{◌≡◌, ℕ, zero, suc, ◌+◌, ◌-◌, ◌<◌, true, List, [], ◌∷◌, ◌++◌, length, get_or, set, replicate, Option, Some,
-    None, refl, ap, arith}
+use Rattle.std.proofs.Common.{◌≡◌, ℕ, zero, suc, ◌+◌, ◌-◌, ◌<◌, true, List, [], ◌∷◌, ◌++◌, length, get_or, set, replicate, Option, Some}
+use Rattle.std.proofs.Common.{None, refl, ap, arith}
 use Rattle.std.specs.Option.{is_some}
 use Rattle.chain_list.specs.NodeMap.{node}
 use Rattle.chain_list.specs.declared.row.Links.{Links}
@@ -65,12 +65,26 @@ module _ {X : Type 0} where
   held_at [] ls i e h = cc
   held_at (x ∷ xs) [] i e h = absurd (omega (arith, e))
   held_at (None ∷ xs) (l ∷ ls) zero e h = cc
-  held_at (Some v ∷ xs) (l ∷ ls) zero e h = record { value = v; links = l; value_is = refl; links_is = λ d. refl; node_is = refl; within =
-      omega arith }
+  held_at (Some v ∷ xs) (l ∷ ls) zero e h = record {
+    value = v;
+    links = l;
+    value_is = refl;
+    links_is = λ d. refl;
+    node_is = refl;
+    within =
+        omega arith;
+  }
   held_at (x ∷ xs) (l ∷ ls) (suc i) e h =
       let r = held_at xs ls i (omega (arith, e)) h in
-      record { value = r.value; links = r.links; value_is = r.value_is; links_is = r.links_is; node_is = r.node_is; within =
-          omega (arith, r.within) }
+      record {
+        value = r.value;
+        links = r.links;
+        value_is = r.value_is;
+        links_is = r.links_is;
+        node_is = r.node_is;
+        within =
+            omega (arith, r.within);
+      }
 
   -- a place without a node holds no value
   pub empty_at : (xs : List (Option X)) (ls : List Links) (i : ℕ) → length ls ≡ length xs → get_or (joined xs ls) i None ≡ None →

@@ -1,5 +1,6 @@
 //! A doubly linked list under keys.
-ghost use Rattle.std.specs.Prelude.{◌≡◌, ◌+◌, ◌-◌, ◌*◌, ◌<◌, ◌≤◌, ◌^◌, [], ◌∷◌, ◌++◌, Some, None, is_some, IsSome, length, get_or, IfOk, IfSome, IfNone, OnOk, OnErr, option_copied, if◌then◌else◌};
+ghost use Rattle.std.specs.Prelude.{◌≡◌, ◌+◌, ◌-◌, ◌*◌, ◌<◌, ◌≤◌, ◌^◌, [], ◌∷◌, ◌++◌, Some, None, is_some, IsSome, length, get_or, IfOk};
+ghost use Rattle.std.specs.Prelude.{IfSome, IfNone, OnOk, OnErr, option_copied, if◌then◌else◌};
 ghost use Rattle.std.specs.Option.{option_copied_mut};
 ghost use Rattle.std.specs.Borrow.{sem};
 ghost use Rattle.chain_list.specs.NodeMap.{IsLive};

@@ -1,7 +1,6 @@
 //! A doubly linked list whose nodes lie in one block, and the counter of the nodes that its calls visit.
 #![tactic(auto)]
 
-pub mod threads;
 mod block;
 mod chain;
 mod filling;
@@ -9,6 +8,7 @@ mod nodes;
 mod places;
 mod row;
 mod steps;
+pub mod threads;
 
 // A crate can name a chain in a contract only if the types of its fields are exported.
 #[doc(hidden)]

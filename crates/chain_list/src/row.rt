@@ -1,5 +1,6 @@
 //! A row of places: what each place holds, and apart from that the links of what it holds.
-ghost use Rattle.std.specs.Prelude.{◌≡◌, ◌+◌, ◌<◌, ◌^◌, Some, None, [], ◌++◌, length, replicate, get_or, slice_set, IsSome, IfOk, IfSome, OnOk, OnErr};
+ghost use Rattle.std.specs.Prelude.{◌≡◌, ◌+◌, ◌<◌, ◌^◌, Some, None, [], ◌++◌, length, replicate, get_or, slice_set, IsSome, IfOk, IfSome};
+ghost use Rattle.std.specs.Prelude.{OnOk, OnErr};
 ghost use Rattle.std.specs.Borrow.{sem};
 ghost use Rattle.chain_list.specs.Joined.{no_links};
 

@@ -1,6 +1,6 @@
 -- A text that is read is what is written of its description, and what it says is well formed.
-use Rattle.std.proofs.Common.{◌≡◌, ℕ, zero, suc, ◌+◌, ◌<◌, ◌≤◌, List, [], ◌∷◌, ◌++◌, length, map, take, get_or, Option, Ok, Bool, true,
-    false, ◌||◌, refl, sym, ap, ◌∙◌, arith, codes, subst, append_assoc, inl, inr, ◌⊎◌}
+use Rattle.std.proofs.Common.{◌≡◌, ℕ, zero, suc, ◌+◌, ◌<◌, ◌≤◌, List, [], ◌∷◌, ◌++◌, length, map, take, get_or, Option, Ok, Bool, true}
+use Rattle.std.proofs.Common.{false, ◌||◌, refl, sym, ap, ◌∙◌, arith, codes, subst, append_assoc, inl, inr, ◌⊎◌}
 use Rattle.std.specs.Prelude.{nat_lt, nat_le, is_some}
 use Rattle.std.proofs.lemmas.List.{append-nil}
 use Rattle.std.proofs.lemmas.Grind.{flat_map-append}
@@ -16,16 +16,16 @@ use Rattle.coll_shape.specs.WellFormed.{StandsIn, elements_of, printed_elements}
 use Rattle.coll_shape.specs.declared.limits.TheConstants.{MOST_RANKS, MOST_BUFFERS, MOST_STEPS, MOST_PRINTS, MOST_ELEMENTS}
 use Rattle.coll_lang.specs.Words.{version_word}
 use Rattle.coll_lang.specs.Forms.{Form, StepWords, complete, group, input, step, choice, print, last}
-use Rattle.coll_lang.specs.Language.{Past, stands_in, stands_at, form_since, form_line, nothing, choice_buffer, choice_step, choice_line,
-    print_line, data_due, is_taken, buffer_named, buffer_number, group_number}
-use Rattle.coll_lang.specs.Spelling.{head_text, remote_text, groups_text, inputs_text, steps_text, choices_text, choice_words, choice_name,
-    prints_text, name_at}
+use Rattle.coll_lang.specs.Language.{Past, stands_in, stands_at, form_since, form_line, nothing, choice_buffer, choice_step, choice_line}
+use Rattle.coll_lang.specs.Language.{print_line, data_due, is_taken, buffer_named, buffer_number, group_number}
+use Rattle.coll_lang.specs.Spelling.{head_text, remote_text, groups_text, inputs_text, steps_text, choices_text, choice_words, choice_name}
+use Rattle.coll_lang.specs.Spelling.{prints_text, name_at}
 use Rattle.coll_lang.specs.declared.choices.ChoiceKind.{ChoiceKind}
 use Rattle.coll_lang.specs.declared.choices.ChoiceKind.TheVariants as kinds
 use Rattle.coll_lang.specs.declared.choices.ChoiceStep.{ChoiceStep}
 use Rattle.coll_lang.specs.declared.stage.Stage.{Stage}
-use Rattle.coll_lang.specs.declared.stage.Stage.TheVariants.{Header, Ranks, Options, Groups, Inputs, Data, Steps, Choosing, Prints,
-    Finished}
+use Rattle.coll_lang.specs.declared.stage.Stage.TheVariants.{Header, Ranks, Options, Groups, Inputs, Data, Steps, Choosing, Prints}
+use Rattle.coll_lang.specs.declared.stage.Stage.TheVariants.{Finished}
 use Rattle.coll_lang.specs.declared.fault.Refusal.TheVariants.{NameTaken, UnknownBuffer, TooMany, TooLarge}
 use Rattle.coll_lang.proofs.FormSaid.{Fits, Takes, form_words}
 use Rattle.coll_lang.proofs.InputLists.{Filled}

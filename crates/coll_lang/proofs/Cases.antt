@@ -8,11 +8,12 @@ use Rattle.coll_shape.specs.declared.types.Version.TheVariants.{Two}
 use Rattle.coll_shape.specs.declared.types.CollStep.TheVariants.{Allreduce, Broadcast}
 use Rattle.coll_lang.specs.Program.{Program}
 use Rattle.coll_lang.specs.Forms.{root_in, op_in, names_in, step_in, on_in, group_in, input_in, name_in, complete_in, form_of}
-use Rattle.coll_lang.specs.Language.{read, read_from, judge, line_at, later_line, values_line, form_line, print_line, choice_line,
-    step_line, rooted_line, step_on, source_named, input_line, group_line, buffer_named, ranks_in, described}
+use Rattle.coll_lang.specs.Language.{read, read_from, judge, line_at, later_line, values_line, form_line, print_line, choice_line}
+use Rattle.coll_lang.specs.Language.{step_line, rooted_line, step_on, source_named, input_line, group_line, buffer_named, ranks_in}
+use Rattle.coll_lang.specs.Language.{described}
 use Rattle.coll_lang.specs.declared.fault.Refusal.{Refusal}
-use Rattle.coll_lang.specs.declared.fault.Refusal.TheVariants.{BadLine, BadRoot, BadGroup, WrongShape, NameTaken, BadNumber, BadRanks,
-    UnknownBuffer}
+use Rattle.coll_lang.specs.declared.fault.Refusal.TheVariants.{BadLine, BadRoot, BadGroup, WrongShape, NameTaken, BadNumber, BadRanks}
+use Rattle.coll_lang.specs.declared.fault.Refusal.TheVariants.{UnknownBuffer}
 
 text_of : List (List ℕ) → List ℕ
 text_of ls = flat_map (λ l. l ++ 10 ∷ []) ls

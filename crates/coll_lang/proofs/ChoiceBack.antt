@@ -1,6 +1,6 @@
 -- The text of a choice text is read as it.
-use Rattle.std.proofs.Common.{◌≡◌, ℕ, suc, ◌+◌, ◌*◌, ◌<◌, ◌≤◌, List, [], ◌∷◌, ◌++◌, length, map, take, drop, get_or, Option, Some, Ok, Bool,
-    true, false, refl, sym, ap, ◌∙◌, arith, subst, append_assoc}
+use Rattle.std.proofs.Common.{◌≡◌, ℕ, suc, ◌+◌, ◌*◌, ◌<◌, ◌≤◌, List, [], ◌∷◌, ◌++◌, length, map, take, drop, get_or, Option, Some, Ok, Bool}
+use Rattle.std.proofs.Common.{true, false, refl, sym, ap, ◌∙◌, arith, subst, append_assoc}
 use Rattle.std.specs.Prelude.{All}
 use Rattle.std.specs.List.{AllByRecursion}
 use Rattle.std.proofs.lemmas.List.{append-nil, get_or-map, get_or_default, length-take-le, nil_from_length, take-append-drop, take_all}
@@ -135,7 +135,7 @@ few_elements : (n : ℕ) (c : Chosen) → n ≤ MOST_RANKS → AreChoices c → 
 few_elements n c at_most a =
     let each : All (λ i. elements_of (get_or (made n c) i no_buffer) ≤ MOST_RANKS) c.prints =
     λ i d l. one_each n c (get_or c.prints i d) at_most (subst (λ k. k < length c.steps) (get_or_default c.prints i 0 d l)
-        (a.printed i l)) in
+    (a.printed i l)) in
     let all = sum_by-le (λ i. elements_of (get_or (made n c) i no_buffer)) MOST_RANKS c.prints each in
     let most = a.few_prints in
     omega (arith, all, most)

@@ -1,6 +1,6 @@
 -- What a text that is read comes to: its description is readable, and the text is its one spelling.
-use Rattle.std.proofs.Common.{◌≡◌, ℕ, zero, suc, ◌*◌, ◌<◌, ◌≤◌, List, [], ◌∷◌, ◌++◌, length, map, take, drop, get_or, Result, Ok, Err, Bool,
-    true, false, cond, refl, sym, ap, ◌∙◌, arith, codes, subst, append_assoc, inl, inr}
+use Rattle.std.proofs.Common.{◌≡◌, ℕ, zero, suc, ◌*◌, ◌<◌, ◌≤◌, List, [], ◌∷◌, ◌++◌, length, map, take, drop, get_or, Result, Ok, Err, Bool}
+use Rattle.std.proofs.Common.{true, false, cond, refl, sym, ap, ◌∙◌, arith, codes, subst, append_assoc, inl, inr}
 use Rattle.std.specs.Prelude.{nat_lt, IfOk}
 use Rattle.std.proofs.lemmas.List.Splits.{join_with_byte-slice_split}
 use Rattle.std.proofs.lemmas.List.{get_or-take, length-take-le}
@@ -15,8 +15,8 @@ use Rattle.coll_shape.proofs.Rows.{rows-many, rows-joined, row-long}
 use Rattle.coll_shape.specs.declared.limits.TheConstants.{MOST_RANKS}
 use Rattle.coll_lang.specs.Program.{Chosen, Program}
 use Rattle.coll_lang.specs.Language.{Past, nothing, plain, chosen, described_by, described, program_in, read_from, read}
-use Rattle.coll_lang.specs.Spelling.{head_text, remote_text, groups_text, inputs_text, steps_text, choices_text, prints_text, name_at,
-    choice_name, no_choice, text}
+use Rattle.coll_lang.specs.Spelling.{head_text, remote_text, groups_text, inputs_text, steps_text, choices_text, prints_text, name_at}
+use Rattle.coll_lang.specs.Spelling.{choice_name, no_choice, text}
 use Rattle.coll_lang.specs.Readable.{AreChoices, IsReadable}
 use Rattle.coll_lang.specs.declared.choices.ChoiceStep.{ChoiceStep}
 use Rattle.coll_lang.specs.declared.stage.Stage.{Stage}

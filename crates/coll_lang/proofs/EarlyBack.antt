@@ -1,6 +1,6 @@
 -- The lines before the steps are read as what they were written of.
-use Rattle.std.proofs.Common.{◌≡◌, ℕ, suc, ◌<◌, ◌≤◌, ◌^◌, List, [], ◌∷◌, ◌++◌, length, map, take, get_or, Some, Ok, Bool, true, false, ◌||◌,
-    refl, sym, ap, ◌∙◌, arith, codes, subst}
+use Rattle.std.proofs.Common.{◌≡◌, ℕ, suc, ◌<◌, ◌≤◌, ◌^◌, List, [], ◌∷◌, ◌++◌, length, map, take, get_or, Some, Ok, Bool, true, false, ◌||◌}
+use Rattle.std.proofs.Common.{refl, sym, ap, ◌∙◌, arith, codes, subst}
 use Rattle.std.specs.Prelude.{nat_lt, is_some}
 use Rattle.std.specs.List.{list_all, join_with_byte, AllByRecursion}
 use Rattle.std.specs.Fmt.{decimal}
@@ -17,8 +17,8 @@ use Rattle.coll_shape.specs.WellFormed.{most_ranks, StandsIn, AreMembers}
 use Rattle.coll_shape.specs.declared.limits.TheConstants.{MOST_RANKS, MOST_GROUPS}
 use Rattle.coll_lang.specs.Words.{version_word}
 use Rattle.coll_lang.specs.Forms.{complete, group, form_of}
-use Rattle.coll_lang.specs.Language.{Past, nothing, ranks_in, all_numbers, are_members, is_rising, is_taken, buffer_number, group_line,
-    form_line, line_at, judge, is_allowed, stands_in}
+use Rattle.coll_lang.specs.Language.{Past, nothing, ranks_in, all_numbers, are_members, is_rising, is_taken, buffer_number, group_line}
+use Rattle.coll_lang.specs.Language.{form_line, line_at, judge, is_allowed, stands_in}
 use Rattle.coll_lang.specs.Spelling.{head_text, remote_text, group_text, groups_text}
 use Rattle.coll_lang.specs.declared.stage.Stage.{Stage}
 use Rattle.coll_lang.specs.declared.stage.Stage.TheVariants.{Ranks, Options, Groups}

@@ -1,6 +1,6 @@
 -- What is kept line by line of an outline, from which it is well formed. What follows from other facts isn't kept twice.
-use Rattle.std.proofs.Common.{◌≡◌, ℕ, zero, suc, ◌+◌, ◌-◌, ◌<◌, ◌≤◌, List, [], ◌∷◌, ◌++◌, length, get_or, Option, Some, None, true, refl,
-    sym, ap, arith, subst, inl, inr, ◌⊎◌}
+use Rattle.std.proofs.Common.{◌≡◌, ℕ, zero, suc, ◌+◌, ◌-◌, ◌<◌, ◌≤◌, List, [], ◌∷◌, ◌++◌, length, get_or, Option, Some, None, true, refl}
+use Rattle.std.proofs.Common.{sym, ap, arith, subst, inl, inr, ◌⊎◌}
 use Rattle.coll_text.specs.Text.{is_name}
 use Rattle.number_lists.specs.Members.{In, Distinct}
 use Rattle.number_lists.specs.Numbers.{from_to}
@@ -8,10 +8,10 @@ use Rattle.coll_shape.specs.declared.types.Version.{Version}
 use Rattle.coll_shape.specs.declared.types.Version.TheVariants.{One, Two}
 use Rattle.coll_shape.specs.Outline.{Outline, buffer_at, step_at, group_at, no_group}
 use Rattle.coll_shape.specs.Collectives.{source_of, result_of, since}
-use Rattle.coll_shape.specs.WellFormed.{most_ranks, StandsIn, AreMembers, IsNumber, IsGroup, and_one, made_upto, StepFits, printed_elements,
-    names, IsWellFormed}
-use Rattle.coll_shape.specs.declared.limits.TheConstants.{MOST_RANKS, MOST_GROUPS, MOST_BUFFERS, MOST_STEPS, MOST_PRINTS, MOST_GIVEN,
-    MOST_ELEMENTS}
+use Rattle.coll_shape.specs.WellFormed.{most_ranks, StandsIn, AreMembers, IsNumber, IsGroup, and_one, made_upto, StepFits, printed_elements}
+use Rattle.coll_shape.specs.WellFormed.{names, IsWellFormed}
+use Rattle.coll_shape.specs.declared.limits.TheConstants.{MOST_RANKS, MOST_GROUPS, MOST_BUFFERS, MOST_STEPS, MOST_PRINTS, MOST_GIVEN}
+use Rattle.coll_shape.specs.declared.limits.TheConstants.{MOST_ELEMENTS}
 
 pub record Facts (o : Outline) : Type 0 where
   pub some_rank : 1 ≤ o.ranks

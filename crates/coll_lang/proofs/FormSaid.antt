@@ -1,6 +1,6 @@
 -- What a line says that may stand after the first two: its words are spelled so, and its names are names.
-use Rattle.std.proofs.Common.{◌≡◌, ℕ, List, [], ◌∷◌, ◌++◌, Option, Some, None, Bool, true, false, cond, ◌&&◌, not, refl, sym, ap, ◌∙◌,
-    codes, subst}
+use Rattle.std.proofs.Common.{◌≡◌, ℕ, List, [], ◌∷◌, ◌++◌, Option, Some, None, Bool, true, false, cond, ◌&&◌, not, refl, sym, ap, ◌∙◌}
+use Rattle.std.proofs.Common.{codes, subst}
 use Rattle.std.specs.Prelude.{is_some, option_map}
 use Rattle.std.specs.List.{list_any}
 use Rattle.std.specs.Str.{bytes_eq}
@@ -13,8 +13,8 @@ use Rattle.coll_text.proofs.Spelled.{both, chosen, mapped, then, same}
 use Rattle.coll_shape.specs.declared.kinds.StepKind.{StepKind}
 use Rattle.coll_shape.specs.Kinds.{all_kinds, kind_named, kind_word, named_among, takes_buffers, takes_op, takes_root}
 use Rattle.coll_lang.specs.Words.{type_word, op_word, choice_word}
-use Rattle.coll_lang.specs.Forms.{Form, StepWords, complete, group, input, step, choice, print, last, type_of, op_of, op_in, root_in,
-    names_in, step_in, on_in, group_in, input_in, name_in, complete_in, alone, form_of}
+use Rattle.coll_lang.specs.Forms.{Form, StepWords, complete, group, input, step, choice, print, last, type_of, op_of, op_in, root_in}
+use Rattle.coll_lang.specs.Forms.{names_in, step_in, on_in, group_in, input_in, name_in, complete_in, alone, form_of}
 use Rattle.coll_lang.specs.declared.choices.ChoiceKind.TheVariants.{Elect, Tickets}
 
 -- the words of a form

@@ -1,6 +1,6 @@
 -- The words of a line are read as its form.
-use Rattle.std.proofs.Common.{◌≡◌, ℕ, ◌<◌, ◌≤◌, ◌^◌, List, [], ◌∷◌, ◌++◌, length, Option, Some, None, Bool, true, false, cond, ◌&&◌, refl,
-    sym, ap, ◌∙◌, arith, codes}
+use Rattle.std.proofs.Common.{◌≡◌, ℕ, ◌<◌, ◌≤◌, ◌^◌, List, [], ◌∷◌, ◌++◌, length, Option, Some, None, Bool, true, false, cond, ◌&&◌, refl}
+use Rattle.std.proofs.Common.{sym, ap, ◌∙◌, arith, codes}
 use Rattle.std.specs.Prelude.{nat_le, ◌==◌, option_and_then}
 use Rattle.std.specs.List.{list_all}
 use Rattle.std.specs.Fmt.{decimal}
@@ -18,12 +18,12 @@ use Rattle.coll_lang.specs.Words.{type_word, op_word}
 use Rattle.std.specs.Prelude.{is_some, option_map}
 use Rattle.std.specs.List.{list_any, AllByRecursion}
 use Rattle.coll_shape.specs.declared.kinds.StepKind.{StepKind}
-use Rattle.coll_shape.specs.declared.kinds.StepKind.TheVariants.{Barrier, Broadcast, Reduce, Allreduce, Gather, Allgather, Alltoall, Scan,
-    Scatter, Reducescatter, Exscan, Gatherv}
+use Rattle.coll_shape.specs.declared.kinds.StepKind.TheVariants.{Barrier, Broadcast, Reduce, Allreduce, Gather, Allgather, Alltoall, Scan}
+use Rattle.coll_shape.specs.declared.kinds.StepKind.TheVariants.{Scatter, Reducescatter, Exscan, Gatherv}
 use Rattle.coll_shape.specs.Kinds.{kind_named, kind_word, takes_buffers, takes_op, takes_root}
 use Rattle.coll_lang.specs.Words.{choice_word}
-use Rattle.coll_lang.specs.Forms.{StepWords, complete, group, input, step, choice, print, last, type_of, op_of, op_in, root_in, names_in,
-    step_in, on_in, group_in, input_in, name_in, complete_in, form_of}
+use Rattle.coll_lang.specs.Forms.{StepWords, complete, group, input, step, choice, print, last, type_of, op_of, op_in, root_in, names_in}
+use Rattle.coll_lang.specs.Forms.{step_in, on_in, group_in, input_in, name_in, complete_in, form_of}
 use Rattle.coll_lang.specs.declared.choices.ChoiceKind.{ChoiceKind}
 use Rattle.coll_lang.specs.declared.choices.ChoiceKind.TheVariants.{Elect, Tickets}
 use Rattle.coll_lang.proofs.FormSaid.{names_there, on_there, op_there, said_words, word_there}

@@ -1,6 +1,6 @@
 -- The generated shape is well formed.
-use Rattle.std.proofs.Common.{◌≡◌, ℕ, zero, suc, ◌+◌, ◌<◌, ◌≤◌, List, [], ◌∷◌, length, map, get_or, Option, Some, None, true, refl, sym, ap,
-    ◌∙◌, arith, subst, codes}
+use Rattle.std.proofs.Common.{◌≡◌, ℕ, zero, suc, ◌+◌, ◌<◌, ◌≤◌, List, [], ◌∷◌, length, map, get_or, Option, Some, None, true, refl, sym, ap}
+use Rattle.std.proofs.Common.{◌∙◌, arith, subst, codes}
 use Rattle.ptl_types.specs.declared.elements.ElemType.TheVariants.{U32}
 use Rattle.std.specs.Prelude.{All}
 use Rattle.std.specs.List.{AllByRecursion}
@@ -14,8 +14,8 @@ use Rattle.coll_shape.specs.declared.types.CollStep.{CollStep}
 use Rattle.coll_shape.specs.declared.types.CollStep.TheVariants.{Allreduce, Allgather, Alltoall, Scan}
 use Rattle.coll_shape.specs.Outline.{Outline, buffer_at, group_at, members_of, read_buffer, step_at}
 use Rattle.coll_shape.specs.Collectives.{AllHold, IsRoot, Reads, buffer_after, named, result_of, since, source_of}
-use Rattle.coll_shape.specs.WellFormed.{AreMembers, FitsVersion, IsGroup, IsNumber, IsShape, IsWellFormed, StandsIn, StepFits, made_upto,
-    names, printed_elements}
+use Rattle.coll_shape.specs.WellFormed.{AreMembers, FitsVersion, IsGroup, IsNumber, IsShape, IsWellFormed, StandsIn, StepFits, made_upto}
+use Rattle.coll_shape.specs.WellFormed.{names, printed_elements}
 use Rattle.coll_shape.specs.declared.limits.TheConstants.{MOST_RANKS, MOST_GIVEN, MOST_ELEMENTS}
 use Rattle.coll_lang.specs.Generated.{even_words, everyone, generated_shape}
 use Rattle.coll_lang.specs.Held.{IsSmall}

@@ -1,6 +1,6 @@
 -- An outline with a group, an input, a step or a print more keeps its facts.
-use Rattle.std.proofs.Common.{◌≡◌, ℕ, zero, suc, ◌+◌, ◌<◌, ◌≤◌, List, [], ◌∷◌, ◌++◌, length, map, get_or, Option, Some, None, Bool, true,
-    false, cond, ◌||◌, refl, sym, ap, ◌∙◌, arith, subst, inl, inr, ◌⊎◌, length-append}
+use Rattle.std.proofs.Common.{◌≡◌, ℕ, zero, suc, ◌+◌, ◌<◌, ◌≤◌, List, [], ◌∷◌, ◌++◌, length, map, get_or, Option, Some, None, Bool, true}
+use Rattle.std.proofs.Common.{false, cond, ◌||◌, refl, sym, ap, ◌∙◌, arith, subst, inl, inr, ◌⊎◌, length-append}
 use Rattle.std.specs.Prelude.{is_some, nat_lt}
 use Rattle.std.specs.List.{position_or_len, position}
 use Rattle.std.specs.Str.{bytes_eq}

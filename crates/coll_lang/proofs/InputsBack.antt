@@ -1,6 +1,6 @@
 -- The inputs of a text, with their data lines, are read as what they were written of.
-use Rattle.std.proofs.Common.{◌≡◌, ℕ, suc, ◌+◌, ◌-◌, ◌<◌, ◌≤◌, ◌^◌, List, [], ◌∷◌, ◌++◌, length, map, take, drop, get_or, Some, Ok, true,
-    false, ◌||◌, refl, sym, ap, ◌∙◌, arith, codes, subst, append_assoc, length-append}
+use Rattle.std.proofs.Common.{◌≡◌, ℕ, suc, ◌+◌, ◌-◌, ◌<◌, ◌≤◌, ◌^◌, List, [], ◌∷◌, ◌++◌, length, map, take, drop, get_or, Some, Ok, true}
+use Rattle.std.proofs.Common.{false, ◌||◌, refl, sym, ap, ◌∙◌, arith, codes, subst, append_assoc, length-append}
 use Rattle.std.specs.Prelude.{is_some}
 use Rattle.std.specs.List.{flat_map, join_with_byte, slice_get, AllByRecursion}
 use Rattle.std.specs.Fmt.{decimal}
@@ -20,8 +20,8 @@ use Rattle.coll_shape.specs.Outline.{no_buffer, no_group}
 use Rattle.coll_shape.specs.declared.limits.TheConstants.{MOST_BUFFERS, MOST_GIVEN}
 use Rattle.coll_lang.specs.Words.{type_word}
 use Rattle.coll_lang.specs.Forms.{input}
-use Rattle.coll_lang.specs.Language.{Past, judge, line_at, form_line, input_line, input_buffer, values_line, group_number, buffer_number,
-    buffer_named, is_taken, read_from, data_due}
+use Rattle.coll_lang.specs.Language.{Past, judge, line_at, form_line, input_line, input_buffer, values_line, group_number, buffer_number}
+use Rattle.coll_lang.specs.Language.{buffer_named, is_taken, read_from, data_due}
 use Rattle.coll_lang.specs.Spelling.{input_text, data_text, inputs_text, name_at}
 use Rattle.coll_lang.specs.declared.stage.Stage.{Stage}
 use Rattle.coll_lang.specs.declared.stage.Stage.TheVariants.{Inputs}

@@ -7,11 +7,11 @@ use Rattle.coll_text.specs.Text.{lines, words, line}
 use Rattle.coll_text.proofs.ReadBack.{passes_too, none_is, line_of, joined_passes, words_of_joined}
 use Rattle.coll_text.proofs.WordsBack.{is_solid, solid_apart}
 use Rattle.coll_lang.specs.Forms.{Form, complete, group, input, step, choice, print, last, form_of}
-use Rattle.coll_lang.specs.Language.{Past, judge, line_at, later_line, form_line, form_since, stands_in, stands_at, may_stand, read_from,
-    is_allowed, is_finished}
+use Rattle.coll_lang.specs.Language.{Past, judge, line_at, later_line, form_line, form_since, stands_in, stands_at, may_stand, read_from}
+use Rattle.coll_lang.specs.Language.{is_allowed, is_finished}
 use Rattle.coll_lang.specs.declared.stage.Stage.{Stage}
-use Rattle.coll_lang.specs.declared.stage.Stage.TheVariants.{Header, Ranks, Options, Groups, Inputs, Data, Steps, Choosing, Prints,
-    Finished}
+use Rattle.coll_lang.specs.declared.stage.Stage.TheVariants.{Header, Ranks, Options, Groups, Inputs, Data, Steps, Choosing, Prints}
+use Rattle.coll_lang.specs.declared.stage.Stage.TheVariants.{Finished}
 use Rattle.coll_lang.proofs.Reading.{goes_on}
 
 -- whatever follows

@@ -1,6 +1,6 @@
 -- The facts of an outline with one line more.
-use Rattle.std.proofs.Common.{◌≡◌, ℕ, zero, suc, ◌+◌, ◌<◌, ◌≤◌, List, [], ◌∷◌, ◌++◌, length, map, get_or, Option, None, true, false, refl,
-    sym, ap, ◌∙◌, arith, subst, inl, inr, ◌⊎◌, append_assoc}
+use Rattle.std.proofs.Common.{◌≡◌, ℕ, zero, suc, ◌+◌, ◌<◌, ◌≤◌, List, [], ◌∷◌, ◌++◌, length, map, get_or, Option, None, true, false, refl}
+use Rattle.std.proofs.Common.{sym, ap, ◌∙◌, arith, subst, inl, inr, ◌⊎◌, append_assoc}
 use Rattle.std.specs.List.{sum_by}
 use Rattle.std.proofs.lemmas.List.{append-nil}
 use Rattle.coll_text.specs.Text.{is_name}
@@ -14,8 +14,8 @@ use Rattle.coll_shape.specs.declared.types.CollStep.{CollStep}
 use Rattle.coll_shape.specs.declared.types.CollStep.TheVariants.{Barrier}
 use Rattle.coll_shape.specs.Outline.{Outline, no_buffer, no_group, buffer_at, step_at, group_at, members_of}
 use Rattle.coll_shape.specs.Collectives.{result_of, since}
-use Rattle.coll_shape.specs.WellFormed.{most_ranks, StandsIn, AreMembers, IsGroup, and_one, made_upto, StepFits, elements_of,
-    printed_elements, names}
+use Rattle.coll_shape.specs.WellFormed.{most_ranks, StandsIn, AreMembers, IsGroup, and_one, made_upto, StepFits, elements_of}
+use Rattle.coll_shape.specs.WellFormed.{printed_elements, names}
 use Rattle.coll_shape.specs.declared.limits.TheConstants.{MOST_GROUPS, MOST_BUFFERS, MOST_STEPS, MOST_PRINTS, MOST_GIVEN, MOST_ELEMENTS}
 use Rattle.coll_lang.proofs.Facts.{Facts, made_most, in_inserted, apart_too}
 use Rattle.coll_lang.proofs.Growing.{old_at, new_at, longer, split, each_more, none_there, fit_stays, step_old, made_same}

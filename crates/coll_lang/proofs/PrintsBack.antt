@@ -1,6 +1,6 @@
 -- The prints of a text, the steps of a choice text, and the last line are read as what they were written of.
-use Rattle.std.proofs.Common.{◌≡◌, ℕ, ◌+◌, ◌<◌, ◌≤◌, List, [], ◌∷◌, ◌++◌, length, get_or, Some, Ok, true, false, refl, sym, ap, ◌∙◌, arith,
-    codes, subst, append_assoc, length-append}
+use Rattle.std.proofs.Common.{◌≡◌, ℕ, ◌+◌, ◌<◌, ◌≤◌, List, [], ◌∷◌, ◌++◌, length, get_or, Some, Ok, true, false, refl, sym, ap, ◌∙◌, arith}
+use Rattle.std.proofs.Common.{codes, subst, append_assoc, length-append}
 use Rattle.std.specs.List.{sum_by, AllByRecursion}
 use Rattle.std.proofs.lemmas.List.{append-nil}
 use Rattle.std.proofs.lemmas.List.Sums.{sum_by-cons}
@@ -12,8 +12,8 @@ use Rattle.coll_shape.specs.WellFormed.{elements_of}
 use Rattle.coll_shape.specs.declared.limits.TheConstants.{MOST_BUFFERS, MOST_STEPS, MOST_PRINTS, MOST_ELEMENTS}
 use Rattle.coll_lang.specs.Words.{choice_word}
 use Rattle.coll_lang.specs.Forms.{choice, print, last}
-use Rattle.coll_lang.specs.Language.{Past, form_line, print_line, choice_line, choice_step, choice_buffer, buffer_named, is_taken,
-    read_from, stands_in}
+use Rattle.coll_lang.specs.Language.{Past, form_line, print_line, choice_line, choice_step, choice_buffer, buffer_named, is_taken}
+use Rattle.coll_lang.specs.Language.{read_from, stands_in}
 use Rattle.coll_lang.specs.Spelling.{prints_text, name_at, choice_name, choice_words}
 use Rattle.coll_lang.specs.declared.choices.ChoiceKind.{ChoiceKind}
 use Rattle.coll_lang.specs.declared.choices.ChoiceKind.TheVariants as kinds

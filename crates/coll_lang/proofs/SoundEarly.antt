@@ -1,6 +1,6 @@
 -- A group, an input and a data line keep what the lines say well formed and written.
-use Rattle.std.proofs.Common.{◌≡◌, ℕ, zero, suc, ◌+◌, ◌-◌, ◌*◌, ◌<◌, ◌≤◌, ◌^◌, List, [], ◌∷◌, ◌++◌, length, map, take, get_or, Some, Result,
-    Ok, Err, true, ◌&&◌, refl, sym, ap, ◌∙◌, arith, codes, subst, append_assoc}
+use Rattle.std.proofs.Common.{◌≡◌, ℕ, zero, suc, ◌+◌, ◌-◌, ◌*◌, ◌<◌, ◌≤◌, ◌^◌, List, [], ◌∷◌, ◌++◌, length, map, take, get_or, Some, Result}
+use Rattle.std.proofs.Common.{Ok, Err, true, ◌&&◌, refl, sym, ap, ◌∙◌, arith, codes, subst, append_assoc}
 use Rattle.std.specs.Prelude.{nat_lt, nat_le, option_map, All}
 use Rattle.std.specs.List.{list_all}
 use Rattle.std.specs.Fmt.{decimal}
@@ -23,8 +23,8 @@ use Rattle.coll_shape.specs.WellFormed.{StandsIn, AreMembers}
 use Rattle.coll_shape.specs.declared.limits.TheConstants.{MOST_RANKS, MOST_GROUPS, MOST_BUFFERS, MOST_GIVEN}
 use Rattle.coll_lang.specs.Words.{type_word}
 use Rattle.coll_lang.specs.Forms.{group, input}
-use Rattle.coll_lang.specs.Language.{Past, is_taken, data_due, input_line, input_buffer, group_line, values_line, unless_flawed,
-    all_numbers, are_members, is_rising}
+use Rattle.coll_lang.specs.Language.{Past, is_taken, data_due, input_line, input_buffer, group_line, values_line, unless_flawed}
+use Rattle.coll_lang.specs.Language.{all_numbers, are_members, is_rising}
 use Rattle.coll_lang.specs.Spelling.{head_text, remote_text, group_text, groups_text, input_text, data_text, inputs_text}
 use Rattle.coll_lang.specs.declared.stage.Stage.TheVariants.{Groups}
 use Rattle.coll_lang.specs.declared.fault.Refusal.TheVariants.{BadNumber, NameTaken, TooMany, BadGroup}
@@ -32,8 +32,8 @@ use Rattle.coll_lang.proofs.FormSaid.{form_words}
 use Rattle.coll_lang.proofs.InputLists.{IsListOf, Filled, Filling, one_input, starts_filling, is_filled, fills, one_data_line}
 use Rattle.coll_lang.proofs.Growing.{longer}
 use Rattle.coll_lang.proofs.Lines.{group_facts, input_facts}
-use Rattle.coll_lang.proofs.Sound.{outline, tail, body, AtEarly, AtInputs, AtData, ok_of, some_of, passed, ok_is, room, both_true, not_not,
-    new_name, no_tail, all_taken, behind_inputs}
+use Rattle.coll_lang.proofs.Sound.{outline, tail, body, AtEarly, AtInputs, AtData, ok_of, some_of, passed, ok_is, room, both_true, not_not}
+use Rattle.coll_lang.proofs.Sound.{new_name, no_tail, all_taken, behind_inputs}
 
 -- ---- members
 less : (m n : ℕ) → nat_lt m n ≡ true → m < n
@@ -234,7 +234,7 @@ input_goes past next name ty count a named h =
                 ∙ behind_inputs (head_text past.version past.ranks) (remote_text past.remote) (groups_text past.groups)
                 (inputs_text past.ranks (take past.inputs past.buffers) past.given) (input_text c) (tail past) (tail after)
                 (no_tail past e.early.no_steps e.no_choices e.early.no_prints)
-                    (no_tail after e.early.no_steps e.no_choices e.early.no_prints)
+                (no_tail after e.early.no_steps e.no_choices e.early.no_prints)
                 ∙ ap (λ (x : List ℕ). body past ++ line (codes "input" ∷ name ∷ type_word ty ∷ x ∷ []))
                 (sym (between_spelled 1 MOST_GIVEN n.0 count (omega arith) n.1));
           }),

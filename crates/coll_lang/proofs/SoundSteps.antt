@@ -1,6 +1,6 @@
 -- A step, a print and the last line keep what the lines say well formed and written.
-use Rattle.std.proofs.Common.{◌≡◌, ℕ, zero, suc, ◌+◌, ◌<◌, ◌≤◌, ◌^◌, List, [], ◌∷◌, ◌++◌, length, map, take, get_or, Option, Some, None,
-    Result, Ok, Bool, true, false, cond, ◌&&◌, ◌||◌, not, refl, sym, ap, ◌∙◌, arith, codes, subst, append_assoc}
+use Rattle.std.proofs.Common.{◌≡◌, ℕ, zero, suc, ◌+◌, ◌<◌, ◌≤◌, ◌^◌, List, [], ◌∷◌, ◌++◌, length, map, take, get_or, Option, Some, None}
+use Rattle.std.proofs.Common.{Result, Ok, Bool, true, false, cond, ◌&&◌, ◌||◌, not, refl, sym, ap, ◌∙◌, arith, codes, subst, append_assoc}
 use Rattle.std.specs.Prelude.{nat_lt, nat_le, is_some, option_map}
 use Rattle.std.specs.List.{slice_get, sum_by}
 use Rattle.std.specs.Str.{bytes_eq}
@@ -27,22 +27,23 @@ use Rattle.coll_shape.specs.WellFormed.{StandsIn, AreMembers, IsGroup, and_one, 
 use Rattle.coll_shape.proofs.Asking.{reads-can}
 use Rattle.coll_shape.specs.declared.limits.TheConstants.{MOST_RANKS, MOST_BUFFERS, MOST_STEPS, MOST_PRINTS, MOST_ELEMENTS}
 use Rattle.coll_lang.specs.Forms.{StepWords, step, print}
-use Rattle.coll_lang.specs.Language.{Past, form_since, or_refuse, stands_in, holds_of, is_taken, group_number, buffer_number, buffer_named,
-    root_number, source_named, group_named, members_in, new_buffer, with_made, step_on, rooted_line, step_line, print_line}
-use Rattle.coll_lang.specs.Spelling.{head_text, remote_text, groups_text, inputs_text, if_there, name_at, step_words, on_words, steps_text,
-    choices_text, prints_text}
+use Rattle.coll_lang.specs.Language.{Past, form_since, or_refuse, stands_in, holds_of, is_taken, group_number, buffer_number, buffer_named}
+use Rattle.coll_lang.specs.Language.{root_number, source_named, group_named, members_in, new_buffer, with_made, step_on, rooted_line}
+use Rattle.coll_lang.specs.Language.{step_line, print_line}
+use Rattle.coll_lang.specs.Spelling.{head_text, remote_text, groups_text, inputs_text, if_there, name_at, step_words, on_words, steps_text}
+use Rattle.coll_lang.specs.Spelling.{choices_text, prints_text}
 use Rattle.coll_lang.specs.declared.stage.Stage.TheVariants.{Steps, Prints}
 use Rattle.coll_lang.specs.declared.fault.Refusal.{Refusal}
-use Rattle.coll_lang.specs.declared.fault.Refusal.TheVariants.{BadNumber, NameTaken, UnknownBuffer, BadRoot, WrongShape, TooMany, TooLarge,
-    BadGroup}
+use Rattle.coll_lang.specs.declared.fault.Refusal.TheVariants.{BadNumber, NameTaken, UnknownBuffer, BadRoot, WrongShape, TooMany, TooLarge}
+use Rattle.coll_lang.specs.declared.fault.Refusal.TheVariants.{BadGroup}
 use Rattle.coll_lang.proofs.FormSaid.{SecondNamed, Takes, form_words, on_there}
 use Rattle.coll_lang.proofs.InputLists.{Filled}
 use Rattle.coll_lang.proofs.Facts.{Facts, made_most}
 use Rattle.coll_lang.proofs.Growing.{longer, each_more, old_at, new_at, read_stays}
 use Rattle.coll_lang.proofs.Lines.{IsStep, grown, step_facts, spelled_more, distinct_more, with_print, print_facts}
 use Rattle.coll_lang.proofs.StepRows.{OfKind, of_kind, made_after, words_of_step}
-use Rattle.coll_lang.proofs.Sound.{outline, tail, body, AtSteps, AtPrints, ok_of, some_of, passed, ok_is, room, not_above, not_not,
-    new_name, behind_tail}
+use Rattle.coll_lang.proofs.Sound.{outline, tail, body, AtSteps, AtPrints, ok_of, some_of, passed, ok_is, room, not_above, not_not}
+use Rattle.coll_lang.proofs.Sound.{new_name, behind_tail}
 use Rattle.coll_lang.proofs.SoundEarly.{Goes}
 
 -- ---- the buffer that a name finds

@@ -1,6 +1,6 @@
 -- Words after others, as they are written one after the other.
-use Rattle.std.proofs.Common.{◌≡◌, ℕ, List, [], ◌∷◌, ◌++◌, length, map, take, get_or, Option, Some, None, refl, sym, ap, ◌∙◌, arith, codes,
-    append_assoc}
+use Rattle.std.proofs.Common.{◌≡◌, ℕ, List, [], ◌∷◌, ◌++◌, length, map, take, get_or, Option, Some, None, refl, sym, ap, ◌∙◌, arith, codes}
+use Rattle.std.proofs.Common.{append_assoc}
 use Rattle.std.specs.List.{flat_map, join_with_byte}
 use Rattle.std.specs.Fmt.{decimal}
 use Rattle.std.proofs.lemmas.List.{append-nil}
@@ -19,8 +19,8 @@ use Rattle.coll_lang.specs.Words.{op_word}
 use Rattle.coll_shape.specs.Rows.{joined}
 use Rattle.coll_lang.specs.Program.{Program}
 use Rattle.coll_lang.specs.Spaced.{spaced}
-use Rattle.coll_lang.specs.Spelling.{chosen_text, group_text, groups_text, head_text, if_there, inputs_text, name_at, on_words, prints_text,
-    remote_text, step_words, steps_text, text}
+use Rattle.coll_lang.specs.Spelling.{chosen_text, group_text, groups_text, head_text, if_there, inputs_text, name_at, on_words, prints_text}
+use Rattle.coll_lang.specs.Spelling.{remote_text, step_words, steps_text, text}
 
 pub one_word : (out w : List ℕ) → out ++ 32 ∷ w ≡ out ++ spaced (w ∷ [])
 one_word out w = ap (λ (x : List ℕ). out ++ x) (sym (append-nil (32 ∷ w)))

@@ -1,6 +1,6 @@
 -- A step's line leads to what is said after it.
-use Rattle.std.proofs.Common.{◌≡◌, ℕ, ◌<◌, ◌≤◌, ◌^◌, List, [], ◌∷◌, ◌++◌, length, get_or, Option, Some, None, Ok, Bool, true, false, ◌&&◌,
-    refl, sym, ap, ◌∙◌, arith, codes, subst}
+use Rattle.std.proofs.Common.{◌≡◌, ℕ, ◌<◌, ◌≤◌, ◌^◌, List, [], ◌∷◌, ◌++◌, length, get_or, Option, Some, None, Ok, Bool, true, false, ◌&&◌}
+use Rattle.std.proofs.Common.{refl, sym, ap, ◌∙◌, arith, codes, subst}
 use Rattle.std.specs.Prelude.{nat_lt, nat_le, is_some, option_map}
 use Rattle.std.specs.List.{AllByRecursion, list_all}
 use Rattle.ptl_types.specs.declared.elements.AtomicOp.{AtomicOp}
@@ -21,8 +21,8 @@ use Rattle.coll_shape.specs.WellFormed.{StandsIn, StepFits}
 use Rattle.coll_shape.proofs.Asking.{can-reads}
 use Rattle.coll_shape.specs.declared.limits.TheConstants.{MOST_RANKS, MOST_BUFFERS, MOST_STEPS, MOST_ELEMENTS}
 use Rattle.coll_lang.specs.Forms.{StepWords, step}
-use Rattle.coll_lang.specs.Language.{Past, form_line, form_since, source_named, buffer_named, is_taken, group_named, members_in, new_buffer,
-    stands_in, with_made}
+use Rattle.coll_lang.specs.Language.{Past, form_line, form_since, source_named, buffer_named, is_taken, group_named, members_in, new_buffer}
+use Rattle.coll_lang.specs.Language.{stands_in, with_made}
 use Rattle.coll_lang.specs.Spelling.{name_at, on_words, step_words}
 use Rattle.coll_lang.specs.declared.stage.Stage.{Stage}
 use Rattle.coll_lang.specs.declared.stage.Stage.TheVariants.{Steps}
@@ -33,8 +33,8 @@ use Rattle.coll_lang.proofs.Leaders.{isnt_above, isnt_full, name_found}
 use Rattle.coll_lang.proofs.InputsBack.{Parts, fresh, longer, comes_next, named_there}
 use Rattle.coll_lang.proofs.Sound.{outline}
 use Rattle.coll_lang.proofs.StepRows.{made_after, of_kind}
-use Rattle.coll_lang.proofs.StepsBack.{again, if_word, oper_of, or_else, pair_of, place_of, root_below, root_said, spelled_of, step_taken,
-    words_of, words_said}
+use Rattle.coll_lang.proofs.StepsBack.{again, if_word, oper_of, or_else, pair_of, place_of, root_below, root_said, spelled_of, step_taken}
+use Rattle.coll_lang.proofs.StepsBack.{words_of, words_said}
 
 -- ---- the group that a step names
 abbrev pub on_name : List Group → Option ℕ → Option (List ℕ)

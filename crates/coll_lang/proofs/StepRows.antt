@@ -8,11 +8,11 @@ use Rattle.coll_shape.specs.declared.types.Buffer.{Buffer}
 use Rattle.coll_shape.specs.declared.types.CollStep.{CollStep}
 use Rattle.coll_shape.specs.declared.types.CollStep.TheVariants as steps
 use Rattle.coll_shape.specs.declared.kinds.StepKind.{StepKind}
-use Rattle.coll_shape.specs.declared.kinds.StepKind.TheVariants.{Barrier, Broadcast, Reduce, Allreduce, Gather, Allgather, Alltoall, Scan,
-    Scatter, Reducescatter, Exscan, Gatherv}
+use Rattle.coll_shape.specs.declared.kinds.StepKind.TheVariants.{Barrier, Broadcast, Reduce, Allreduce, Gather, Allgather, Alltoall, Scan}
+use Rattle.coll_shape.specs.declared.kinds.StepKind.TheVariants.{Scatter, Reducescatter, Exscan, Gatherv}
 use Rattle.coll_shape.specs.Kinds.{kind_since, kind_word, step_of, takes_buffers, takes_op, takes_root}
-use Rattle.coll_shape.specs.Collectives.{buffer_after, like, made_holders, made_length, op_of, result_of, root_of, since, source_of,
-    word_of}
+use Rattle.coll_shape.specs.Collectives.{buffer_after, like, made_holders, made_length, op_of, result_of, root_of, since, source_of}
+use Rattle.coll_shape.specs.Collectives.{word_of}
 use Rattle.coll_lang.specs.Words.{op_word}
 use Rattle.coll_lang.specs.Forms.{StepWords}
 use Rattle.coll_lang.specs.Language.{root_number}

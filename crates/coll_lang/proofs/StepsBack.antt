@@ -8,14 +8,14 @@ use Rattle.coll_text.specs.Text.{is_name}
 use Rattle.coll_text.proofs.ReadBack.{number_read}
 use Rattle.coll_shape.specs.declared.types.Buffer.{Buffer}
 use Rattle.coll_shape.specs.declared.types.CollStep.{CollStep}
-use Rattle.coll_shape.specs.declared.types.CollStep.TheVariants.{Barrier, Broadcast, Reduce, Allreduce, Gather, Allgather, Alltoall, Scan,
-    Scatter, Reducescatter, Exscan, Gatherv}
+use Rattle.coll_shape.specs.declared.types.CollStep.TheVariants.{Barrier, Broadcast, Reduce, Allreduce, Gather, Allgather, Alltoall, Scan}
+use Rattle.coll_shape.specs.declared.types.CollStep.TheVariants.{Scatter, Reducescatter, Exscan, Gatherv}
 use Rattle.coll_shape.specs.Kinds.{kind_of, step_of}
 use Rattle.coll_shape.specs.Collectives.{IsPlace, can_read, made_length, op_of, result_of, root_of, source_of}
 use Rattle.coll_shape.specs.declared.limits.TheConstants.{MOST_BUFFERS, MOST_STEPS, MOST_ELEMENTS}
 use Rattle.coll_lang.specs.Forms.{StepWords, step}
-use Rattle.coll_lang.specs.Language.{Past, form_line, step_line, rooted_line, step_on, root_number, source_named, group_named, members_in,
-    with_made}
+use Rattle.coll_lang.specs.Language.{Past, form_line, step_line, rooted_line, step_on, root_number, source_named, group_named, members_in}
+use Rattle.coll_lang.specs.Language.{with_made}
 use Rattle.coll_lang.specs.Spelling.{name_at, step_words}
 use Rattle.coll_lang.specs.declared.stage.Stage.TheVariants.{Steps}
 use Rattle.coll_lang.proofs.FormSaid.{said_words}

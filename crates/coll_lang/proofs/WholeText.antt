@@ -1,6 +1,6 @@
 -- A text that is read is what is written of its description, and what it says is readable.
-use Rattle.std.proofs.Common.{◌≡◌, ℕ, ◌+◌, ◌-◌, ◌^◌, ◌<◌, ◌≤◌, List, [], ◌∷◌, ◌++◌, length, map, Some, None, Result, Ok, Err, Bool, true,
-    false, cond, not, refl, sym, ap, ◌∙◌, arith, codes, subst, append_assoc, inl, inr, ◌⊎◌}
+use Rattle.std.proofs.Common.{◌≡◌, ℕ, ◌+◌, ◌-◌, ◌^◌, ◌<◌, ◌≤◌, List, [], ◌∷◌, ◌++◌, length, map, Some, None, Result, Ok, Err, Bool, true}
+use Rattle.std.proofs.Common.{false, cond, not, refl, sym, ap, ◌∙◌, arith, codes, subst, append_assoc, inl, inr, ◌⊎◌}
 use Rattle.std.specs.List.{list_all, join_with_byte}
 use Rattle.std.specs.Str.{bytes_eq}
 use Rattle.std.specs.Fmt.{decimal}
@@ -14,16 +14,16 @@ use Rattle.coll_shape.specs.WellFormed.{most_ranks}
 use Rattle.coll_shape.specs.declared.limits.TheConstants.{MOST_STEPS}
 use Rattle.coll_lang.specs.Words.{version_word}
 use Rattle.coll_lang.specs.Forms.{Form, complete, group, input, step, choice, print, last, form_of}
-use Rattle.coll_lang.specs.Language.{Past, data_due, version_of, ranks_in, stands_in, stands_at, form_since, may_stand, form_line,
-    later_line, line_at, judge, is_allowed, is_finished, numbered, read_from, nothing}
+use Rattle.coll_lang.specs.Language.{Past, data_due, version_of, ranks_in, stands_in, stands_at, form_since, may_stand, form_line}
+use Rattle.coll_lang.specs.Language.{later_line, line_at, judge, is_allowed, is_finished, numbered, read_from, nothing}
 use Rattle.coll_lang.specs.Spelling.{head_text, choice_name}
 use Rattle.number_lists.specs.Members.{In, Distinct}
 use Rattle.coll_lang.specs.declared.choices.ChoiceStep.{ChoiceStep}
 use Rattle.coll_lang.proofs.InputLists.{Filled}
 use Rattle.coll_lang.proofs.Growing.{none_there}
 use Rattle.coll_lang.specs.declared.stage.Stage.{Stage}
-use Rattle.coll_lang.specs.declared.stage.Stage.TheVariants.{Header, Ranks, Options, Groups, Inputs, Data, Steps, Choosing, Prints,
-    Finished}
+use Rattle.coll_lang.specs.declared.stage.Stage.TheVariants.{Header, Ranks, Options, Groups, Inputs, Data, Steps, Choosing, Prints}
+use Rattle.coll_lang.specs.declared.stage.Stage.TheVariants.{Finished}
 use Rattle.coll_lang.specs.declared.fault.Refusal.{Refusal}
 use Rattle.coll_lang.specs.declared.fault.Refusal.TheVariants.{BadByte, BadHeader, BadRanks, BadLine, Unended, AfterEnd}
 use Rattle.coll_lang.proofs.FormSaid.{Fits, form_words, form_said}
@@ -32,8 +32,8 @@ use Rattle.coll_lang.proofs.Facts.{few_of}
 use Rattle.coll_lang.proofs.Lines.{bare_facts}
 use Rattle.coll_lang.proofs.Sound.{body, some_of, passed, ok_is, both_true, complete_goes}
 use Rattle.coll_lang.proofs.SoundEarly.{Given, data_goes}
-use Rattle.coll_lang.proofs.AllLines.{choice_made, AtChoices, AtOptions, Sound, written, Leads, leads_to, at_due, due_written, prints_go,
-    choosing_go, chosen_go, steps_go, inputs_go, groups_go}
+use Rattle.coll_lang.proofs.AllLines.{choice_made, AtChoices, AtOptions, Sound, written, Leads, leads_to, at_due, due_written, prints_go}
+use Rattle.coll_lang.proofs.AllLines.{choosing_go, chosen_go, steps_go, inputs_go, groups_go}
 
 -- ---- line 3
 complete_line : (past next : Past) → AtOptions past → form_line past complete ≡ Ok next

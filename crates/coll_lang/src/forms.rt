@@ -3,7 +3,8 @@
 ghost use Rattle.std.specs.Prelude.{◌≡◌, option_map, IfSome, IfNone, Some, None};
 ghost use Rattle.std.specs.List.{list_any};
 ghost use Rattle.coll_text.specs.Text.{words, is_empty};
-ghost use Rattle.coll_lang.specs.Forms.{choice, last, print, step, type_of, op_of, op_in, root_in, names_in, step_in, on_in, group_in, input_in, name_in, complete_in, form_of, alone};
+ghost use Rattle.coll_lang.specs.Forms.{choice, last, print, step, type_of, op_of, op_in, root_in, names_in, step_in, on_in, group_in};
+ghost use Rattle.coll_lang.specs.Forms.{input_in, name_in, complete_in, form_of, alone};
 ghost use Rattle.coll_lang.specs.Seen.{form, now, both_now, step_seen};
 
 use crate::choices::ChoiceKind;

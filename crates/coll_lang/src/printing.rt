@@ -10,7 +10,9 @@ ghost use Rattle.coll_shape.specs.Rows.{joined};
 ghost use Rattle.coll_lang.specs.Seen.{choices_seen};
 ghost use Rattle.coll_lang.specs.Spaced.{spaced};
 ghost use Rattle.coll_lang.specs.Words.{type_word, op_word, version_word};
-ghost use Rattle.coll_lang.specs.Spelling.{choice_name, choice_words, choices_text, chosen_text, group_text, groups_text, head_text, if_there, input_text, inputs_text, name_at, no_choice, on_words, prints_text, remote_text, step_words, steps_text, text};
+ghost use Rattle.coll_lang.specs.Spelling.{choice_name, choice_words, choices_text, chosen_text, group_text, groups_text, head_text};
+ghost use Rattle.coll_lang.specs.Spelling.{if_there, input_text, inputs_text, name_at, no_choice, on_words, prints_text, remote_text};
+ghost use Rattle.coll_lang.specs.Spelling.{step_words, steps_text, text};
 
 use crate::choices::{ChoiceKind, ChoiceStep, Choices};
 use crate::description::Description;
@@ -384,7 +386,9 @@ fn print_chosen(out: &mut Vec<u8>, choices: Option<&Choices>) -> Result<(), Allo
 
 /// The lines before the steps.
 fn print_before_steps(out: &mut Vec<u8>, d: &Description) -> Result<(), AllocError>
-    ensures { OnOk result (out.new.items ≡ out.old.items ++ (head_text d.now.shape.version d.now.shape.ranks ++ (remote_text d.now.shape.remote ++ (groups_text d.now.shape.groups ++ inputs_text d.now.shape.ranks (take d.now.shape.inputs d.now.shape.buffers) (joined d.now.inputs))))) }
+    ensures { OnOk result (out.new.items ≡ out.old.items ++ (head_text d.now.shape.version d.now.shape.ranks ++
+        (remote_text d.now.shape.remote ++ (groups_text d.now.shape.groups ++ inputs_text d.now.shape.ranks
+        (take d.now.shape.inputs d.now.shape.buffers) (joined d.now.inputs))))) }
 {
     let shape = d.shape();
     let buffers = shape.buffers();

@@ -1,6 +1,7 @@
 //! Judging a step.
 
-ghost use Rattle.std.specs.Prelude.{ℕ, if◌then◌else◌, ◌+◌, ◌≡◌, ◌≤◌, ◌<◌, ◌||◌, ◌&&◌, length, IfOk, nat_le, is_some, option_map, Some, None};
+ghost use Rattle.std.specs.Prelude.{ℕ, if◌then◌else◌, ◌+◌, ◌≡◌, ◌≤◌, ◌<◌, ◌||◌, ◌&&◌, length, IfOk, nat_le, is_some, option_map, Some};
+ghost use Rattle.std.specs.Prelude.{None};
 ghost use Rattle.coll_text.specs.Cuts.{ReadsNumber};
 ghost use Rattle.coll_lang.specs.Answers.{Gives};
 ghost use Rattle.coll_lang.specs.Language.{members_in, root_number, rooted_line, source_named, step_on, step_line};
@@ -124,7 +125,8 @@ fn step_on(
     requires place { root < length members.now }
     requires small { source.len ≤ MOST_ELEMENTS }
     requires are { members.now ≡ members_in (past reader.now) on }
-    ensures exact { Gives (put (past reader.now)) result (step_on (past reader.now) (step_seen words.entry) root (source_seen source.entry) (Some on)) }
+    ensures exact { Gives (put (past reader.now)) result (step_on (past reader.now) (step_seen words.entry) root
+        (source_seen source.entry) (Some on)) }
     ensures small { IfOk result (λ made. IfMade made.buffer) }
     ensures room { IfOk result (λ made. length reader.now.buffers.items + made_count made.buffer ≤ MOST_BUFFERS) }
 {
@@ -163,7 +165,8 @@ fn judge_rooted(
     words: StepLine,
     place: Option<Rank>,
 ) -> Result<Made, LineFault>
-    ensures exact { (root : ℕ) → Places place root → Gives (put (past reader.now)) result (rooted_line (past reader.now) (now on.entry) (step_seen words.entry) root) }
+    ensures exact { (root : ℕ) → Places place root → Gives (put (past reader.now)) result
+        (rooted_line (past reader.now) (now on.entry) (step_seen words.entry) root) }
     ensures small { IfOk result (λ made. IfMade made.buffer) }
     ensures room { IfOk result (λ made. length reader.now.buffers.items + made_count made.buffer ≤ MOST_BUFFERS) }
 {

@@ -1,6 +1,6 @@
 -- What each collective makes is as long as its row says, and stands at the members that its row says.
-use Rattle.std.proofs.Common.{◌≡◌, ℕ, zero, suc, ◌+◌, ◌*◌, ◌/◌, ◌%◌, ◌<◌, ◌≤◌, false, cond, List, Option, Some, None, length, get_or, ap,
-    sym, ◌∙◌, arith}
+use Rattle.std.proofs.Common.{◌≡◌, ℕ, zero, suc, ◌+◌, ◌*◌, ◌/◌, ◌%◌, ◌<◌, ◌≤◌, false, cond, List, Option, Some, None, length, get_or, ap}
+use Rattle.std.proofs.Common.{sym, ◌∙◌, arith}
 use Rattle.std.specs.Prelude.{filter}
 use Rattle.number_lists.specs.Members.{In}
 use Rattle.number_lists.specs.Numbers.{from_to}
@@ -11,12 +11,13 @@ use Rattle.op_laws.proofs.Bytes.{length-part}
 use Rattle.coll_shape.proofs.Asking.{In-is_in}
 use Rattle.coll_shape.specs.declared.types.Buffer.{Buffer}
 use Rattle.coll_shape.specs.declared.types.CollStep.{CollStep}
-use Rattle.coll_shape.specs.declared.types.CollStep.TheVariants.{Barrier, Broadcast, Reduce, Allreduce, Gather, Allgather, Alltoall, Scan,
-    Scatter, Reducescatter, Exscan, Gatherv}
+use Rattle.coll_shape.specs.declared.types.CollStep.TheVariants.{Barrier, Broadcast, Reduce, Allreduce, Gather, Allgather, Alltoall, Scan}
+use Rattle.coll_shape.specs.declared.types.CollStep.TheVariants.{Scatter, Reducescatter, Exscan, Gatherv}
 use Rattle.coll_shape.specs.Outline.{list_bytes}
 use Rattle.coll_shape.specs.Folding.{at, block, exchanged, joined_lists, reduced}
-use Rattle.coll_shape.specs.Collectives.{AllHold, Asked, Nothing, HeldAt, HeldAtInBlocks, HeldByAll, HeldByAllInBlocks, HeldBySome,
-    HasAsked, HasBlocks, IsRoot, Reads, buffer_after, holding_places, is_in, list_after, result_of, source_of}
+use Rattle.coll_shape.specs.Collectives.{AllHold, Asked, Nothing, HeldAt, HeldAtInBlocks, HeldByAll, HeldByAllInBlocks, HeldBySome}
+use Rattle.coll_shape.specs.Collectives.{HasAsked, HasBlocks, IsRoot, Reads, buffer_after, holding_places, is_in, list_after, result_of}
+use Rattle.coll_shape.specs.Collectives.{source_of}
 use Rattle.coll_meaning.specs.Lengths.{AreAsked, AreEven, bytes_at}
 use Rattle.coll_meaning.proofs.Folds.{length_reduced}
 use Rattle.coll_meaning.proofs.Rowed.{block_bytes, blocks_bytes, block_fits, flat_even, flat_long, whole_mod}
@@ -50,7 +51,7 @@ module _ (g : List ℕ) (x : Buffer) (xs : List (List ℕ)) (some : 0 < length g
       length (block (length xs) i list) ≡ x.spread.length / length g * bytes_of x.ty
   block_long i list l h e =
       length-part (i * (length list / length xs)) (length list / length xs) list
-          (block_fits (length list) (length xs) i (omega (arith, l, many)))
+      (block_fits (length list) (length xs) i (omega (arith, l, many)))
       ∙ ap (λ v. v / length xs) e ∙ ap (λ v. list_bytes x / v) many ∙ block_bytes x.spread.length (length g) (bytes_of x.ty) some h
 
   exchange_long : (i : ℕ) → i < length g → AllHold g x → HasBlocks g x → length (exchanged xs i) ≡ list_bytes x
@@ -58,7 +59,7 @@ module _ (g : List ℕ) (x : Buffer) (xs : List (List ℕ)) (some : 0 < length g
       flat_even _ (list_bytes x / length g) 0 (length xs) (λ q k.
       let same : length (at xs q) ≡ length (at xs i) = all_whole h q (omega (arith, k, many)) ∙ sym (all_whole h i l) in
       let fits : i * (length (at xs i) / length xs) + length (at xs i) / length xs ≤ length (at xs i) =
-            block_fits (length (at xs i)) (length xs) i (omega (arith, l, many)) in
+      block_fits (length (at xs i)) (length xs) i (omega (arith, l, many)) in
       length-part (i * (length (at xs i) / length xs)) (length (at xs i) / length xs) (at xs q) (omega (arith, same, fits))
       ∙ ap (λ v. v / length xs) (all_whole h i l) ∙ ap (λ v. list_bytes x / v) many)
       ∙ ap (λ v. v * (list_bytes x / length g)) many ∙ blocks_bytes x.spread.length (length g) (bytes_of x.ty) some b
@@ -92,18 +93,18 @@ module _ (g : List ℕ) (x : Buffer) (xs : List (List ℕ)) (some : 0 < length g
   made_long (Allreduce o a' b') b e r h i l = at_everyone i (list_bytes x) (reduced o x.ty (length xs) xs) l (fold_long o (length xs) h)
   made_long (Gather root a' b') b e r h i l =
       alone_long g root i (length g * x.spread.length * bytes_of x.ty) (joined_lists xs) rising r l
-          (of_lists (length g) x.spread.length (bytes_of x.ty) (joined_lists xs) (row_long h))
+      (of_lists (length g) x.spread.length (bytes_of x.ty) (joined_lists xs) (row_long h))
   made_long (Allgather a' b') b e r h i l =
       at_everyone i (length g * x.spread.length * bytes_of x.ty) (joined_lists xs) l
-          (of_lists (length g) x.spread.length (bytes_of x.ty) (joined_lists xs) (row_long h))
+      (of_lists (length g) x.spread.length (bytes_of x.ty) (joined_lists xs) (row_long h))
   made_long (Alltoall a' b') b e r h i l = at_everyone i (list_bytes x) (exchanged xs i) l (exchange_long i l h.0 h.1)
   made_long (Scan o a' b') b e r h i l = at_everyone i (list_bytes x) (reduced o x.ty (suc i) xs) l (fold_long o (suc i) h)
   made_long (Scatter root a' b') b e r h i l =
       at_everyone i (x.spread.length / length g * bytes_of x.ty) (block (length xs) i (at xs root)) l
-          (block_long i (at xs root) l h.1 (root_long root r h.0))
+      (block_long i (at xs root) l h.1 (root_long root r h.0))
   made_long (Reducescatter o a' b') b e r h i l =
       at_everyone i (x.spread.length / length g * bytes_of x.ty) (block (length xs) i (reduced o x.ty (length xs) xs)) l
-          (block_long i (reduced o x.ty (length xs) xs) l h.1 (fold_long o (length xs) h.0))
+      (block_long i (reduced o x.ty (length xs) xs) l h.1 (fold_long o (length xs) h.0))
   made_long (Exscan o a' b') b e r h zero l = sym (ap (λ b. cond b (list_bytes x) 0) (first_out g rising))
   made_long (Exscan o a' b') b e r h (suc i) l = fold_long o (suc i) h ∙ ap (λ b. cond b (list_bytes x) 0) (sym (others_in g i l))
   made_long (Gatherv root a' b') b e r h i l =

@@ -1,6 +1,6 @@
 -- The lists of a form at the places of a group are those that a step makes.
-use Rattle.std.proofs.Common.{◌≡◌, ℕ, zero, suc, ◌+◌, ◌<◌, Bool, true, false, cond, List, [], ◌∷◌, Option, Some, length, map, refl, ap, ◌∙◌,
-    arith}
+use Rattle.std.proofs.Common.{◌≡◌, ℕ, zero, suc, ◌+◌, ◌<◌, Bool, true, false, cond, List, [], ◌∷◌, Option, Some, length, map, refl, ap, ◌∙◌}
+use Rattle.std.proofs.Common.{arith}
 use Rattle.std.specs.Prelude.{◌==◌}
 use Rattle.ptl_types.specs.declared.elements.ElemType.{ElemType}
 use Rattle.number_lists.specs.Numbers.{from_to}
@@ -34,10 +34,10 @@ length_map f (r ∷ rs) = ap suc (length_map f rs)
 
 pub made_same : (form : Form) (places : List (Option ℕ)) (n : ℕ) (g : List ℕ) (ty : ElemType) (step : CollStep) (lists xs : List (List ℕ))
     → xs ≡ taken g lists → ((i : ℕ) → i < length xs → form_list form i ≡ list_after ty step xs i) →
-        places ≡ map (place_from 0 g) (from_to 0 n)
+    places ≡ map (place_from 0 g) (from_to 0 n)
     → rank_lists form places ≡ made_lists n g ty step lists
 made_same form places n g ty step lists xs x e is =
     ap (rank_lists form) is
     ∙ at_ranks (form_list form) (list_after ty step xs) g 0 n
-        (λ i l. e i (let m = ap length x ∙ length_map (at lists) g in omega (arith, l, m)))
+    (λ i l. e i (let m = ap length x ∙ length_map (at lists) g in omega (arith, l, m)))
     ∙ ap (λ v. map (λ r. at_place (list_after ty step v) [] (place_from 0 g r)) (from_to 0 n)) x

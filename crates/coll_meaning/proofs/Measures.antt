@@ -1,6 +1,6 @@
 -- The lists of a description are as long as its shape says.
-use Rattle.std.proofs.Common.{◌≡◌, ℕ, zero, suc, ◌+◌, ◌<◌, ◌≤◌, true, cond, List, [], ◌∷◌, ◌++◌, Option, Some, None, length, get_or, refl,
-    ap, sym, ◌∙◌, arith, inl, inr}
+use Rattle.std.proofs.Common.{◌≡◌, ℕ, zero, suc, ◌+◌, ◌<◌, ◌≤◌, true, cond, List, [], ◌∷◌, ◌++◌, Option, Some, None, length, get_or, refl}
+use Rattle.std.proofs.Common.{ap, sym, ◌∙◌, arith, inl, inr}
 use Rattle.std.specs.Prelude.{◌==◌, ◌||◌}
 use Rattle.std.proofs.lemmas.Bool.{cases_eq, cases_lt}
 use Rattle.std.proofs.lemmas.List.{length-append, get_or-map, get_or_append_left}
@@ -72,16 +72,16 @@ module _ (o : Outline) (k : ℕ) (fits : StepFits o (made_upto o k) (group_at o 
   finds_asked a e =
       let m = fits.members in
       asked (group_at o k) (read_buffer o (source_of (step_at o k))) (taken (group_at o k) (lists_of bs a)) m.some m.rising
-          (taken_many (group_at o k) (lists_of bs a))
+      (taken_many (group_at o k) (lists_of bs a))
       (taken_long o.ranks (group_at o k) (read_buffer o (source_of (step_at o k))) (lists_of bs a) m (reads_long a e))
-          (asks_of (step_at o k)) fits.reads
+      (asks_of (step_at o k)) fits.reads
 
   new_long : (a b : ℕ) → source_of (step_at o k) ≡ Some a → result_of (step_at o k) ≡ Some b → (r : ℕ) → r < o.ranks
       → length (at (made_lists o.ranks (group_at o k) (type_read o (step_at o k)) (step_at o k) (lists_of bs a)) r) ≡ bytes_at
-          (buffer_at o b) r
+      (buffer_at o b) r
   new_long a b e f r l =
       made_at o.ranks (group_at o k) (read_buffer o (source_of (step_at o k))) (step_at o k) (lists_of bs a) b f fits.members fits.root
-          fits.reads (reads_long a e) r l
+      fits.reads (reads_long a e) r l
       ∙ ap (λ v. bytes_at v r) (sym (fits.makes b f))
 
   with_one : (new : List (List ℕ)) → length new ≡ o.ranks → ((r : ℕ) → r < o.ranks →
@@ -111,7 +111,7 @@ module _ (o : Outline) (k : ℕ) (fits : StepFits o (made_upto o k) (group_at o 
       of (Some a) (Some b) e f t =
           with_one (made_lists o.ranks (group_at o k) (type_read o (step_at o k)) (step_at o k) (lists_of bs a))
           (length_row (λ r. at_place (list_after (type_read o (step_at o k)) (step_at o k) (taken (group_at o k) (lists_of bs a))) []
-              (place_from 0 (group_at o k) r)) 0 o.ranks)
+          (place_from 0 (group_at o k) r)) 0 o.ranks)
           (λ r l. new_long a b e f r l ∙ ap (λ v. bytes_at (buffer_at o v) r) (fits.next b f))
 
 pub long_upto : (o : Outline) (inputs : Lists) → IsWellFormed o → AreInputs o inputs → (k : ℕ) → k ≤ length o.steps →
@@ -122,7 +122,7 @@ long_upto o inputs wf ins zero l = record {
   ranks = ins.ranks;
   long = λ b r lb lr. ins.long b r lb lr
       ∙ ap (λ v. cond v (list_bytes (buffer_at o b)) 0) (sym (ap (is_in r) (wf.held b lb)
-          ∙ in_numbers 0 o.ranks r (omega arith) (omega (arith, lr))));
+      ∙ in_numbers 0 o.ranks r (omega arith) (omega (arith, lr))));
 }
 long_upto o inputs wf ins (suc k) l =
     long_after o k (wf.fits k (omega arith)) (meant_upto o inputs k) (long_upto o inputs wf ins k (omega arith))

@@ -1,6 +1,6 @@
 -- How long blocks and lists in a row are.
-use Rattle.std.proofs.Common.{◌≡◌, ℕ, zero, suc, ◌+◌, ◌*◌, ◌/◌, ◌%◌, ◌<◌, ◌≤◌, Bool, true, false, cond, List, ◌∷◌, length, ap, sym, ◌∙◌,
-    arith, div-add-mod'}
+use Rattle.std.proofs.Common.{◌≡◌, ℕ, zero, suc, ◌+◌, ◌*◌, ◌/◌, ◌%◌, ◌<◌, ◌≤◌, Bool, true, false, cond, List, ◌∷◌, length, ap, sym, ◌∙◌}
+use Rattle.std.proofs.Common.{arith, div-add-mod'}
 use Rattle.std.specs.Prelude.{filter}
 use Rattle.std.specs.List.{flat_map}
 use Rattle.std.proofs.lemmas.List.{length-append}
@@ -21,7 +21,7 @@ parts n m e = let d = div-add-mod' n m in omega (arith, d, e)
 pub block_bytes : (n m w : ℕ) → 0 < m → n % m ≡ 0 → (n * w) / m ≡ (n / m) * w
 block_bytes n m w l e =
     ap (λ v. v / m) (ap (λ v. v * w) (sym (parts n m e)) ∙ mul_assoc (n / m) m w ∙ ap (λ v. n / m * v) (mul_comm m w)
-        ∙ sym (mul_assoc (n / m) w m))
+    ∙ sym (mul_assoc (n / m) w m))
     ∙ mul-div_cancel (n / m * w) l
 
 -- all of them

@@ -11,7 +11,7 @@ use Rattle.number_lists.specs.Numbers.{from_to}
 pub from_to_more : (k n : ℕ) → from_to k (suc n) ≡ from_to k n ++ (k + n) ∷ []
 from_to_more k zero = ap (λ v. v ∷ []) (let e : k ≡ k + 0 = omega arith in e)
 from_to_more k (suc n) = ap (λ v. k ∷ v) (from_to_more (suc k) n ∙ ap (λ v. from_to (suc k) n ++ v ∷ []) (let e : suc k + n ≡ k + suc n =
-                                                                                                                omega arith in e))
+    omega arith in e))
 
 pub row_more : {X : Type 0} (f : ℕ → X) (i : ℕ) → map f (from_to 0 (i + 1)) ≡ map f (from_to 0 i) ++ f i ∷ []
 row_more f i =
@@ -64,4 +64,4 @@ before_get o ty xs (suc i) l = row_get (λ i. reduced o ty (suc i) xs) [] (lengt
 pub numbers_more : (i : ℕ) → from_to 0 (i + 1) ≡ from_to 0 i ++ i ∷ []
 numbers_more i =
     ap (from_to 0) (let e : i + 1 ≡ suc i = omega arith in e) ∙ from_to_more 0 i
-        ∙ ap (λ v. from_to 0 i ++ v ∷ []) (let e : 0 + i ≡ i = omega arith in e)
+    ∙ ap (λ v. from_to 0 i ++ v ∷ []) (let e : 0 + i ≡ i = omega arith in e)

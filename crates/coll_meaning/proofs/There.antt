@@ -1,6 +1,6 @@
 -- What is needed is there, step by step.
-use Rattle.std.proofs.Common.{◌≡◌, ℕ, zero, suc, ◌+◌, ◌-◌, ◌^◌, ◌<◌, ◌≤◌, Bool, true, false, List, [], ◌∷◌, ◌++◌, Option, Some, None,
-    length, drop, refl, ap, sym, subst, ◌∙◌, arith, inl, inr, lit<}
+use Rattle.std.proofs.Common.{◌≡◌, ℕ, zero, suc, ◌+◌, ◌-◌, ◌^◌, ◌<◌, ◌≤◌, Bool, true, false, List, [], ◌∷◌, ◌++◌, Option, Some, None}
+use Rattle.std.proofs.Common.{length, drop, refl, ap, sym, subst, ◌∙◌, arith, inl, inr, lit<}
 use Rattle.std.specs.Prelude.{◌||◌}
 use Rattle.std.specs.List.{list_any}
 use Rattle.std.proofs.Math.Seq.{drop-cons}
@@ -25,14 +25,14 @@ pub is_made : (o : Outline) (kept : List ℕ) (k a : ℕ) (old mid new : Lists) 
     length mid ≡ length old
     → ((b : ℕ) → is_needed kept (later o k) b ≡ true → lists_of mid b ≡ lists_of old b) → new ≡ mid ++ made ∷ []
     → (is_needed kept (later o k) (length old) ≡ true → made ≡ made_lists o.ranks (group_at o k) (type_read o (step_at o k)) (step_at o k)
-        (lists_of old a))
+    (lists_of old a))
     → IsMade o kept k old new
 is_made o kept k a old mid new made e many others push lists = record {
   many = ap length push ∙ length-append mid (made ∷ []) ∙ counted (result_of (step_at o k)) (both_or_none (step_at o k));
   others = λ b l need. ap (λ v. lists_of v b) push ∙ get_or_append_left mid (made ∷ []) [] b (omega (arith, l, many)) ∙ others b need;
   made = λ a' e' need. ap (λ v. lists_of v (length old)) push ∙ get_at_end mid made [] (length old) (sym many) ∙ lists need
       ∙ ap (λ v. made_lists o.ranks (group_at o k) (type_read o (step_at o k)) (step_at o k) (lists_of old v))
-          (same_some a a' (sym e ∙ e'));
+      (same_some a a' (sym e ∙ e'));
 }
   where
     same_some : (x y : ℕ) → Some x ≡ Some y → x ≡ y
@@ -90,7 +90,7 @@ module _ (o : Outline) (kept : List ℕ) (inputs : Lists) (k : ℕ) (wf : IsWell
       of : (s r : Option ℕ) → source_of (step_at o k) ≡ s → result_of (step_at o k) ≡ r → BothOrNone s r → (c : ℕ) →
           c < and_one r (made_upto o k) → is_needed kept (later o k) c ≡ true
           → lists_of new c ≡ lists_of (with_step o.ranks (group_at o k) (type_read o (step_at o k)) (step_at o k) (meant_upto o inputs k)
-              s) c
+          s) c
       of None None e f t c lc need = old_there c lc need
       of None (Some b) e f t c lc need = absurd t
       of (Some a) None e f t c lc need = absurd t
@@ -106,7 +106,7 @@ module _ (o : Outline) (kept : List ℕ) (inputs : Lists) (k : ℕ) (wf : IsWell
                 ∙ m.made a e (subst (λ v. is_needed kept (later o k) v ≡ true) at need)
                 ∙ ap (made_lists o.ranks (group_at o k) (type_read o (step_at o k)) (step_at o k)) (source_there a e)
                 ∙ sym (get_at_end (meant_upto o inputs k) (made_lists o.ranks (group_at o k) (type_read o (step_at o k)) (step_at o k)
-                    (lists_of (meant_upto o inputs k) a)) [] c (omega (arith, many, s, lc)))
+                (lists_of (meant_upto o inputs k) a)) [] c (omega (arith, many, s, lc)))
           ]
         where
           many_meant : length (meant_upto o inputs k) ≡ made_upto o k
@@ -139,7 +139,7 @@ all_there o inputs held wf ins h =
     let lm : b < length (meant_upto o inputs (length o.steps)) = let w = h.many in let v = m.many in omega (arith, v, w, l) in
     get_or_default held b d [] l
     ∙ h.same b (let w = h.many in omega (arith, w, l)) (none_later o (from_to 0 (length o.buffers)) b
-        (in_numbers 0 (length o.buffers) b (omega arith) (omega (arith, lb))))
+    (in_numbers 0 (length o.buffers) b (omega arith) (omega (arith, lb))))
     ∙ get_or_default (meant_upto o inputs (length o.steps)) b [] d lm)
 
 -- there are never more buffers than at the end
@@ -148,8 +148,8 @@ made_more o k zero = let e : k + 0 ≡ k = omega arith in subst (λ v. made_upto
 made_more o k (suc j) =
     let e : k + suc j ≡ suc (k + j) = omega arith in
     subst (λ v. made_upto o k ≤ made_upto o v) (sym e) (let a = made_more o k j in let b =
-                                                                                         one_more (result_of (step_at o (k + j)))
-                                                                                         (made_upto o (k + j)) in omega (arith, a, b))
+    one_more (result_of (step_at o (k + j)))
+    (made_upto o (k + j)) in omega (arith, a, b))
   where
     one_more : (r : Option ℕ) (m : ℕ) → m ≤ and_one r m
     one_more None m = omega arith

@@ -54,7 +54,8 @@ fn fold_in_blocks(
     xs: &Taken,
 ) -> Result<Vec<ByteList>, AllocError>
     requires { AreEven ty xs.now }
-    ensures { IfOk result (λ lists. (i : ℕ) → i < length xs.now → get_or lists.items i [] ≡ block (length xs.now) i (reduced op ty (length xs.now) xs.now)) }
+    ensures { IfOk result (λ lists. (i : ℕ) → i < length xs.now → get_or lists.items i [] ≡ block (length xs.now) i
+        (reduced op ty (length xs.now) xs.now)) }
 {
     let fold = reduced(alloc, op, ty, xs)?;
     blocks(alloc, xs.len(), fold.as_slice())

@@ -15,7 +15,8 @@ fn place_here(group: &[Rank], next: u32, r: Rank) -> Option<u32>
     requires above { (i : ℕ) → next ≤ i → i < length group.now → r ≤ get_or group.now i 0 }
     requires rising { (i j : ℕ) → i < j → j < length group.now → get_or group.now i 0 < get_or group.now j 0 }
     ensures place { result ≡ place_from 0 group.now r }
-    ensures others { MatchOption result ((i : ℕ) → next ≤ i → i < length group.now → r < get_or group.now i 0) (λ i. (i ≡ next) × (next < length group.now) × (get_or group.now next 0 ≡ r)) }
+    ensures others { MatchOption result ((i : ℕ) → next ≤ i → i < length group.now → r < get_or group.now i 0)
+        (λ i. (i ≡ next) × (next < length group.now) × (get_or group.now next 0 ≡ r)) }
 {
     match group.get(next as usize) {
         Some(member) => { if *member == r { Some(next) } else { None } }

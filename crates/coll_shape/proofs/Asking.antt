@@ -1,6 +1,6 @@
 -- What is asked of A holds exactly where its test passes.
-use Rattle.std.proofs.Common.{◌≡◌, ℕ, zero, suc, ◌<◌, ◌%◌, Bool, true, false, List, [], ◌∷◌, length, get_or, refl, ◌∙◌, ap, cond, filter,
-    arith, inl, inr}
+use Rattle.std.proofs.Common.{◌≡◌, ℕ, zero, suc, ◌<◌, ◌%◌, Bool, true, false, List, [], ◌∷◌, length, get_or, refl, ◌∙◌, ap, cond, filter}
+use Rattle.std.proofs.Common.{arith, inl, inr}
 use Rattle.std.specs.Prelude.{◌&&◌, ◌||◌, ◌==◌, ◌⊎◌, count_by}
 use Rattle.std.specs.List.{list_all, list_any}
 use Rattle.std.proofs.lemmas.Bool.Decides.{nat_tests}
@@ -9,8 +9,9 @@ use Rattle.number_lists.specs.Members.{In}
 use Rattle.number_lists.specs.Numbers.{from_to}
 use Rattle.coll_shape.specs.declared.types.Buffer.{Buffer}
 use Rattle.coll_shape.specs.declared.types.CollStep.{CollStep}
-use Rattle.coll_shape.specs.Collectives.{Asked, Nothing, HeldAt, HeldAtInBlocks, HeldByAll, HeldByAllInBlocks, HeldBySome, is_in,
-    has_blocks, has_what_is_asked, HasAsked, HasBlocks, AllHold, holding_places, asks_of, can_read, Reads}
+use Rattle.coll_shape.specs.Collectives.{Asked, Nothing, HeldAt, HeldAtInBlocks, HeldByAll, HeldByAllInBlocks, HeldBySome, is_in}
+use Rattle.coll_shape.specs.Collectives.{has_blocks, has_what_is_asked, HasAsked, HasBlocks, AllHold, holding_places, asks_of, can_read}
+use Rattle.coll_shape.specs.Collectives.{Reads}
 
 either : (b c : Bool) → (b || c) ≡ true → (b ≡ true) ⊎ (c ≡ true)
 either true c e = inl refl
@@ -128,7 +129,7 @@ places_passed : (t : ℕ → Bool) (g : List ℕ) → length (filter (λ i. t (g
 places_passed t [] = refl
 places_passed t (r ∷ rs) =
     one (t r) (filter (λ i. t (get_or (r ∷ rs) i 0)) (from_to 1 (length rs))) (filter t rs)
-        (shifted (λ i. t (get_or (r ∷ rs) i 0)) 0 (length rs) ∙ places_passed t rs)
+    (shifted (λ i. t (get_or (r ∷ rs) i 0)) 0 (length rs) ∙ places_passed t rs)
   where
     one : (b : Bool) (xs ys : List ℕ) → length xs ≡ length ys → length (cond b (0 ∷ xs) xs) ≡ length (cond b (r ∷ ys) ys)
     one true xs ys e = ap (λ v. suc v) e

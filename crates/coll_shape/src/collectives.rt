@@ -2,7 +2,8 @@
 
 ghost use Rattle.std.specs.Prelude.{◌≡◌, ◌≤◌, ◌*◌, ◌%◌, ◌==◌, ◌<◌, length, get_or, IfOk};
 ghost use Rattle.std.specs.List.{list_all, list_any};
-ghost use Rattle.coll_shape.specs.Collectives.{can_read, holding_places, is_in, made_holders, made_length, op_of, result_of, root_of, source_of, spread_so};
+ghost use Rattle.coll_shape.specs.Collectives.{can_read, holding_places, is_in, made_holders, made_length, op_of, result_of, root_of};
+ghost use Rattle.coll_shape.specs.Collectives.{source_of, spread_so};
 ghost use Rattle.coll_shape.specs.declared.limits.TheConstants.{MOST_ELEMENTS, MOST_RANKS};
 
 use crate::lists::RankList;

@@ -1,6 +1,6 @@
 -- A data line, word by word.
-use Rattle.std.proofs.Common.{◌≡◌, ℕ, suc, ◌-◌, ◌<◌, List, [], ◌∷◌, ◌++◌, length, Option, Some, None, Result, Ok, Err, Bool, true, false,
-    cond, eqb, ◌≢◌, ◌&&◌, not, refl, sym, ap, arith, append_assoc}
+use Rattle.std.proofs.Common.{◌≡◌, ℕ, suc, ◌-◌, ◌<◌, List, [], ◌∷◌, ◌++◌, length, Option, Some, None, Result, Ok, Err, Bool, true, false}
+use Rattle.std.proofs.Common.{cond, eqb, ◌≢◌, ◌&&◌, not, refl, sym, ap, arith, append_assoc}
 use Rattle.std.proofs.lemmas.List.{append-nil}
 use Rattle.std.proofs.lemmas.Bool.Decides.{nat_tests}
 use Rattle.std.specs.Prelude.{option_map, ◌==◌, if◌then◌else◌}
@@ -43,7 +43,7 @@ unfolding left_over
 takes ty left bad out w ws n lt full value =
     rw (one_less (length ws) left lt, full, value)
     (ap (λ r. cond (eqb (length ws) (left - 1) && not (list_any is_empty ws)) (cond bad (Err NoValue) r) (Err Malformed))
-        (joined out (little_endian (bytes_of ty) n) (all_values ty ws)))
+    (joined out (little_endian (bytes_of ty) n) (all_values ty ws)))
 
 spoilt : (bad : Bool) (r : Result (List ℕ) Flaw) → cond bad r r ≡ r
 spoilt true r = refl

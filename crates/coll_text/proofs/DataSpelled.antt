@@ -1,6 +1,6 @@
 -- A value and a data line have one spelling.
-use Rattle.std.proofs.Common.{◌≡◌, ℕ, zero, suc, ◌+◌, ◌-◌, ◌*◌, ◌/◌, ◌%◌, ◌<◌, ◌≤◌, ◌^◌, List, [], ◌∷◌, ◌++◌, length, take, drop, Option,
-    Some, None, Ok, Err, Bool, true, false, cond, ◌&&◌, not, refl, sym, ap, ◌∙◌, arith, map, subst, length-append}
+use Rattle.std.proofs.Common.{◌≡◌, ℕ, zero, suc, ◌+◌, ◌-◌, ◌*◌, ◌/◌, ◌%◌, ◌<◌, ◌≤◌, ◌^◌, List, [], ◌∷◌, ◌++◌, length, take, drop, Option}
+use Rattle.std.proofs.Common.{Some, None, Ok, Err, Bool, true, false, cond, ◌&&◌, not, refl, sym, ap, ◌∙◌, arith, map, subst, length-append}
 use Rattle.std.specs.Prelude.{option_map, nat_lt, nat_le, ◌==◌, All}
 use Rattle.std.specs.List.{list_any}
 use Rattle.std.specs.Fmt.{decimal}
@@ -68,7 +68,7 @@ negative_spelled ty w v signed h =
     let test : nat_le (half ty) (span ty - a.0) ≡ true = is_le (half ty) (span ty - a.0) (omega (arith, most)) in
     ap (λ x. 45 ∷ x) (spelled ∙ ap decimal (sym (twice a.0 (span ty) most)))
     ∙ sym (ap (λ t. cond t (45 ∷ decimal (span ty - (span ty - a.0))) (decimal (span ty - a.0)))
-        (ap (λ s. s && nat_le (half ty) (span ty - a.0)) signed ∙ test))
+    (ap (λ s. s && nat_le (half ty) (span ty - a.0)) signed ∙ test))
     ∙ ap (value_word ty) a.1.pattern_is
   where
     twice : (n s : ℕ) → n ≤ s / 2 → s - (s - n) ≡ n
@@ -152,7 +152,7 @@ pub record WordsSaid (ty : ElemType) (ws : List (List ℕ)) (bytes : List ℕ) :
 words_said : (ty : ElemType) (ws : List (List ℕ)) (bytes : List ℕ) → all_values ty ws ≡ Some bytes → WordsSaid ty ws bytes
 words_said ty [] bytes h =
     subst (λ (b : List ℕ). WordsSaid ty [] b) (some_is [] bytes h)
-        (record { spelled = refl; each = omega arith; small = All-nil (λ b. b < 256) })
+    (record { spelled = refl; each = omega arith; small = All-nil (λ b. b < 256) })
 words_said ty (w ∷ ws) bytes h =
     let size = bytes_of ty in
     let a = then (λ n. option_map (λ more. little_endian size n ++ more) (all_values ty ws)) (value_of ty w) bytes h in
@@ -161,13 +161,13 @@ words_said ty (w ∷ ws) bytes h =
     let len = length-little_endian size a.0 in
     let first : pattern (take size (little_endian size a.0 ++ m.0)) ≡ a.0 =
     ap pattern (take_front size (little_endian size a.0) m.0 len)
-        ∙ pattern-little size a.0 (subst (λ s. a.0 < s) (span-is ty) (value_small ty w a.0 a.1)) in
+    ∙ pattern-little size a.0 (subst (λ s. a.0 < s) (span-is ty) (value_small ty w a.0 a.1)) in
     subst (λ (b : List ℕ). WordsSaid ty (w ∷ ws) b) m.2
     (record {
       spelled = ap (λ (x : List ℕ). x ∷ ws) (value_spelled ty w a.0 a.1 ∙ ap (value_word ty) (sym first))
           ∙ ap (λ (x : List (List ℕ)). value_word ty (pattern (take size (little_endian size a.0 ++ m.0))) ∷ x)
           (tail.spelled ∙ ap (λ (b : List ℕ). map (value_word ty) (first_elements size (length ws) b))
-              (sym (drop_front size (little_endian size a.0) m.0 len)));
+          (sym (drop_front size (little_endian size a.0) m.0 len)));
       each = longer (little_endian size a.0) m.0 size (length ws) len tail.each;
       small = All-append (λ b. b < 256) (little_endian size a.0) m.0 (bytes_small size a.0) tail.small;
     })

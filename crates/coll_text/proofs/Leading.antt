@@ -1,6 +1,6 @@
 -- The digits with which bytes begin.
-use Rattle.std.proofs.Common.{◌≡◌, ℕ, zero, suc, ◌+◌, ◌-◌, ◌*◌, ◌<◌, ◌≤◌, List, [], ◌∷◌, ◌++◌, length, get_or, take, drop, Some, true,
-    false, not, refl, arith, ap, sym, ◌∙◌}
+use Rattle.std.proofs.Common.{◌≡◌, ℕ, zero, suc, ◌+◌, ◌-◌, ◌*◌, ◌<◌, ◌≤◌, List, [], ◌∷◌, ◌++◌, length, get_or, take, drop, Some, true}
+use Rattle.std.proofs.Common.{false, not, refl, arith, ap, sym, ◌∙◌}
 use Rattle.std.specs.Prelude.{◌==◌}
 use Rattle.std.specs.List.{list_all}
 use Rattle.std.proofs.Math.Bool.{and-true}
@@ -39,7 +39,7 @@ pub last_word : (line word back : List ℕ) (n : ℕ) → word ≡ take n line �
     list_all is_digit (take n line) ≡ true → words line ≡ word ∷ []
 last_word line word back n front is none digits =
     let whole : line ≡ word ++ [] = sym (take-append-drop n line)
-          ∙ (ap (λ v. v ++ drop n line) (sym front) ∙ ap (λ v. word ++ v) (sym is ∙ none)) in
+    ∙ (ap (λ v. v ++ drop n line) (sym front) ∙ ap (λ v. word ++ v) (sym is ∙ none)) in
     let all : list_all is_digit word ≡ true = ap (list_all is_digit) front ∙ digits in
     ap words (whole ∙ append-nil word) ∙ slice_split_none (λ b. b == 32) word (none_is is_digit 32 word no_space all)
 
@@ -48,7 +48,7 @@ pub word_before : (line word back rest : List ℕ) (n b : ℕ) → word ≡ take
 word_before line word back rest n b front is next space digits =
     let cut : drop n line ≡ 32 ∷ rest = sym is ∙ (next ∙ ap (λ v. v ∷ rest) space) in
     let whole : line ≡ word ++ 32 ∷ rest = sym (take-append-drop n line)
-          ∙ (ap (λ v. v ++ drop n line) (sym front) ∙ ap (λ v. word ++ v) cut) in
+    ∙ (ap (λ v. v ++ drop n line) (sym front) ∙ ap (λ v. word ++ v) cut) in
     let all : list_all is_digit word ≡ true = ap (list_all is_digit) front ∙ digits in
     ap words whole ∙ slice_split_at (λ b. b == 32) word 32 rest (none_is is_digit 32 word no_space all) refl
 

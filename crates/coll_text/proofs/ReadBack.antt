@@ -1,6 +1,6 @@
 -- What is written is read back: numbers, words parted by spaces, and lines of values.
-use Rattle.std.proofs.Common.{◌≡◌, ℕ, zero, suc, ◌<◌, ◌≤◌, ◌^◌, ◌/◌, List, [], ◌∷◌, ◌++◌, length, get_or, Some, None, Ok, Err, Bool, true,
-    false, cond, ◌&&◌, not, refl, ap, ◌∙◌, arith, map}
+use Rattle.std.proofs.Common.{◌≡◌, ℕ, zero, suc, ◌<◌, ◌≤◌, ◌^◌, ◌/◌, List, [], ◌∷◌, ◌++◌, length, get_or, Some, None, Ok, Err, Bool, true}
+use Rattle.std.proofs.Common.{false, cond, ◌&&◌, not, refl, ap, ◌∙◌, arith, map}
 use Rattle.std.specs.Prelude.{nat_lt, ◌==◌, All, option_and_then}
 use Rattle.std.specs.List.{list_all, list_any, join_with_byte, AllByRecursion}
 use Rattle.std.specs.Fmt.{decimal}
@@ -50,7 +50,7 @@ no_zero_first (suc n) small more = first_decimal (suc n) (omega arith) small
 pub number_read : (n : ℕ) → n < 2 ^ 64 → number_of (decimal n) ≡ Some n
 number_read n small =
     let number : is_number (decimal n) ≡ true = is_one (decimal n) (digits_are n small) (decimal_nonempty n small) (no_zero_first n small)
-          in
+    in
     let value : with_digits 0 (decimal n) ≡ n = digits_value-decimal numerals n small in
     rw (number, value) refl
 
@@ -96,7 +96,7 @@ unsigned_read ty (b ∷ bs) n digits is lt =
     let p = both (is_digit b) (list_all is_digit bs) digits in
     let below : nat_lt n (too_large ty) ≡ true = test n (too_large ty) lt in
     rw (no_sign (is_signed ty) b p.0) (ap (option_and_then (λ n. cond (nat_lt n (too_large ty)) (Some n) None)) is
-        ∙ ap (λ t. cond t (Some n) None) below)
+    ∙ ap (λ t. cond t (Some n) None) below)
   where
     test : (a b : ℕ) → a < b → nat_lt a b ≡ true
     test a b lt = grind (arith, nat_tests)
@@ -141,7 +141,7 @@ values_line_read ty v vs h =
     let small = all_small ty (v ∷ vs) h in
     ap (data_line ty (length (v ∷ vs))) (words_of_joined (decimal v) (map decimal vs) (spaceless (v ∷ vs) small))
     ∙ picked (length (map decimal (v ∷ vs)) == length (v ∷ vs)) (list_any is_empty (map decimal (v ∷ vs)))
-        (same (length (map decimal (v ∷ vs))) (length (v ∷ vs)) (as_many (v ∷ vs))) (none_empty (v ∷ vs) small)
+    (same (length (map decimal (v ∷ vs))) (length (v ∷ vs)) (as_many (v ∷ vs))) (none_empty (v ∷ vs) small)
   where
     same : (a b : ℕ) → a ≡ b → a == b ≡ true
     same a b e = grind (arith, nat_tests)

@@ -1,6 +1,6 @@
 -- The words that are written of the values of any type are read back.
-use Rattle.std.proofs.Common.{◌≡◌, ℕ, zero, suc, ◌+◌, ◌-◌, ◌*◌, ◌/◌, ◌%◌, ◌<◌, ◌≤◌, ◌^◌, List, [], ◌∷◌, ◌++◌, length, take, drop, Some,
-    None, Ok, Err, Bool, true, false, cond, ◌&&◌, not, refl, sym, ap, ◌∙◌, arith, map, subst}
+use Rattle.std.proofs.Common.{◌≡◌, ℕ, zero, suc, ◌+◌, ◌-◌, ◌*◌, ◌/◌, ◌%◌, ◌<◌, ◌≤◌, ◌^◌, List, [], ◌∷◌, ◌++◌, length, take, drop, Some}
+use Rattle.std.proofs.Common.{None, Ok, Err, Bool, true, false, cond, ◌&&◌, not, refl, sym, ap, ◌∙◌, arith, map, subst}
 use Rattle.std.specs.Prelude.{nat_lt, nat_le, ◌==◌, All, option_and_then}
 use Rattle.std.specs.List.{list_all, list_any, flat_map, join_with_byte, AllByRecursion}
 use Rattle.std.specs.Fmt.{decimal}
@@ -73,7 +73,7 @@ negative_read ty n lt le =
     let most = is_true m (half ty) (omega (arith, two, le)) in
     ap (option_and_then (λ n. cond (nat_lt 0 n && nat_le n (half ty)) (Some (span ty - n)) None)) number
     ∙ ap (λ t. cond (t && nat_le m (half ty)) (Some (span ty - m)) None) above ∙ ap (λ t. cond t (Some (span ty - m)) None) most
-        ∙ ap (λ n. Some n) (back n (span ty) lt)
+    ∙ ap (λ n. Some n) (back n (span ty) lt)
   where
     back : (n s : ℕ) → n < s → s - (s - n) ≡ n
     back n s lt = omega arith
@@ -89,15 +89,15 @@ word_read ty n lt = go (is_signed ty) (nat_le (half ty) n) refl refl
     go : (s t : Bool) → is_signed ty ≡ s → nat_le (half ty) n ≡ t → value_of ty (value_word ty n) ≡ Some n
     go true true es et =
         ap (value_of ty) (ap (λ s. cond (s && nat_le (half ty) n) (45 ∷ decimal (span ty - n)) (decimal n)) es
-            ∙ ap (λ t. cond t (45 ∷ decimal (span ty - n)) (decimal n)) et)
+        ∙ ap (λ t. cond t (45 ∷ decimal (span ty - n)) (decimal n)) et)
         ∙ signed_read ty (decimal (span ty - n)) es ∙ negative_read ty n lt (reaches (half ty) n et)
     go true false es et =
         ap (value_of ty) (ap (λ s. cond (s && nat_le (half ty) n) (45 ∷ decimal (span ty - n)) (decimal n)) es
-            ∙ ap (λ t. cond t (45 ∷ decimal (span ty - n)) (decimal n)) et)
+        ∙ ap (λ t. cond t (45 ∷ decimal (span ty - n)) (decimal n)) et)
         ∙ value_read ty n (subst (λ s. n < cond s (half ty) (span ty)) (sym es) (misses (half ty) n et))
     go false t es et =
         ap (value_of ty) (ap (λ s. cond (s && nat_le (half ty) n) (45 ∷ decimal (span ty - n)) (decimal n)) es)
-            ∙ value_read ty n (subst (λ s. n < cond s (half ty) (span ty)) (sym es) lt)
+        ∙ value_read ty n (subst (λ s. n < cond s (half ty) (span ty)) (sym es) lt)
 
 pub word_solid : (ty : ElemType) (n : ℕ) → n < span ty → list_all is_solid (value_word ty n) ≡ true
 word_solid ty n lt = go (is_signed ty && nat_le (half ty) n) refl
@@ -145,9 +145,9 @@ unfolding data_line
 line_read ty count [] h e some = absurd (omega (arith, e))
 line_read ty count (v ∷ vs) h e some =
     ap (data_line ty count) (words_of_joined (value_word ty v) (map (value_word ty) vs)
-        (solid_apart (map (value_word ty) (v ∷ vs)) (words_solid ty (v ∷ vs) h)))
+    (solid_apart (map (value_word ty) (v ∷ vs)) (words_solid ty (v ∷ vs) h)))
     ∙ picked (length (map (value_word ty) (v ∷ vs)) == count) (list_any is_empty (map (value_word ty) (v ∷ vs)))
-        (same (length (map (value_word ty) (v ∷ vs))) count (as_many ty (v ∷ vs) ∙ e)) (none_empty ty (v ∷ vs) h)
+    (same (length (map (value_word ty) (v ∷ vs))) count (as_many ty (v ∷ vs) ∙ e)) (none_empty ty (v ∷ vs) h)
   where
     same : (a b : ℕ) → a ≡ b → a == b ≡ true
     same a b e = grind (arith, nat_tests)
@@ -181,10 +181,10 @@ first_back w zero (b ∷ bs) e h = absurd (omega (arith, e))
 first_back w (suc n) bytes e h =
     let more : suc n * w ≡ w + n * w = once_more n w in
     ap (λ (x : List ℕ). x ++ flat_map (little_endian w) (first_elements w n (drop w bytes)))
-        (bytes_back w (take w bytes) (front w (n * w) bytes (e ∙ more))
-        (recursion_from_All (λ b. b < 256) (take w bytes) (All-take (λ b. b < 256) w bytes h)))
+    (bytes_back w (take w bytes) (front w (n * w) bytes (e ∙ more))
+    (recursion_from_All (λ b. b < 256) (take w bytes) (All-take (λ b. b < 256) w bytes h)))
     ∙ ap (λ (x : List ℕ). take w bytes ++ x) (first_back w n (drop w bytes) (others w (n * w) bytes (e ∙ more))
-        (All-drop (λ b. b < 256) w bytes h)) ∙ split w bytes
+    (All-drop (λ b. b < 256) w bytes h)) ∙ split w bytes
   where
     once_more : (n w : ℕ) → suc n * w ≡ w + n * w
     once_more n w = grind arith
@@ -197,8 +197,10 @@ first_back w (suc n) bytes e h =
 
 first_small : (ty : ElemType) (n : ℕ) (bytes : List ℕ) → AllByRecursion (λ v. v < span ty) (first_elements (bytes_of ty) n bytes)
 first_small ty zero bytes = tt
-first_small ty (suc n) bytes = (subst (λ s. pattern (take (bytes_of ty) bytes) < s) (sym (span-is ty)) (pattern-lt (bytes_of ty) bytes),
-    first_small ty n (drop (bytes_of ty) bytes))
+first_small ty (suc n) bytes = (
+  subst (λ s. pattern (take (bytes_of ty) bytes) < s) (sym (span-is ty)) (pattern-lt (bytes_of ty) bytes),
+  first_small ty n (drop (bytes_of ty) bytes),
+)
 
 -- the line of a list is read as it, and every byte of it is seen or a space
 pub data_read : (ty : ElemType) (count : ℕ) (bytes : List ℕ) → 1 ≤ count → length bytes ≡ count * bytes_of ty → All (λ b. b < 256) bytes →
@@ -207,9 +209,9 @@ unfolding elements
 data_read ty count bytes some e h =
     let n : length bytes / bytes_of ty ≡ count = whole_elements ty count (length bytes) e in
     line_read ty count (first_elements (bytes_of ty) (length bytes / bytes_of ty) bytes)
-        (first_small ty (length bytes / bytes_of ty) bytes) (first_count (bytes_of ty) (length bytes / bytes_of ty) bytes ∙ n) some
+    (first_small ty (length bytes / bytes_of ty) bytes) (first_count (bytes_of ty) (length bytes / bytes_of ty) bytes ∙ n) some
     ∙ ap (λ (x : List ℕ). Ok x) (ap (λ m. flat_map (little_endian (bytes_of ty)) (first_elements (bytes_of ty) m bytes)) n
-        ∙ first_back (bytes_of ty) count bytes e h)
+    ∙ first_back (bytes_of ty) count bytes e h)
 
 pub elements_solid : (ty : ElemType) (bytes : List ℕ) → AllByRecursion (λ w. list_all is_solid w ≡ true)
     (map (value_word ty) (elements ty bytes))

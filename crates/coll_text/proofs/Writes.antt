@@ -1,6 +1,6 @@
 -- Lines and elements, written word by word.
-use Rattle.std.proofs.Common.{◌≡◌, ℕ, zero, suc, ◌+◌, ◌-◌, ◌*◌, ◌/◌, ◌<◌, ◌≤◌, List, [], ◌∷◌, ◌++◌, length, take, drop, get_or, map, refl,
-    sym, ap, ◌∙◌, arith, add-one, append_assoc, mul-div_cancel}
+use Rattle.std.proofs.Common.{◌≡◌, ℕ, zero, suc, ◌+◌, ◌-◌, ◌*◌, ◌/◌, ◌<◌, ◌≤◌, List, [], ◌∷◌, ◌++◌, length, take, drop, get_or, map, refl}
+use Rattle.std.proofs.Common.{sym, ap, ◌∙◌, arith, add-one, append_assoc, mul-div_cancel}
 use Rattle.std.specs.List.{flat_map, join_with_byte}
 use Rattle.std.proofs.lemmas.List.{append-nil}
 use Rattle.std.proofs.lemmas.List.Folds.{flat_map-map}
@@ -45,7 +45,7 @@ unfolding elements
 first_of ty bytes le =
     ap (λ n. first_elements (bytes_of ty) n bytes) (fewer ty (length bytes) le)
     ∙ ap (λ n. pattern (take (bytes_of ty) bytes) ∷ first_elements (bytes_of ty) (n / bytes_of ty) (drop (bytes_of ty) bytes))
-        (shorter (bytes_of ty) bytes le)
+    (shorter (bytes_of ty) bytes le)
 
 pub none_of : (ty : ElemType) (bytes : List ℕ) → length bytes < bytes_of ty → elements ty bytes ≡ []
 unfolding elements
@@ -64,12 +64,12 @@ word_step f out words i d lt =
 -- one value written
 pub value_step : (ty : ElemType) (out rest : List ℕ) → bytes_of ty ≤ length rest
     → ((out ++ 32 ∷ []) ++ value_word ty (pattern (take (bytes_of ty) rest))) ++ flat_map (λ x. 32 ∷ value_word ty x)
-        (elements ty (drop (bytes_of ty) rest)) ≡ out ++ flat_map (λ x. 32 ∷ value_word ty x) (elements ty rest)
+    (elements ty (drop (bytes_of ty) rest)) ≡ out ++ flat_map (λ x. 32 ∷ value_word ty x) (elements ty rest)
 value_step ty out rest le =
     append_assoc (out ++ 32 ∷ []) (value_word ty (pattern (take (bytes_of ty) rest)))
-        (flat_map (λ x. 32 ∷ value_word ty x) (elements ty (drop (bytes_of ty) rest)))
+    (flat_map (λ x. 32 ∷ value_word ty x) (elements ty (drop (bytes_of ty) rest)))
     ∙ append_assoc out (32 ∷ []) (value_word ty (pattern (take (bytes_of ty) rest)) ++ flat_map (λ x. 32 ∷ value_word ty x)
-        (elements ty (drop (bytes_of ty) rest)))
+    (elements ty (drop (bytes_of ty) rest)))
     ∙ ap (λ xs. out ++ flat_map (λ x. 32 ∷ value_word ty x) xs) (sym (first_of ty rest le))
 
 -- a line is its first word, the others with a space before each, and LF
@@ -79,12 +79,12 @@ line_written f out w ws =
     append_assoc (out ++ f w) (flat_map (λ w. 32 ∷ f w) ws) (10 ∷ []) ∙ append_assoc out (f w) (flat_map (λ w. 32 ∷ f w) ws ++ 10 ∷ [])
     ∙ ap (λ (x : List ℕ). out ++ x) (sym (append_assoc (f w) (flat_map (λ w. 32 ∷ f w) ws) (10 ∷ []))
     ∙ ap (λ (x : List ℕ). (f w ++ x) ++ 10 ∷ []) (sym (flat_map-map (λ w. 32 ∷ w) f ws))
-        ∙ ap (λ (x : List ℕ). x ++ 10 ∷ []) (sym (join_spaced (f w) (map f ws))))
+    ∙ ap (λ (x : List ℕ). x ++ 10 ∷ []) (sym (join_spaced (f w) (map f ws))))
 
 -- a data line is its first value, the others with a space before each, and LF
 pub data_written : (ty : ElemType) (out bytes : List ℕ) → bytes_of ty ≤ length bytes
     → ((out ++ value_word ty (pattern (take (bytes_of ty) bytes))) ++ flat_map (λ x. 32 ∷ value_word ty x)
-        (elements ty (drop (bytes_of ty) bytes))) ++ 10 ∷ []
+    (elements ty (drop (bytes_of ty) bytes))) ++ 10 ∷ []
     ≡ out ++ (join_with_byte 32 (map (value_word ty) (elements ty bytes)) ++ 10 ∷ [])
 data_written ty out bytes le =
     line_written (value_word ty) out (pattern (take (bytes_of ty) bytes)) (elements ty (drop (bytes_of ty) bytes))

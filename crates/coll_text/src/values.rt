@@ -229,7 +229,8 @@ pub fn data_line(
     count: u64,
     line: &[u8],
 ) -> Result<Vec<u8>, ValuesFault>
-    ensures exact { let read = data_line ty count (words line.now) in MatchResult result (λ bytes. read ≡ Ok bytes.items) (λ fault. Fails fault read) }
+    ensures exact { let read = data_line ty count (words line.now) in MatchResult result (λ bytes. read ≡ Ok bytes.items)
+        (λ fault. Fails fault read) }
 {
     let mut out = Vec::new(alloc);
     let mut left = count;

@@ -8,8 +8,8 @@ ghost use Rattle.coll_text.specs.Text.{line};
 ghost use Rattle.coll_text.specs.Elements.{elements, value_word};
 
 use crate::values::{half, is_signed};
-use lane_ops::elements::read_pattern;
 use itoa::Buffer;
+use lane_ops::elements::read_pattern;
 use ptl_types::ElemType;
 use std::alloc::AllocError;
 

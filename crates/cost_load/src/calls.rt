@@ -2,8 +2,8 @@
 
 use portals_ni::Nic;
 use ptl_types::{
-    AckRequest, Appended, AtomicOp, Count, TriggeredOp, ElemType, Entry, GetArgs, Handle, List, Message,
-    Outcome, PutArgs, SwapOp,
+    AckRequest, Appended, AtomicOp, Count, ElemType, Entry, GetArgs, Handle, List, Message,
+    Outcome, PutArgs, SwapOp, TriggeredOp,
 };
 
 /// One success.

@@ -2,7 +2,8 @@
 //! holds its value, barriers are kept, answers are awaited where they come; of every moment of an interleaving, strays and windows
 //! included; of one wave of probes; and how much the lanes and the ranks of a cut carry.
 
-ghost use Rattle.std.specs.Prelude.{ℕ, suc, Bool, true, false, None, ◌↔◌, if◌then◌else◌, ◌+◌, ◌<◌, ◌≤◌, ◌≡◌, count_by, sum_by, IsTrue, List, [], ◌∷◌, ◌++◌, length};
+ghost use Rattle.std.specs.Prelude.{ℕ, suc, Bool, true, false, None, ◌↔◌, if◌then◌else◌, ◌+◌, ◌<◌, ◌≤◌, ◌≡◌, count_by, sum_by, IsTrue};
+ghost use Rattle.std.specs.Prelude.{List, [], ◌∷◌, ◌++◌, length};
 ghost use Rattle.ptl_types.specs.declared.headers.Lane.{Lane};
 ghost use Rattle.ptl_types.specs.declared.headers.Lane.TheVariants.{Answer};
 ghost use Rattle.ptl_types.specs.Messages.{Sent};

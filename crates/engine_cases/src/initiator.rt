@@ -1,14 +1,14 @@
 //! A descriptor from its binding to its release, and an answer that nobody awaits.
 
 use crate::answers::gives;
-use ni_objects::counters::Counter;
-use ni_objects::queues::Queue;
-use ni_objects::handles::Store;
 use initiator_engine::Initiator;
+use ni_objects::counters::Counter;
 use ni_objects::descriptors::Region;
+use ni_objects::handles::Store;
+use ni_objects::queues::Queue;
 use ptl_types::{
-    AckRequest, Bytes, TriggeredOp, Descriptor, ElemType, GetArgs, Handle, Header, Limits, Message,
-    MessageKind, NiFault, Outcome, PutArgs,
+    AckRequest, Bytes, Descriptor, ElemType, GetArgs, Handle, Header, Limits, Message, MessageKind,
+    NiFault, Outcome, PutArgs, TriggeredOp,
 };
 use std::alloc::Global;
 use std::process::Abort;

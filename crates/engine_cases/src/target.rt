@@ -2,9 +2,9 @@
 
 use crate::answers::gives;
 use ni_objects::counters::Counter;
-use ni_objects::queues::Queue;
-use ni_objects::handles::Store;
 use ni_objects::descriptors::Region;
+use ni_objects::handles::Store;
+use ni_objects::queues::Queue;
 use ptl_types::{
     Appended, Bytes, Entry, Handle, Header, Limits, List, Message, NiFault, NoMemory, Outcome,
 };
@@ -138,7 +138,13 @@ fn a_put_to_no_index_is_dropped(rt: HostRuntime) -> Result<(), Fail> {
     let mut eqs: Store<Queue> = Store::open(rt.alloc(), 0)?;
     let mut target = Target::open(rt.alloc(), 0, &LIMITS)?;
     let message = Message::new(PUT, Bytes::empty(rt.alloc()));
-    let arrived = target.request(&mut region, &mut cts, &mut eqs, message, &mut SpareBuffers::none());
+    let arrived = target.request(
+        &mut region,
+        &mut cts,
+        &mut eqs,
+        message,
+        &mut SpareBuffers::none(),
+    );
     assert_eq!(rt; arrived.outcome, Outcome::Dropped);
     assert!(rt; region.as_slice() == [7].as_slice());
     Ok(())

@@ -1,6 +1,6 @@
 -- Whether a rule is kept, from a test of it.
-use Rattle.std.proofs.Common.{ℕ, zero, suc, Bool, true, false, cond, ◌≡◌, ◌==◌, ◌<◌, ◌≤◌, nat_lt, Some, None, refl, ap, arith, lt-ltb,
-    le-ltb, eq-eqb}
+use Rattle.std.proofs.Common.{ℕ, zero, suc, Bool, true, false, cond, ◌≡◌, ◌==◌, ◌<◌, ◌≤◌, nat_lt, Some, None, refl, ap, arith, lt-ltb}
+use Rattle.std.proofs.Common.{le-ltb, eq-eqb}
 use Rattle.std.proofs.lemmas.Bool.{ne_eqb}
 use Rattle.guarded_ni.specs.declared.faults.Misuse.{Misuse}
 use Rattle.guarded_ni.specs.Misuses.{unless}

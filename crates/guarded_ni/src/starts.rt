@@ -12,7 +12,7 @@ ghost use Rattle.guarded_ni.specs.Misuses.{agree, halves_misuse, length_misuse, 
 use crate::faults::{CallFault, Misuse};
 use portals_ni::Nic;
 use ptl_types::{
-    AckRequest, AtomicOp, TriggeredOp, ElemType, GetArgs, Handle, Message, PutArgs, Rank, SwapOp,
+    AckRequest, AtomicOp, ElemType, GetArgs, Handle, Message, PutArgs, Rank, SwapOp, TriggeredOp,
 };
 
 /// The first of two rules that are broken.
@@ -201,7 +201,12 @@ pub fn swap(
 }
 
 /// Posts a triggered operation, as `Nic::triggered` does. `Misused` as for the plain operation.
-pub fn triggered(nic: &mut Nic, deed: TriggeredOp, ct: Handle, threshold: u64) -> Result<u32, CallFault>
+pub fn triggered(
+    nic: &mut Nic,
+    deed: TriggeredOp,
+    ct: Handle,
+    threshold: u64,
+) -> Result<u32, CallFault>
     ensures { Guards (start_misuse deed nic.old.ranks nic.old.limits) nic.old nic.new
         (λ r. MayLackMemory (triggered deed ct threshold nic.old) nic.old (ends nic.new r)) result }
 {

@@ -1,6 +1,6 @@
 -- What the descriptors name, by slot: as one is bound or released, and as one awaits more or fewer answers.
-use Rattle.std.proofs.Common.{◌≡◌, ℕ, ◌<◌, ◌^◌, ◌-◌, Bool, true, false, ◌||◌, List, [], ◌∷◌, length, Option, Some, None, nat_lt, nat_le,
-    refl, ap, ◌∙◌, arith, replicate}
+use Rattle.std.proofs.Common.{◌≡◌, ℕ, ◌<◌, ◌^◌, ◌-◌, Bool, true, false, ◌||◌, List, [], ◌∷◌, length, Option, Some, None, nat_lt, nat_le}
+use Rattle.std.proofs.Common.{refl, ap, ◌∙◌, arith, replicate}
 use Rattle.std.specs.Prelude.{All, IfSome}
 use Rattle.std.proofs.lemmas.List.{length-replicate}
 use Rattle.std.proofs.lemmas.Bool.Decides.{nat_tests}
@@ -16,8 +16,8 @@ use Rattle.ni_model.specs.Calls.{bound}
 use Rattle.ni_model.specs.Refusals.{md_names_ct, md_names_eq}
 use Rattle.ni_objects.specs.users.Rows.{one_at, more, fewer, count_at, IsAlone}
 use Rattle.ni_objects.specs.users.Sums.{sum_of}
-use Rattle.ni_objects.proofs.users.RowLemmas.{counts-none, counts-more, counts-fewer, counts-same, more-long, fewer-long, add-room,
-    one-at_most, names-step}
+use Rattle.ni_objects.proofs.users.RowLemmas.{counts-none, counts-more, counts-fewer, counts-same, more-long, fewer-long, add-room}
+use Rattle.ni_objects.proofs.users.RowLemmas.{one-at_most, names-step}
 use Rattle.ni_objects.proofs.users.SumLemmas.{sum-push, sum-less, sum-kept, sum-at_most, named-changed, once-new, once-without}
 use Rattle.initiator_engine.specs.Initiators.{ct_users, eq_users, AreUsers}
 
@@ -117,7 +117,7 @@ pub names-ct : (ct : Handle) (xs : List (Live Bound)) → All (λ (x : Live Boun
 names-ct ct [] alone = refl
 names-ct ct (x ∷ xs) alone =
     names-step ct x.value.md.ct (md_names_ct ct xs) (sum_of (by_ct ct.slot) xs)
-        (All-head (λ (x : Live Bound). IsAlone ct x.value.md.ct) x xs alone)
+    (All-head (λ (x : Live Bound). IsAlone ct x.value.md.ct) x xs alone)
     (names-ct ct xs (All-tail (λ (x : Live Bound). IsAlone ct x.value.md.ct) x xs alone))
 
 pub names-eq : (eq : Handle) (xs : List (Live Bound)) → All (λ (x : Live Bound). IsAlone eq x.value.md.eq) xs →
@@ -125,5 +125,5 @@ pub names-eq : (eq : Handle) (xs : List (Live Bound)) → All (λ (x : Live Boun
 names-eq eq [] alone = refl
 names-eq eq (x ∷ xs) alone =
     names-step eq x.value.md.eq (md_names_eq eq xs) (sum_of (by_eq eq.slot) xs)
-        (All-head (λ (x : Live Bound). IsAlone eq x.value.md.eq) x xs alone)
+    (All-head (λ (x : Live Bound). IsAlone eq x.value.md.eq) x xs alone)
     (names-eq eq xs (All-tail (λ (x : Live Bound). IsAlone eq x.value.md.eq) x xs alone))

@@ -1,6 +1,6 @@
 -- A walk over the slots of a table, and what it tells of its things.
-use Rattle.std.proofs.Common.{◌≡◌, ℕ, ◌+◌, ◌<◌, ◌==◌, nat_lt, Bool, true, false, ◌||◌, List, [], ◌∷◌, Some, if◌then◌else◌, refl, ap, ◌∙◌,
-    arith}
+use Rattle.std.proofs.Common.{◌≡◌, ℕ, ◌+◌, ◌<◌, ◌==◌, nat_lt, Bool, true, false, ◌||◌, List, [], ◌∷◌, Some, if◌then◌else◌, refl, ap, ◌∙◌}
+use Rattle.std.proofs.Common.{arith}
 use Rattle.std.specs.Prelude.{All}
 use Rattle.std.proofs.lemmas.Bool.Decides.{nat_tests}
 use Rattle.std.proofs.lemmas.List.Elements.{All-head, All-tail, All-cons, All-nil}
@@ -44,20 +44,20 @@ slots-other f n v (x ∷ xs) below only other =
     All-cons (λ (x : Live Bound). x.handle.slot < n + 1 → f x.value ≡ false) x xs
     (λ lt. elim (x.handle.slot == n) as (λ b. (x.handle.slot == n) ≡ b → f x.value ≡ false) [
       | true ↦ λ is. let same : x.value ≡ v = All-head (λ (x : Live Bound). x.handle.slot ≡ n → x.value ≡ v) x xs only
-                           (grind (arith, nat_tests)) in ap f same ∙ other
+          (grind (arith, nat_tests)) in ap f same ∙ other
       | false ↦ λ is. All-head (λ (x : Live Bound). x.handle.slot < n → f x.value ≡ false) x xs below (grind (arith, nat_tests))
     ] refl)
     (slots-other f n v xs (All-tail (λ (x : Live Bound). x.handle.slot < n → f x.value ≡ false) x xs below)
-        (All-tail (λ (x : Live Bound). x.handle.slot ≡ n → x.value ≡ v) x xs only) other)
+    (All-tail (λ (x : Live Bound). x.handle.slot ≡ n → x.value ≡ v) x xs only) other)
 
 pub slots-end : (f : Bound → Bool) (n : ℕ) (xs : List (Live Bound)) → NoneBelow f n xs → All (λ (x : Live Bound). x.handle.slot < n) xs →
     some_thing f xs ≡ false
 slots-end f n [] below all = refl
 slots-end f n (x ∷ xs) below all =
     let first : f x.value ≡ false = All-head (λ (x : Live Bound). x.handle.slot < n → f x.value ≡ false) x xs below
-          (All-head (λ (x : Live Bound). x.handle.slot < n) x xs all) in
+    (All-head (λ (x : Live Bound). x.handle.slot < n) x xs all) in
     let rest : some_thing f xs ≡ false = slots-end f n xs (All-tail (λ (x : Live Bound). x.handle.slot < n → f x.value ≡ false) x xs
-          below) (All-tail (λ (x : Live Bound). x.handle.slot < n) x xs all) in
+    below) (All-tail (λ (x : Live Bound). x.handle.slot < n) x xs all) in
     rw (first, rest) refl
 
 or-true : (a : Bool) → a || true ≡ true

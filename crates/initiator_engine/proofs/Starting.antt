@@ -1,10 +1,10 @@
 -- A start that is allowed has a header, its parts fit, and what it sends belongs together.
-use Rattle.std.proofs.Common.{◌≡◌, ℕ, ◌%◌, ◌≤◌, Bool, true, false, ◌&&◌, List, length, Option, Some, None, is_some, refl, sym, ap, subst,
-    arith}
+use Rattle.std.proofs.Common.{◌≡◌, ℕ, ◌%◌, ◌≤◌, Bool, true, false, ◌&&◌, List, length, Option, Some, None, is_some, refl, sym, ap, subst}
+use Rattle.std.proofs.Common.{arith}
 use Rattle.std.proofs.Math.Nat.{mod_self}
 use Rattle.ptl_types.specs.declared.headers.Header.{Header}
-use Rattle.ptl_types.specs.declared.headers.MessageKind.TheVariants.{Put as PutKind, Atomic as AtomicKind, FetchAtomic as FetchAtomicKind,
-    Swap as SwapKind}
+use Rattle.ptl_types.specs.declared.headers.MessageKind.TheVariants.{Put as PutKind, Atomic as AtomicKind, FetchAtomic as FetchAtomicKind}
+use Rattle.ptl_types.specs.declared.headers.MessageKind.TheVariants.{Swap as SwapKind}
 use Rattle.ptl_types.specs.declared.elements.ElemType.TheVariants.{U8}
 use Rattle.ptl_types.specs.declared.calls.Limits.{Limits}
 use Rattle.ptl_types.specs.declared.calls.NiFault.{NiFault}
@@ -20,8 +20,8 @@ use Rattle.ni_model.specs.Tables.{Table}
 use Rattle.ni_model.specs.Queues.{Waiting}
 use Rattle.ni_model.specs.Append.{need}
 use Rattle.ni_model.specs.Answers.{Home, home, bound_at}
-use Rattle.ni_model.specs.Starts.{header_of, put_header, get_header, fetch_header, put_args, bytes_read, counted_on, send_counter,
-    sent_from, started, started_by}
+use Rattle.ni_model.specs.Starts.{header_of, put_header, get_header, fetch_header, put_args, bytes_read, counted_on, send_counter}
+use Rattle.ni_model.specs.Starts.{sent_from, started, started_by}
 use Rattle.ni_model.specs.Refusals.{deed_fault}
 use Rattle.ni_model.specs.Conditions.{MayStart}
 use Rattle.initiator_engine.specs.Initiators.{is_start, room_for, args_fit, args_length, args_bytes, has_started}
@@ -86,14 +86,14 @@ start-fills rank (Get g) h b ranks l e may len room = same-header b (get_header 
     (record { bytes = len; room = room; whole = λ is. cc; op = refl; swap = refl; one = λ is. cc })
 start-fills rank (Atomic a op ty) h b ranks l e may len room =
     same-header b (put_header rank AtomicKind a (Some op) ty) h e
-        (record { bytes = len; room = omega arith; whole = λ is. may.1.whole; op = refl; swap = refl; one = λ is. cc })
+    (record { bytes = len; room = omega arith; whole = λ is. may.1.whole; op = refl; swap = refl; one = λ is. cc })
 start-fills rank (FetchAtomic g a op ty) h b ranks l e may len room =
     same-header b (fetch_header rank FetchAtomicKind g a (Some op) None ty 0) h e
-        (record { bytes = len; room = omega arith; whole = λ is. may.1.whole; op = refl; swap = refl; one = λ is. cc })
+    (record { bytes = len; room = omega arith; whole = λ is. may.1.whole; op = refl; swap = refl; one = λ is. cc })
 start-fills rank (Swap g a op ty operand) h b ranks l e may len room =
     let whole : a.length % bytes_of ty ≡ 0 = rw may.1 (mod_self (bytes_of ty)) in
     same-header b (fetch_header rank SwapKind g a None (Some op) ty operand) h e
-        (record { bytes = len; room = omega arith; whole = λ is. whole; op = refl; swap = refl; one = λ is. may.1 })
+    (record { bytes = len; room = omega arith; whole = λ is. whole; op = refl; swap = refl; one = λ is. may.1 })
 start-fills rank (Inc ct by) h b ranks l e may len room = cc
 start-fills rank (Set ct to) h b ranks l e may len room = cc
 

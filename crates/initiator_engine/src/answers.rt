@@ -6,11 +6,11 @@ ghost use Rattle.ni_model.specs.Answers.{bound_at, is_due, memory_home, one_answ
 ghost use Rattle.ni_model.specs.Conditions.{IsBoundIn};
 ghost use Rattle.ptl_types.specs.Handles.{top};
 
-use ni_objects::delivery::raise;
-use ni_objects::queues::Queue;
-use ni_objects::handles::{Store, where_set};
-use ni_objects::descriptors::Region;
 use ni_model::Bound;
+use ni_objects::delivery::raise;
+use ni_objects::descriptors::Region;
+use ni_objects::handles::{Store, where_set};
+use ni_objects::queues::Queue;
 use ptl_types::{AckRequest, Count, Event, EventKind, Handle, Header, Message, MessageKind};
 
 /// Whether the answer is a reply, to a get, fetch-atomic or swap, and not an acknowledgement.

@@ -5,9 +5,9 @@ ghost use Rattle.ni_model.specs.Tables.{is_live};
 ghost use Rattle.ni_model.specs.Refusals.{holds_part, put_fits, get_fits, deed_is_live, deed_fits};
 
 use crate::answers::bound_of;
-use ni_objects::handles::Store;
 use ni_model::Bound;
-use ptl_types::{TriggeredOp, GetArgs, Handle, PutArgs};
+use ni_objects::handles::Store;
+use ptl_types::{GetArgs, Handle, PutArgs, TriggeredOp};
 
 /// Whether the descriptor is live.
 pub fn is_live(mds: &Store<Bound>, md: Handle) -> bool
@@ -51,7 +51,8 @@ pub fn deed_is_live(mds: &Store<Bound>, deed: &TriggeredOp) -> bool
         TriggeredOp::Put(args) => is_live(mds, args.md),
         TriggeredOp::Get(args) => is_live(mds, args.md),
         TriggeredOp::Atomic(args, _, _) => is_live(mds, args.md),
-        TriggeredOp::FetchAtomic(back, args, _, _) => is_live(mds, back.md) && is_live(mds, args.md),
+        TriggeredOp::FetchAtomic(back, args, _, _) => is_live(mds, back.md)
+            && is_live(mds, args.md),
         TriggeredOp::Swap(back, args, _, _, _) => is_live(mds, back.md) && is_live(mds, args.md),
         _ => true,
     }

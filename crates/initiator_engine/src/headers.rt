@@ -4,8 +4,8 @@ ghost use Rattle.std.specs.Prelude.{◌≡◌};
 ghost use Rattle.ni_model.specs.Starts.{put_header, get_header, fetch_header, header_of, put_args, counted_on};
 
 use ptl_types::{
-    AckRequest, AtomicOp, TriggeredOp, ElemType, GetArgs, Handle, Header, MessageKind, PutArgs, Rank,
-    SwapOp,
+    AckRequest, AtomicOp, ElemType, GetArgs, Handle, Header, MessageKind, PutArgs, Rank, SwapOp,
+    TriggeredOp,
 };
 
 /// The header of a put or of an atomic operation.
@@ -100,7 +100,13 @@ pub fn header_of(rank: Rank, deed: &TriggeredOp) -> Option<Header>
     ensures { result ≡ header_of rank deed.now }
 {
     match deed {
-        TriggeredOp::Put(args) => Some(put_header(rank, MessageKind::Put, args, None, ElemType::U8)),
+        TriggeredOp::Put(args) => Some(put_header(
+            rank,
+            MessageKind::Put,
+            args,
+            None,
+            ElemType::U8,
+        )),
         TriggeredOp::Get(args) => Some(get_header(rank, args)),
         TriggeredOp::Atomic(args, op, ty) => {
             Some(put_header(rank, MessageKind::Atomic, args, Some(*op), *ty))

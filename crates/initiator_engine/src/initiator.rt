@@ -8,25 +8,27 @@ ghost use Rattle.ni_model.specs.Starts.{started, sent_from, counted_on, send_cou
 ghost use Rattle.ni_model.specs.Refusals.{bind_fault, deed_fault, own_release_fault, md_names_ct, md_names_eq};
 ghost use Rattle.ni_model.specs.Conditions.{MayStart};
 ghost use Rattle.ni_objects.specs.users.Rows.{IsAlone, HasOwnSlot};
-ghost use Rattle.initiator_engine.specs.Initiators.{initiating, with_mds, AreBoundIn, by_fault, is_start, room_for, has_started, has_returned};
+ghost use Rattle.initiator_engine.specs.Initiators.{initiating, with_mds, AreBoundIn, by_fault, is_start, room_for, has_started};
+ghost use Rattle.initiator_engine.specs.Initiators.{has_returned};
 
 use crate::answers::{await_less, bound_of, bring, counter_home, is_due, one_answer, raise_answer};
 use crate::checks::{deed_fits, deed_is_live, is_live};
 use crate::headers::{counted_on, header_of, put_args};
 use crate::named::some_awaits;
 use crate::starts::{await_more, read_bytes, send_counter, send_event, send_queue};
+use ni_model::Bound;
 use ni_objects::counters::Counter;
 use ni_objects::delivery::{count, raise, successes};
-use ni_objects::queues::Queue;
-use ni_objects::handles::{Store, is_live_or_none};
 use ni_objects::descriptors::Region;
-use ni_model::Bound;
+use ni_objects::handles::{Store, is_live_or_none};
+use ni_objects::queues::Queue;
+use ni_objects::users::Users;
 use ptl_types::{
-    Bytes, TriggeredOp, Descriptor, Handle, Header, Limits, Message, NiFault, NoMemory, Outcome, Rank,
+    Bytes, Descriptor, Handle, Header, Limits, Message, NiFault, NoMemory, Outcome, Rank,
+    TriggeredOp,
 };
 use std::alloc::Global;
 use std::marker::Model;
-use ni_objects::users::Users;
 
 /// An initiator. Its value is its rank, the number of ranks, its limits, and its memory descriptors with the answers that
 /// each awaits. `cts` and `eqs` count by slot the descriptors that name a counting event and an event queue.
@@ -71,7 +73,8 @@ fn started_with(
     deed: &TriggeredOp,
     header: &Header,
 ) -> Option<Handle>
-    ensures sent { (memory : List ℕ) → home mds.new memory cts.new eqs.new ≡ sent_from (home mds.old memory cts.old eqs.old) deed.now header.now }
+    ensures sent { (memory : List ℕ) → home mds.new memory cts.new eqs.new ≡ sent_from (home mds.old memory cts.old eqs.old) deed.now
+        header.now }
     ensures counted { result ≡ send_counter (bound_at (counted_on deed.now) mds.old) }
 {
     let bound = bound_of(mds, counted_on(deed));
@@ -260,7 +263,8 @@ impl Initiator {
         requires checked { deed_fault deed.now self.old.mds ≡ None }
         requires room { room_for deed.now ≤ room.room }
         requires inside { AreBoundIn (length region.now) self.old.mds }
-        ensures started { has_started (home self.new.mds region.now cts.new eqs.new) result.0 result.1 ≡ started self.old.rank (home self.old.mds region.now cts.old eqs.old) deed.now }
+        ensures started { has_started (home self.new.mds region.now cts.new eqs.new) result.0 result.1 ≡ started self.old.rank
+            (home self.old.mds region.now cts.old eqs.old) deed.now }
         ensures rest { self.new ≡ with_mds self.new.mds self.old }
     {
         let header = match header_of(self.rank, deed) {
@@ -284,7 +288,8 @@ impl Initiator {
         message: Message,
     ) -> (Outcome, Option<Handle>)
         requires { AreBoundIn (length region.old) self.old.mds }
-        ensures answered { has_returned (home self.new.mds region.new cts.new eqs.new) result.0 result.1 ≡ answered (home self.old.mds region.old cts.old eqs.old) message }
+        ensures answered { has_returned (home self.new.mds region.new cts.new eqs.new) result.0 result.1 ≡ answered
+            (home self.old.mds region.old cts.old eqs.old) message }
         ensures rest { self.new ≡ with_mds self.new.mds self.old }
     {
         // Brings the bound of the region's length to the proof.

@@ -3,8 +3,8 @@
 ghost use Rattle.std.specs.Prelude.{◌≡◌};
 ghost use Rattle.ni_model.specs.Answers.{is_awaited};
 
-use ni_objects::handles::Store;
 use ni_model::Bound;
+use ni_objects::handles::Store;
 
 /// Whether a descriptor awaits an answer. It goes through the slots of the table.
 pub fn some_awaits(mds: &Store<Bound>) -> bool

@@ -6,9 +6,9 @@ ghost use Rattle.ni_model.specs.Events.{send_event};
 ghost use Rattle.initiator_engine.specs.Initiators.{AreBoundIn, args_fit, args_length, args_bytes};
 
 use crate::answers::bound_of;
-use ni_objects::handles::{Store, where_set};
-use ni_objects::descriptors::Region;
 use ni_model::Bound;
+use ni_objects::descriptors::Region;
+use ni_objects::handles::{Store, where_set};
 use ptl_types::{Bytes, Event, EventKind, Handle, Header, PutArgs};
 
 /// The bytes that are sent, in the room that was brought.

@@ -7,7 +7,8 @@ use crate::steps::Step::{self, *};
 use crate::values::{DESCRIPTOR, ENTRY, EVENT, FIRST, HEADER, NOTHING, PUT};
 use ptl_types::NiFault::InUse;
 use ptl_types::{
-    AckRequest, TriggeredOp, Descriptor, Event, EventKind, Header, List, MessageKind, Outcome, PutArgs,
+    AckRequest, Descriptor, Event, EventKind, Header, List, MessageKind, Outcome, PutArgs,
+    TriggeredOp,
 };
 
 /// Rank 0 has a descriptor with a queue that counts acknowledgements, and rank 1 an entry at index 0.

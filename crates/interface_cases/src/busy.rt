@@ -5,7 +5,7 @@ use crate::steps::Call::*;
 use crate::steps::Step::{self, *};
 use crate::values::{DESCRIPTOR, ENTRY, EVENT, FIRST, HEADER, LINKED, ONE, PUT, SECOND, THIRD};
 use ptl_types::{
-    AckRequest, TriggeredOp, Descriptor, Entry, Event, EventKind, Header, List, Outcome, PutArgs,
+    AckRequest, Descriptor, Entry, Event, EventKind, Header, List, Outcome, PutArgs, TriggeredOp,
     UnexpectedHeader,
 };
 
@@ -24,7 +24,10 @@ pub const BUSY: &[Step] = &[
     Here(MeAppend(1, List::Priority, COUNTS), Linked(1)),
     Comes(PUT, &[9], Outcome::Overflow),
     Here(Start(TriggeredOp::Put(ASKS)), Sent),
-    Here(Triggered(TriggeredOp::Inc(SECOND, ONE), FIRST, 5), Number(0)),
+    Here(
+        Triggered(TriggeredOp::Inc(SECOND, ONE), FIRST, 5),
+        Number(0),
+    ),
     Here(Triggered(TriggeredOp::Put(NAMES), FIRST, 0), Number(1)),
 ];
 

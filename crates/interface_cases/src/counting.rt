@@ -6,7 +6,7 @@ use crate::steps::Call::*;
 use crate::steps::Step::{self, *};
 use crate::values::{DESCRIPTOR, ENTRY, FIRST, HEADER, ONE, PUT, SECOND};
 use ptl_types::NiFault::{CountFull, InUse, NoSpace, OutOfRegion, Stale};
-use ptl_types::{Count, TriggeredOp, Descriptor, Entry, Header, List, Outcome, PutArgs};
+use ptl_types::{Count, Descriptor, Entry, Header, List, Outcome, PutArgs, TriggeredOp};
 
 #[test]
 fn an_increment_waits_for_its_threshold(rt: HostRuntime) {
@@ -40,7 +40,10 @@ fn an_operation_is_ready_only_while_its_sum_is_reached(rt: HostRuntime) {
     const SCRIPT: &[Step] = &[
         Here(CtAlloc, Made(0)),
         Here(CtAlloc, Made(1)),
-        Here(Triggered(TriggeredOp::Inc(SECOND, ONE), FIRST, 3), Number(0)),
+        Here(
+            Triggered(TriggeredOp::Inc(SECOND, ONE), FIRST, 3),
+            Number(0),
+        ),
         Here(CtSet(FIRST, 3, 0), Done),
         Here(IsReady(0), Yes),
         Here(Ready, Number(0)),

@@ -2,7 +2,7 @@
 //! one for each reason. Of a fetching operation a stale handle is told before a part that reaches past its end.
 
 use crate::values::{GET, NOTHING, PUT, SECOND};
-use ptl_types::{AtomicOp, TriggeredOp, ElemType, GetArgs, PutArgs, SwapOp};
+use ptl_types::{AtomicOp, ElemType, GetArgs, PutArgs, SwapOp, TriggeredOp};
 
 const SUM: AtomicOp = AtomicOp::Sum;
 

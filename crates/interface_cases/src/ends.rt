@@ -4,7 +4,7 @@ use crate::sides::{Side, over};
 use crate::steps::Answer;
 use crate::values::{LIMITS, NOTHING};
 use ptl_types::{
-    Count, TriggeredOp, Descriptor, Entry, GetArgs, Handle, Header, Limits, NiFault, PutArgs, Rank,
+    Count, Descriptor, Entry, GetArgs, Handle, Header, Limits, NiFault, PutArgs, Rank, TriggeredOp,
     UnexpectedHeader,
 };
 use std::alloc::Global;

@@ -5,7 +5,7 @@ use crate::steps::Answer::*;
 use crate::steps::Call::*;
 use crate::steps::Step::{self, *};
 use crate::values::FIRST;
-use ptl_types::{AckRequest, TriggeredOp, Descriptor, Entry, List, Outcome, PutArgs};
+use ptl_types::{AckRequest, Descriptor, Entry, List, Outcome, PutArgs, TriggeredOp};
 
 /// An entry over the whole region, for match bits 5 from any rank.
 const ENTRY: Entry = Entry {

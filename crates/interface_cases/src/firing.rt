@@ -7,8 +7,8 @@ use crate::steps::Step::{self, *};
 use crate::values::{DESCRIPTOR, EVENT, FIRST, GET, HEADER, PUT, SECOND};
 use ptl_types::NiFault::InUse;
 use ptl_types::{
-    AckRequest, AtomicOp, Count, TriggeredOp, Descriptor, ElemType, Event, EventKind, GetArgs, Header,
-    MessageKind, Outcome, PutArgs, SwapOp,
+    AckRequest, AtomicOp, Count, Descriptor, ElemType, Event, EventKind, GetArgs, Header,
+    MessageKind, Outcome, PutArgs, SwapOp, TriggeredOp,
 };
 
 /// A put of the first two bytes, and its message's header.

@@ -7,8 +7,8 @@ use guarded_ni::{
 };
 use portals_ni::{Nic, fit};
 use ptl_types::{
-    AckRequest, AtomicOp, Bytes, TriggeredOp, ElemType, GetArgs, Handle, Limits, NiFault, PutArgs, Rank,
-    SwapOp,
+    AckRequest, AtomicOp, Bytes, ElemType, GetArgs, Handle, Limits, NiFault, PutArgs, Rank, SwapOp,
+    TriggeredOp,
 };
 use std::alloc::Global;
 use std::process::Abort;
@@ -90,12 +90,19 @@ fn start_fault(nic: &mut Nic, deed: TriggeredOp) -> Option<CallFault> {
         TriggeredOp::Get(args) => get(nic, args).err(),
         TriggeredOp::Atomic(args, op, ty) => atomic(nic, args, op, ty).err(),
         TriggeredOp::FetchAtomic(back, args, op, ty) => fetch_atomic(nic, back, args, op, ty).err(),
-        TriggeredOp::Swap(back, args, op, ty, operand) => swap(nic, back, args, op, ty, operand).err(),
+        TriggeredOp::Swap(back, args, op, ty, operand) => swap(
+            nic, back, args, op, ty, operand,
+        ).err(),
         TriggeredOp::Inc(_, _) | TriggeredOp::Set(_, _) => None,
     }
 }
 
-fn triggered_fault(nic: &mut Nic, deed: TriggeredOp, ct: Handle, threshold: u64) -> Option<CallFault> {
+fn triggered_fault(
+    nic: &mut Nic,
+    deed: TriggeredOp,
+    ct: Handle,
+    threshold: u64,
+) -> Option<CallFault> {
     triggered(nic, deed, ct, threshold).err()
 }
 
@@ -161,7 +168,10 @@ const ATOMICS_AND_SWAPS: &[(TriggeredOp, CallFault)] = &[
         TriggeredOp::Swap(GET, PUT, SwapOp::Swap, ElemType::U16, 7),
         CallFault::Misused(Misuse::PartialElement),
     ),
-    (TriggeredOp::Swap(GET, PUT, SwapOp::Swap, ElemType::U32, 7), STALE),
+    (
+        TriggeredOp::Swap(GET, PUT, SwapOp::Swap, ElemType::U32, 7),
+        STALE,
+    ),
 ];
 
 /// None of these starts is made, each for its reason.

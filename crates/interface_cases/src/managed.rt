@@ -7,7 +7,7 @@ use crate::steps::Call::*;
 use crate::steps::Step::{self, *};
 use crate::values::{ENTRY, FIRST, FREED, LINKED, ONCE, ONE, PUT, SECOND, UNLINKED};
 use ptl_types::NiFault::InUse;
-use ptl_types::{AtomicOp, TriggeredOp, ElemType, Entry, Event, EventKind, List, Outcome, PutArgs};
+use ptl_types::{AtomicOp, ElemType, Entry, Event, EventKind, List, Outcome, PutArgs, TriggeredOp};
 
 /// Rank 0 has a queue at index 1.
 const TELLING: &[Step] = &[
@@ -78,7 +78,10 @@ fn a_persistent_append_takes_the_header_of_an_atomic_and_frees_its_entry(rt: Hos
     const SCRIPT: &[Step] = &[
         Here(MeAppend(1, List::Overflow, ONCE), Linked(0)),
         There(WriteMemory(0, &[1, 2]), Done),
-        There(Start(TriggeredOp::Atomic(TWO, AtomicOp::Sum, ElemType::U8)), Sent),
+        There(
+            Start(TriggeredOp::Atomic(TWO, AtomicOp::Sum, ElemType::U8)),
+            Sent,
+        ),
         Here(Deliver, Became(Outcome::Overflow)),
         Here(MeAppend(1, List::Priority, ENTRY), Linked(1)),
         HereTells(FIRST, &[LINKED, UNLINKED, TAKEN, FREED, LINKED]),
@@ -121,7 +124,10 @@ fn a_counter_that_an_increment_alone_counts_on_is_in_use(rt: HostRuntime) {
     const SCRIPT: &[Step] = &[
         Here(CtAlloc, Made(0)),
         Here(CtAlloc, Made(1)),
-        Here(Triggered(TriggeredOp::Inc(SECOND, ONE), FIRST, 1), Number(0)),
+        Here(
+            Triggered(TriggeredOp::Inc(SECOND, ONE), FIRST, 1),
+            Number(0),
+        ),
         Here(CtFree(SECOND), Refused(InUse)),
         Here(CtCancel(FIRST), Number(1)),
         Here(CtFree(SECOND), Done),

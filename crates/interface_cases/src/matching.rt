@@ -6,7 +6,7 @@ use crate::steps::Call::*;
 use crate::steps::Step::{self, *};
 use crate::values::{DESCRIPTOR, ENTRY, FIRST, ONCE, PUT};
 use ptl_types::NiFault::Stale;
-use ptl_types::{TriggeredOp, Entry, List, Outcome, PutArgs};
+use ptl_types::{Entry, List, Outcome, PutArgs, TriggeredOp};
 
 #[test]
 fn use_once_entries_go_with_their_first_message(rt: HostRuntime) {

@@ -4,7 +4,7 @@
 use crate::comparing::gives;
 use crate::sides::{Side, over};
 use crate::values::{DESCRIPTOR, ENTRY, FIRST, LIMITS, ONE, PUT};
-use ptl_types::{AckRequest, Appended, TriggeredOp, List, PutArgs};
+use ptl_types::{AckRequest, Appended, List, PutArgs, TriggeredOp};
 use std::process::Abort;
 
 /// A put of no bytes to rank 1, with an acknowledgement.

@@ -6,8 +6,8 @@ use crate::steps::Call::*;
 use crate::steps::Step::{self, *};
 use crate::values::{ENTRY, FIRST, GET, HEADER, LINKED, PUT};
 use ptl_types::{
-    AtomicOp, TriggeredOp, ElemType, Entry, Event, EventKind, GetArgs, Header, List, MessageKind, Outcome,
-    PutArgs, SwapOp,
+    AtomicOp, ElemType, Entry, Event, EventKind, GetArgs, Header, List, MessageKind, Outcome,
+    PutArgs, SwapOp, TriggeredOp,
 };
 
 /// One byte at the start of rank 1's region goes to index 0; what was there comes back to its byte 8.
@@ -75,9 +75,27 @@ fn an_operand_wider_than_the_element_never_equals_it_and_names_no_bit_beyond(rt:
     const TWO: PutArgs = PutArgs { length: 2, ..PUT };
     const BACK_TWO: GetArgs = GetArgs { length: 2, ..BACK };
     /// The element is 0x0104 before each swap, and 0x0909 comes.
-    const WIDER: TriggeredOp = TriggeredOp::Swap(BACK_TWO, TWO, SwapOp::Cswap, ElemType::U16, 0x1_0104);
-    const EQUAL: TriggeredOp = TriggeredOp::Swap(BACK_TWO, TWO, SwapOp::Cswap, ElemType::U16, 0x0104);
-    const MASK: TriggeredOp = TriggeredOp::Swap(BACK_TWO, TWO, SwapOp::Mswap, ElemType::U16, 0xf_00ff);
+    const WIDER: TriggeredOp = TriggeredOp::Swap(
+        BACK_TWO,
+        TWO,
+        SwapOp::Cswap,
+        ElemType::U16,
+        0x1_0104,
+    );
+    const EQUAL: TriggeredOp = TriggeredOp::Swap(
+        BACK_TWO,
+        TWO,
+        SwapOp::Cswap,
+        ElemType::U16,
+        0x0104,
+    );
+    const MASK: TriggeredOp = TriggeredOp::Swap(
+        BACK_TWO,
+        TWO,
+        SwapOp::Mswap,
+        ElemType::U16,
+        0xf_00ff,
+    );
     const TWO_BYTES: Entry = Entry { length: 2, ..ENTRY };
     const SCRIPT: &[Step] = &[
         Here(MeAppend(0, List::Priority, TWO_BYTES), Linked(0)),
@@ -116,7 +134,10 @@ fn a_get_brings_home_what_an_atomic_left(rt: HostRuntime) {
     const SCRIPT: &[Step] = &[
         Here(MeAppend(0, List::Priority, TWO_BYTES), Linked(0)),
         There(WriteMemory(0, &[5, 0]), Done),
-        There(Start(TriggeredOp::Atomic(TWO, AtomicOp::Max, ElemType::U16)), Sent),
+        There(
+            Start(TriggeredOp::Atomic(TWO, AtomicOp::Max, ElemType::U16)),
+            Sent,
+        ),
         Here(Deliver, Became(Outcome::Matched)),
         HereHolds(&[5, 0, 0, 0, 0, 0, 0, 0, 0, 0, 0, 0, 0, 0, 0, 0]),
         There(Start(TriggeredOp::Get(ASKS)), Sent),
@@ -204,7 +225,11 @@ fn puts_and_gets_raise_their_events(rt: HostRuntime) {
 }
 
 /// The starts of one byte to that byte, and the events that they raise there.
-const ATOMIC_AT_SECOND: TriggeredOp = TriggeredOp::Atomic(BYTE_TO_SECOND, AtomicOp::Bor, ElemType::U8);
+const ATOMIC_AT_SECOND: TriggeredOp = TriggeredOp::Atomic(
+    BYTE_TO_SECOND,
+    AtomicOp::Bor,
+    ElemType::U8,
+);
 
 const FETCH_AT_SECOND: TriggeredOp = TriggeredOp::FetchAtomic(
     BACK_OF_SECOND,

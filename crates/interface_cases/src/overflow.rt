@@ -9,7 +9,7 @@ use crate::values::{
 };
 use ptl_types::NiFault::{InUse, NoSpace, Stale};
 use ptl_types::{
-    AckRequest, TriggeredOp, Entry, Event, EventKind, Header, List, MessageKind, Outcome, PutArgs,
+    AckRequest, Entry, Event, EventKind, Header, List, MessageKind, Outcome, PutArgs, TriggeredOp,
     UnexpectedHeader,
 };
 

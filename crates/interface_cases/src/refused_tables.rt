@@ -9,7 +9,7 @@ use crate::steps::Call::*;
 use crate::steps::Step::{self, *};
 use crate::values::{DESCRIPTOR, ENTRY, FIRST, NOTHING, ONE, SECOND, THIRD};
 use ptl_types::NiFault::{CountFull, InUse, NoSpace, OutOfRegion, Stale};
-use ptl_types::{Count, TriggeredOp, Descriptor, Entry, List};
+use ptl_types::{Count, Descriptor, Entry, List, TriggeredOp};
 
 #[test]
 fn a_refused_call_on_an_index_changes_nothing(rt: HostRuntime) {
@@ -166,12 +166,18 @@ fn a_counter_is_in_use_for_each_reason_alone(rt: HostRuntime) {
         Here(MeAppend(0, List::Overflow, COUNTS), Linked(1)),
         Here(CtFree(FIRST), Refused(InUse)),
         Here(MeUnlink(SECOND), Done),
-        Here(Triggered(TriggeredOp::Set(SECOND, ZERO), FIRST, 1), Number(0)),
+        Here(
+            Triggered(TriggeredOp::Set(SECOND, ZERO), FIRST, 1),
+            Number(0),
+        ),
         Here(CtFree(FIRST), Refused(InUse)),
         Here(CtFree(SECOND), Refused(InUse)),
         Here(CtCancel(SECOND), Number(0)),
         Here(CtCancel(FIRST), Number(1)),
-        Here(Triggered(TriggeredOp::Inc(SECOND, ONE), FIRST, 1), Number(1)),
+        Here(
+            Triggered(TriggeredOp::Inc(SECOND, ONE), FIRST, 1),
+            Number(1),
+        ),
         Here(CtFree(SECOND), Refused(InUse)),
         Here(CtCancel(FIRST), Number(1)),
         Here(CtFree(SECOND), Done),

@@ -7,8 +7,8 @@ use crate::steps::Answer::*;
 use crate::steps::Call::*;
 use crate::steps::Step::{self, *};
 use crate::values::{FIRST, NOTHING, ONE, PAST_THE_END, SECOND};
-use ptl_types::TriggeredOp;
 use ptl_types::NiFault::{CountFull, NoSpace, OutOfRegion, Stale};
+use ptl_types::TriggeredOp;
 
 /// Counts on the second counting event and on one that isn't allocated: by one, and by numbers that pass the end.
 const RAISE: TriggeredOp = TriggeredOp::Inc(SECOND, ONE);

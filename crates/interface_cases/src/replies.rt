@@ -6,7 +6,7 @@ use crate::steps::Call::*;
 use crate::steps::Step::{self, *};
 use crate::values::{DESCRIPTOR, ENTRY, EVENT, FIRST, GET, PUT, SECOND};
 use ptl_types::{
-    AtomicOp, TriggeredOp, Descriptor, ElemType, Event, EventKind, GetArgs, List, Outcome, PutArgs,
+    AtomicOp, Descriptor, ElemType, Event, EventKind, GetArgs, List, Outcome, PutArgs, TriggeredOp,
 };
 
 /// Rank 1 has an entry at index 0 over its first bytes, which are 7 and 8.

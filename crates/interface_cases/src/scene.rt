@@ -3,7 +3,7 @@
 use crate::ends::End;
 use crate::steps::{Answer, Call, Step};
 use crate::values::{DESCRIPTOR, FIRST};
-use ptl_types::{TriggeredOp, Event, Handle, Message, Outcome, PutArgs};
+use ptl_types::{Event, Handle, Message, Outcome, PutArgs, TriggeredOp};
 use std::alloc::Global;
 use std::process::Abort;
 

@@ -5,8 +5,8 @@ ghost use Rattle.ni_model.specs.Conditions.{MayGo, MayCombine, MayFetch, MayStar
 
 use portals_ni::{Nic, fit};
 use ptl_types::{
-    AckRequest, Appended, Bytes, Count, TriggeredOp, Delivered, Descriptor, ElemType, Entry, EqGot,
-    GetArgs, Handle, Limits, List, Message, NiFault, PutArgs, Rank, UnexpectedHeader,
+    AckRequest, Appended, Bytes, Count, Delivered, Descriptor, ElemType, Entry, EqGot, GetArgs,
+    Handle, Limits, List, Message, NiFault, PutArgs, Rank, TriggeredOp, UnexpectedHeader,
 };
 use std::alloc::Global;
 use std::process::Abort;
@@ -225,8 +225,12 @@ impl Side {
             TriggeredOp::Put(args) => self.nic.put(args),
             TriggeredOp::Get(args) => self.nic.get(args),
             TriggeredOp::Atomic(args, op, ty) => self.nic.atomic(args, op, ty),
-            TriggeredOp::FetchAtomic(back, args, op, ty) => self.nic.fetch_atomic(back, args, op, ty),
-            TriggeredOp::Swap(back, args, op, ty, operand) => self.nic.swap(back, args, op, ty, operand),
+            TriggeredOp::FetchAtomic(back, args, op, ty) => self
+                .nic
+                .fetch_atomic(back, args, op, ty),
+            TriggeredOp::Swap(back, args, op, ty, operand) => self
+                .nic
+                .swap(back, args, op, ty, operand),
             TriggeredOp::Inc(_, _) | TriggeredOp::Set(_, _) => Err(NiFault::Stale),
         }
     }

@@ -4,7 +4,7 @@
 //! counting event in `CtGet(FIRST)`, and the first descriptor in `MdRelease(FIRST)`. Answers name handles in the same way.
 
 use ptl_types::{
-    TriggeredOp, Descriptor, Entry, Event, Handle, Header, Limits, List, NiFault, Outcome, PutArgs,
+    Descriptor, Entry, Event, Handle, Header, Limits, List, NiFault, Outcome, PutArgs, TriggeredOp,
     UnexpectedHeader,
 };
 

@@ -7,7 +7,7 @@ use crate::steps::Call::*;
 use crate::steps::Step::{self, *};
 use crate::values::{DESCRIPTOR, FIRST, GET, NOTHING, ONE};
 use ptl_types::NiFault::{InUse, NoSpace, Stale};
-use ptl_types::{TriggeredOp, Descriptor, GetArgs, Outcome};
+use ptl_types::{Descriptor, GetArgs, Outcome, TriggeredOp};
 
 #[test]
 fn a_reply_past_the_end_of_its_descriptor_is_dropped(rt: HostRuntime) {

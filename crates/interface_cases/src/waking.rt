@@ -7,7 +7,7 @@ use crate::steps::Call::*;
 use crate::steps::Step::{self, *};
 use crate::values::{DESCRIPTOR, ENTRY, FIRST, HEADER, ONCE, ONE, PUT};
 use ptl_types::{
-    AckRequest, TriggeredOp, Descriptor, Entry, Header, List, Outcome, PutArgs, UnexpectedHeader,
+    AckRequest, Descriptor, Entry, Header, List, Outcome, PutArgs, TriggeredOp, UnexpectedHeader,
 };
 
 /// Rank 0 has a triggered operation that waits for the first count of a counting event, on which it counts itself.

@@ -7,9 +7,9 @@ use crate::forms::form_flaw;
 use crate::paths::path_of;
 use coll_lang::Refusal;
 use json_lang::lines_of;
-use text_notes::notes::{About, Cause, Note, Printable};
 use serde_json::{Error, Value};
 use std::alloc::Global;
+use text_notes::notes::{About, Cause, Note, Printable};
 use text_notes::{explain_text, line_at, plain_note};
 
 /// A note with this place in place of its own.

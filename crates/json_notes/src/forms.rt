@@ -3,8 +3,8 @@
 use crate::items::{Rule, Wrong, wrong_list, wrong_value};
 use crate::paths::{item_of, member, push_item, push_member};
 use json_lang::{is_input_name, is_member_name};
-use text_notes::notes::{FormFlaw, Printable};
 use serde_json::Value;
+use text_notes::notes::{FormFlaw, Printable};
 
 /// The values of the list of that name, if there is one; or what is wrong with it.
 fn list_of<'v>(value: &'v Value, name: &str) -> Result<&'v [Value], (Printable, FormFlaw)> {

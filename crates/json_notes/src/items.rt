@@ -2,8 +2,8 @@
 
 use crate::paths::push_item;
 use json_lang::{is_whole, is_word, is_word_or_whole};
-use text_notes::notes::{FormFlaw, Printable};
 use serde_json::Value;
+use text_notes::notes::{FormFlaw, Printable};
 
 /// A place, and what is wrong there.
 pub(crate) type Wrong = Option<(Printable, FormFlaw)>;

@@ -1,7 +1,7 @@
 //! Places in a description in JSON.
 
-use text_notes::notes::{Printable, cut_word};
 use serde_json::Value;
+use text_notes::notes::{Printable, cut_word};
 
 /// The place of a member.
 pub(crate) fn member(name: &str) -> Printable {

@@ -2,9 +2,9 @@
 
 use crate::explain_json;
 use json_lang::parse_json;
-use text_notes::notes::note_text;
 use std::alloc::Global;
 use std::test::Fail;
+use text_notes::notes::note_text;
 
 /// Whether the JSON is refused, and the line of its note is this one.
 fn is_noted(alloc: Global, json: &[u8], expected: &[u8]) -> bool {

@@ -41,9 +41,12 @@ combines f w i n xs ys lt fits =
     let bs : List ℕ = little_endian w (f (pattern (part (i * w) w xs)) (pattern (part (i * w) w ys))) in
     let more : n - i ≡ suc (n - (i + 1)) = omega (arith, lt) in
     let in_range : i * w ≤ length xs = omega (arith, within i n w lt, fits) in
-    let end : (i + 1) * w ≡ i * w + length bs = omega (arith, next i w,
-          length-little_endian w (f (pattern (part (i * w) w xs)) (pattern (part (i * w) w ys)))) in
+    let end : (i + 1) * w ≡ i * w + length bs = omega (
+      arith,
+      next i w,
+      length-little_endian w (f (pattern (part (i * w) w xs)) (pattern (part (i * w) w ys))),
+    ) in
     let on : (zs : List ℕ) → drop w (drop (i * w) zs) ≡ drop ((i + 1) * w) zs = λ zs. drop-drop w (i * w) zs
-          ∙ ap (λ m. drop m zs) (sym (next i w)) in
+    ∙ ap (λ m. drop m zs) (sym (next i w)) in
     rw (more, take-written (i * w) ((i + 1) * w) bs xs in_range end, drop-written (i * w) ((i + 1) * w) bs xs in_range end, on xs, on ys)
     (sym (append_assoc (take (i * w) xs) bs (by_element f w (n - (i + 1)) (drop ((i + 1) * w) xs) (drop ((i + 1) * w) ys))))

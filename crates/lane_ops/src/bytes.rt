@@ -6,12 +6,12 @@ ghost use Rattle.ptl_types.specs.Elements.{combined, little_endian, repeated, st
 ghost use Rattle.lane_ops.specs.Places.{combined_at};
 ghost use Rattle.ptl_types.specs.Operations.{op, bytes_of, span};
 
+use crate::elements::{
+    Element, Signed8, Signed16, Signed32, Signed64, Unsigned8, Unsigned16, Unsigned32, Unsigned64,
+};
 use crate::operations::{
     BitwiseAnd, BitwiseOr, BitwiseXor, Combine, LogicalAnd, LogicalOr, LogicalXor, Maximum,
     Minimum, Product, Sum, start_value,
-};
-use crate::elements::{
-    Element, Signed8, Signed16, Signed32, Signed64, Unsigned8, Unsigned16, Unsigned32, Unsigned64,
 };
 use ptl_types::{AtomicOp, ElemType};
 

@@ -2,8 +2,8 @@
 //! (Portals 4.3, atomic operations).
 #![tactic(auto)]
 
-pub mod elements;
 mod bytes;
+pub mod elements;
 mod operations;
 
 pub use bytes::{combine, start_values};

@@ -1,6 +1,6 @@
 -- Lines keep the elements of the prints so far, and that no group is empty.
-use Rattle.std.proofs.Common.{◌≡◌, ◌≤◌, ◌<◌, ℕ, zero, suc, ◌+◌, List, [], ◌∷◌, ◌++◌, length, get_or, Option, Some, None, Result, Ok, Err,
-    Bool, true, false, ◌&&◌, ◌||◌, not, cond, refl, sym, ap, ◌∙◌, arith, subst}
+use Rattle.std.proofs.Common.{◌≡◌, ◌≤◌, ◌<◌, ℕ, zero, suc, ◌+◌, List, [], ◌∷◌, ◌++◌, length, get_or, Option, Some, None, Result, Ok, Err}
+use Rattle.std.proofs.Common.{Bool, true, false, ◌&&◌, ◌||◌, not, cond, refl, sym, ap, ◌∙◌, arith, subst}
 use Rattle.std.specs.Prelude.{nat_lt, nat_le, is_some, option_and_then}
 use Rattle.std.specs.List.{list_all, sum_by}
 use Rattle.std.proofs.lemmas.Bool.Decides.{nat_tests}
@@ -18,16 +18,17 @@ use Rattle.coll_shape.specs.declared.types.Group.{Group}
 use Rattle.coll_shape.specs.declared.types.CollStep.{CollStep}
 use Rattle.coll_shape.specs.declared.limits.TheConstants.{MOST_GROUPS, MOST_BUFFERS, MOST_STEPS, MOST_PRINTS, MOST_GIVEN, MOST_ELEMENTS}
 use Rattle.coll_lang.specs.Forms.{Form, StepWords, complete, group, input, step, choice, print, last, form_of}
-use Rattle.coll_lang.specs.Language.{Past, ◌>>=◌, refuse, or_refuse, holds_of, nothing, is_allowed, version_of, ranks_in, may_stand,
-    all_numbers, are_members, is_taken, buffer_named, group_named, members_in, with_made, root_number, source_named, step_on, rooted_line,
-    step_line, group_line, input_line, choice_line, print_line, form_line, unless_flawed, values_line, later_line, line_at, judge}
+use Rattle.coll_lang.specs.Language.{Past, ◌>>=◌, refuse, or_refuse, holds_of, nothing, is_allowed, version_of, ranks_in, may_stand}
+use Rattle.coll_lang.specs.Language.{all_numbers, are_members, is_taken, buffer_named, group_named, members_in, with_made, root_number}
+use Rattle.coll_lang.specs.Language.{source_named, step_on, rooted_line, step_line, group_line, input_line, choice_line, print_line}
+use Rattle.coll_lang.specs.Language.{form_line, unless_flawed, values_line, later_line, line_at, judge}
 use Rattle.coll_lang.specs.declared.choices.ChoiceKind.{ChoiceKind}
 use Rattle.coll_lang.specs.declared.stage.Stage.{Stage}
-use Rattle.coll_lang.specs.declared.stage.Stage.TheVariants.{Header, Ranks, Options, Groups, Inputs, Data, Steps, Choosing, Prints,
-    Finished}
+use Rattle.coll_lang.specs.declared.stage.Stage.TheVariants.{Header, Ranks, Options, Groups, Inputs, Data, Steps, Choosing, Prints}
+use Rattle.coll_lang.specs.declared.stage.Stage.TheVariants.{Finished}
 use Rattle.coll_lang.specs.declared.fault.Refusal.{Refusal}
-use Rattle.coll_lang.specs.declared.fault.Refusal.TheVariants.{BadByte, BadHeader, BadRanks, BadLine, BadNumber, NameTaken, UnknownBuffer,
-    BadRoot, WrongShape, TooMany, TooLarge, BadGroup}
+use Rattle.coll_lang.specs.declared.fault.Refusal.TheVariants.{BadByte, BadHeader, BadRanks, BadLine, BadNumber, NameTaken, UnknownBuffer}
+use Rattle.coll_lang.specs.declared.fault.Refusal.TheVariants.{BadRoot, WrongShape, TooMany, TooLarge, BadGroup}
 use Rattle.coll_lang.proofs.Growing.{old_at, longer, each_more}
 use Rattle.coll_lang.proofs.Sound.{both_true, not_not}
 use Rattle.coll_lang.proofs.SoundSteps.{found, group_found}

@@ -1,6 +1,6 @@
 -- The words of a line, by the table of lines.
-use Rattle.std.proofs.Common.{◌≡◌, ℕ, List, [], ◌∷◌, ◌++◌, Option, Some, None, Bool, true, false, ◌&&◌, ◌||◌, not, cond, refl, sym, ap, ◌∙◌,
-    subst, codes, inl, inr}
+use Rattle.std.proofs.Common.{◌≡◌, ℕ, List, [], ◌∷◌, ◌++◌, Option, Some, None, Bool, true, false, ◌&&◌, ◌||◌, not, cond, refl, sym, ap, ◌∙◌}
+use Rattle.std.proofs.Common.{subst, codes, inl, inr}
 use Rattle.std.specs.Prelude.{is_some, option_and_then, option_map}
 use Rattle.std.specs.List.{list_all, list_any}
 use Rattle.std.specs.Str.{bytes_eq}
@@ -12,16 +12,16 @@ use Rattle.coll_shape.specs.declared.types.Version.{Version}
 use Rattle.coll_shape.specs.declared.types.Version.TheVariants.{One, Two}
 use Rattle.coll_shape.specs.declared.kinds.StepKind.{StepKind}
 use Rattle.coll_shape.specs.Kinds.{kind_named, kind_since, takes_root, takes_op, takes_buffers}
-use Rattle.coll_lang.specs.Forms.{Form, StepWords, complete, group, input, step, choice, print, last, type_of, op_of, root_in, op_in,
-    names_in, step_in, on_in, group_in, input_in, name_in, alone, complete_in, form_of}
+use Rattle.coll_lang.specs.Forms.{Form, StepWords, complete, group, input, step, choice, print, last, type_of, op_of, root_in, op_in}
+use Rattle.coll_lang.specs.Forms.{names_in, step_in, on_in, group_in, input_in, name_in, alone, complete_in, form_of}
 use Rattle.coll_lang.specs.Language.{holds_of, stands_in, stands_at, may_stand}
 use Rattle.coll_lang.specs.declared.choices.ChoiceKind.{ChoiceKind}
 use Rattle.coll_lang.specs.declared.choices.ChoiceKind.TheVariants.{Elect, Tickets}
 use Rattle.coll_lang.specs.declared.stage.Stage.{Stage}
-use Rattle.coll_lang.specs.declared.stage.Stage.TheVariants.{Header, Ranks, Options, Groups, Inputs, Data, Steps, Choosing, Prints,
-    Finished}
-use Rattle.language_table.specs.Grammar.{Place, name, type, op, number, remote, fits, all_fit, places, places_of, is_step, is_group, is_on,
-    has_part, may_be, WordsByTheTable}
+use Rattle.coll_lang.specs.declared.stage.Stage.TheVariants.{Header, Ranks, Options, Groups, Inputs, Data, Steps, Choosing, Prints}
+use Rattle.coll_lang.specs.declared.stage.Stage.TheVariants.{Finished}
+use Rattle.language_table.specs.Grammar.{Place, name, type, op, number, remote, fits, all_fit, places, places_of, is_step, is_group, is_on}
+use Rattle.language_table.specs.Grammar.{has_part, may_be, WordsByTheTable}
 use Rattle.language_table.proofs.Lowest.{way}
 
 -- where each form may stand

@@ -1,6 +1,6 @@
 -- A line is judged by the rows, of which the lowest that it offends counts.
-use Rattle.std.proofs.Common.{◌≡◌, ◌≤◌, ℕ, ◌+◌, List, [], ◌∷◌, ◌++◌, length, Option, Some, None, Result, Ok, Err, Bool, true, false, ◌&&◌,
-    ◌||◌, not, cond, refl, sym, ap, ◌∙◌, arith, subst, codes}
+use Rattle.std.proofs.Common.{◌≡◌, ◌≤◌, ℕ, ◌+◌, List, [], ◌∷◌, ◌++◌, length, Option, Some, None, Result, Ok, Err, Bool, true, false, ◌&&◌}
+use Rattle.std.proofs.Common.{◌||◌, not, cond, refl, sym, ap, ◌∙◌, arith, subst, codes}
 use Rattle.std.specs.Prelude.{◌==◌, nat_lt, nat_le, is_none, is_some, option_and_then, option_map}
 use Rattle.std.specs.List.{list_all, list_any}
 use Rattle.std.specs.Str.{bytes_eq}
@@ -19,18 +19,19 @@ use Rattle.coll_shape.specs.declared.types.Version.TheVariants.{One, Two}
 use Rattle.coll_shape.specs.declared.types.Buffer.{Buffer}
 use Rattle.coll_shape.specs.declared.limits.TheConstants.{MOST_GROUPS, MOST_BUFFERS, MOST_STEPS, MOST_PRINTS, MOST_GIVEN, MOST_ELEMENTS}
 use Rattle.coll_lang.specs.Forms.{Form, StepWords, complete, group, input, step, choice, print, last, form_of}
-use Rattle.coll_lang.specs.Language.{Past, ◌>>=◌, refuse, or_refuse, holds_of, is_allowed, ranks_in, may_stand, all_numbers, are_members,
-    is_taken, buffer_named, group_named, members_in, root_number, source_named, step_on, rooted_line, step_line, group_line, input_line,
-    choice_line, print_line, form_line, unless_flawed, values_line, later_line, line_at, judge, is_finished}
+use Rattle.coll_lang.specs.Language.{Past, ◌>>=◌, refuse, or_refuse, holds_of, is_allowed, ranks_in, may_stand, all_numbers, are_members}
+use Rattle.coll_lang.specs.Language.{is_taken, buffer_named, group_named, members_in, root_number, source_named, step_on, rooted_line}
+use Rattle.coll_lang.specs.Language.{step_line, group_line, input_line, choice_line, print_line, form_line, unless_flawed, values_line}
+use Rattle.coll_lang.specs.Language.{later_line, line_at, judge, is_finished}
 use Rattle.coll_lang.specs.declared.stage.Stage.{Stage}
-use Rattle.coll_lang.specs.declared.stage.Stage.TheVariants.{Header, Ranks, Options, Groups, Inputs, Data, Steps, Choosing, Prints,
-    Finished}
+use Rattle.coll_lang.specs.declared.stage.Stage.TheVariants.{Header, Ranks, Options, Groups, Inputs, Data, Steps, Choosing, Prints}
+use Rattle.coll_lang.specs.declared.stage.Stage.TheVariants.{Finished}
 use Rattle.coll_lang.specs.declared.fault.Refusal.{Refusal}
-use Rattle.coll_lang.specs.declared.fault.Refusal.TheVariants.{BadByte, BadHeader, BadRanks, BadLine, BadNumber, NameTaken, UnknownBuffer,
-    BadRoot, WrongShape, TooMany, TooLarge, BadGroup}
+use Rattle.coll_lang.specs.declared.fault.Refusal.TheVariants.{BadByte, BadHeader, BadRanks, BadLine, BadNumber, NameTaken, UnknownBuffer}
+use Rattle.coll_lang.specs.declared.fault.Refusal.TheVariants.{BadRoot, WrongShape, TooMany, TooLarge, BadGroup}
 use Rattle.language_table.specs.Grammar.{may_be}
-use Rattle.language_table.specs.Rows.{Kind, other, Counts, no_number, name_taken, unknown_buffer, bad_root, source_in, wrong_shape,
-    too_many, too_large, bad_group, kind_at, kind_offends, offends, ByTheRows}
+use Rattle.language_table.specs.Rows.{Kind, other, Counts, no_number, name_taken, unknown_buffer, bad_root, source_in, wrong_shape}
+use Rattle.language_table.specs.Rows.{too_many, too_large, bad_group, kind_at, kind_offends, offends, ByTheRows}
 use Rattle.language_table.proofs.Lowest.{first_of, first_row, refusal_in, all_names, lowest_of, first_is, none_of, none_is}
 use Rattle.language_table.proofs.Grammar.{words_by_the_table}
 

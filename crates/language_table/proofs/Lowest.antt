@@ -1,10 +1,11 @@
 -- The first of the names, in the order of their numbers, is the lowest row that is offended.
-use Rattle.std.proofs.Common.{◌≡◌, ◌≤◌, ◌<◌, ℕ, suc, ◌+◌, ◌-◌, List, [], ◌∷◌, length, get_or, Option, Some, None, Result, Ok, Err, Bool,
-    true, false, cond, refl, sym, ap, ◌∙◌, arith, subst, inl, inr, ◌⊎◌}
+use Rattle.std.proofs.Common.{◌≡◌, ◌≤◌, ◌<◌, ℕ, suc, ◌+◌, ◌-◌, List, [], ◌∷◌, length, get_or, Option, Some, None, Result, Ok, Err, Bool}
+use Rattle.std.proofs.Common.{true, false, cond, refl, sym, ap, ◌∙◌, arith, subst, inl, inr, ◌⊎◌}
 use Rattle.coll_lang.specs.Words.{refusal_number}
 use Rattle.coll_lang.specs.declared.fault.Refusal.{Refusal}
-use Rattle.coll_lang.specs.declared.fault.Refusal.TheVariants.{TooLong, BadByte, BadHeader, BadRanks, BadLine, BadNumber, NameTaken,
-    UnknownBuffer, BadRoot, WrongShape, TooMany, TooLarge, Unended, AfterEnd, BadOrder, BadGroup, BadJson, BadForm, OneThread}
+use Rattle.coll_lang.specs.declared.fault.Refusal.TheVariants.{TooLong, BadByte, BadHeader, BadRanks, BadLine, BadNumber, NameTaken}
+use Rattle.coll_lang.specs.declared.fault.Refusal.TheVariants.{UnknownBuffer, BadRoot, WrongShape, TooMany, TooLarge, Unended, AfterEnd}
+use Rattle.coll_lang.specs.declared.fault.Refusal.TheVariants.{BadOrder, BadGroup, BadJson, BadForm, OneThread}
 use Rattle.language_table.specs.Table.{IsLowest}
 
 pub way : (b : Bool) → (b ≡ true) ⊎ (b ≡ false)

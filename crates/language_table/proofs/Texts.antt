@@ -1,6 +1,6 @@
 -- Reading answers the first refusal of the table.
-use Rattle.std.proofs.Common.{◌≡◌, ◌<◌, ◌≤◌, ℕ, ◌+◌, List, [], ◌∷◌, ◌++◌, length, Option, Some, None, Result, Ok, Err, Bool, true, false,
-    ◌&&◌, cond, not, refl, sym, ap, ◌∙◌, arith, subst, inl, inr, ◌⊎◌}
+use Rattle.std.proofs.Common.{◌≡◌, ◌<◌, ◌≤◌, ℕ, ◌+◌, List, [], ◌∷◌, ◌++◌, length, Option, Some, None, Result, Ok, Err, Bool, true, false}
+use Rattle.std.proofs.Common.{◌&&◌, cond, not, refl, sym, ap, ◌∙◌, arith, subst, inl, inr, ◌⊎◌}
 use Rattle.std.specs.Prelude.{◌==◌, nat_lt}
 use Rattle.std.specs.List.{list_all, onto_first}
 use Rattle.std.proofs.lemmas.Bool.Decides.{nat_tests}
@@ -8,8 +8,8 @@ use Rattle.coll_text.specs.Text.{lines, is_empty}
 use Rattle.coll_lang.specs.Program.{Program}
 use Rattle.coll_lang.specs.Language.{Past, nothing, is_allowed, line_at, judge, is_finished, read_from, program_in, read}
 use Rattle.coll_lang.specs.declared.stage.Stage.{Stage}
-use Rattle.coll_lang.specs.declared.stage.Stage.TheVariants.{Header, Ranks, Options, Groups, Inputs, Data, Steps, Choosing, Prints,
-    Finished}
+use Rattle.coll_lang.specs.declared.stage.Stage.TheVariants.{Header, Ranks, Options, Groups, Inputs, Data, Steps, Choosing, Prints}
+use Rattle.coll_lang.specs.declared.stage.Stage.TheVariants.{Finished}
 use Rattle.coll_lang.specs.declared.fault.Refusal.{Refusal}
 use Rattle.coll_lang.specs.declared.fault.Refusal.TheVariants.{TooLong, BadByte, Unended, AfterEnd}
 use Rattle.coll_lang.proofs.Sound.{not_above}

@@ -1,7 +1,7 @@
 //! The calls, as a log says them: handles by the device's own words.
 
 use crate::words::Word;
-use ptl_types::{Count, TriggeredOp, Descriptor, Entry, Handle, Limits, List, PutArgs, Rank};
+use ptl_types::{Count, Descriptor, Entry, Handle, Limits, List, PutArgs, Rank, TriggeredOp};
 
 /// A handle that no thing ever has: a table gives no such stamp.
 pub const NO_HANDLE: Handle = Handle {

@@ -1,7 +1,7 @@
 //! Lines with their answers by hand.
 
 use crate::{Call, Flaw, Line, Rest, read_line};
-use ptl_types::{TriggeredOp, List, Rank};
+use ptl_types::{List, Rank, TriggeredOp};
 
 #[test]
 fn lines_that_are_refused(rt: HostRuntime) {

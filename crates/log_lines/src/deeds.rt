@@ -6,14 +6,14 @@ ghost use Rattle.log_lines.specs.Calls.{atomic_next, back_of, count_next, counti
 ghost use Rattle.log_lines.specs.Calls.{put_next, start_fields, start_next, swapping_next};
 ghost use Rattle.ptl_types.specs.declared.calls.TriggeredOp.TheVariants as deeds;
 
-use crate::calls::{TriggeredOpSaid, NO_HANDLE, StartName, StartSaid};
+use crate::calls::{NO_HANDLE, StartName, StartSaid, TriggeredOpSaid};
 use crate::faults::{Flaw, LineFault, at};
 use crate::fields::fields_of;
 use crate::plain::plain_start;
 use crate::single::{op_in, start_named, swap_in, type_in};
 use crate::words::Rest;
 use coll_text::is;
-use ptl_types::{Count, TriggeredOp, GetArgs};
+use ptl_types::{Count, GetArgs, TriggeredOp};
 
 /// The arguments of a get.
 fn get_args(said: &StartSaid) -> GetArgs
@@ -132,7 +132,10 @@ fn swapping_in<'a>(words: &mut Rest<'a>) -> Result<TriggeredOpSaid<'a>, LineFaul
 
 /// What is started.
 #[tactic(auto, unfolding(crate::specs::Calls::start_next))]
-pub(crate) fn start_in<'a>(name: StartName, words: &mut Rest<'a>) -> Result<TriggeredOpSaid<'a>, LineFault>
+pub(crate) fn start_in<'a>(
+    name: StartName,
+    words: &mut Rest<'a>,
+) -> Result<TriggeredOpSaid<'a>, LineFault>
     ensures { yielded result words.new ≡ start_next name words.old }
 {
     match name {

@@ -20,7 +20,7 @@ mod taking;
 mod words;
 
 pub use amounts::{amount_at, digit, is_hex_word};
-pub use calls::{Call, TriggeredOpSaid, EntrySaid, MdSaid, NO_HANDLE, Opening};
+pub use calls::{Call, EntrySaid, MdSaid, NO_HANDLE, Opening, TriggeredOpSaid};
 pub use faults::{Flaw, LineFault};
 pub use lines::{LONGEST_LINE, Line, read_line};
 pub use names::is_name_word;

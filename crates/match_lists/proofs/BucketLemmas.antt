@@ -1,6 +1,6 @@
 -- Buckets lie below their number, and an entry that takes a message is on one of the threads of its match bits.
-use Rattle.std.proofs.Common.{◌≡◌, ℕ, zero, suc, ◌+◌, ◌-◌, ◌*◌, ◌/◌, ◌%◌, ◌^◌, ◌<◌, ◌≤◌, Bool, true, false, cond, nat_eq, nat_lt, ◌||◌,
-    bit_and, bit_xor, refl, sym, ap, subst, ◌∙◌, inl, inr, ◌⊎◌, arith}
+use Rattle.std.proofs.Common.{◌≡◌, ℕ, zero, suc, ◌+◌, ◌-◌, ◌*◌, ◌/◌, ◌%◌, ◌^◌, ◌<◌, ◌≤◌, Bool, true, false, cond, nat_eq, nat_lt, ◌||◌}
+use Rattle.std.proofs.Common.{bit_and, bit_xor, refl, sym, ap, subst, ◌∙◌, inl, inr, ◌⊎◌, arith}
 use Rattle.std.proofs.lemmas.Bool.{eq-eqb, ne_eqb, eqb-true, and_parts, lt-ltb, le-ltb}
 use Rattle.std.proofs.lemmas.Bool.Decides.{eqb_tells, leb_tells}
 use Rattle.std.proofs.lemmas.Nat.{and_mask, xor_mod, mul-mod_first, div_below, mul-le, and_assoc, and_xor_apart}
@@ -10,8 +10,8 @@ use Rattle.ptl_types.specs.declared.headers.Header.{Header}
 use Rattle.ptl_types.specs.Matching.{bits_match, is_match}
 use Rattle.ni_model.specs.declared.Linked.{Linked}
 use Rattle.ni_model.specs.Lists.{fits}
-use Rattle.match_lists.specs.Buckets.{bucket_of, buckets_of, thread_of, whole_thread, upper_48, upper_24, upper_48_thread, upper_24_thread,
-    last_thread, is_one, may_take}
+use Rattle.match_lists.specs.Buckets.{bucket_of, buckets_of, thread_of, whole_thread, upper_48, upper_24, upper_48_thread, upper_24_thread}
+use Rattle.match_lists.specs.Buckets.{last_thread, is_one, may_take}
 
 -- the upper half of a product of 64 bits
 pub half_below : (n : ℕ) → n % 2 ^ 64 / 2 ^ 32 < 2 ^ 32
@@ -44,7 +44,7 @@ bucket-same : (buckets a b : ℕ) → a % 2 ^ 64 ≡ b % 2 ^ 64 → bucket_of bu
 unfolding bucket_of
 bucket-same buckets a b e =
     ap (λ n. n / 2 ^ 32 * buckets / 2 ^ 32) (sym (mul-mod_first a 0x9E3779B97F4A7C15 (2 ^ 64))
-        ∙ ap (λ n. (n * 0x9E3779B97F4A7C15) % 2 ^ 64) e ∙ mul-mod_first b 0x9E3779B97F4A7C15 (2 ^ 64))
+    ∙ ap (λ n. (n * 0x9E3779B97F4A7C15) % 2 ^ 64) e ∙ mul-mod_first b 0x9E3779B97F4A7C15 (2 ^ 64))
 
 -- bits that match are the same under a mask of bits that aren't ignored
 masked-same : (mask ignored a b : ℕ) → bit_and (2 ^ 64 - 1 - ignored) mask ≡ mask → bits_match ignored a b ≡ true →
@@ -53,7 +53,7 @@ masked-same mask ignored a b seen e =
     let none : bit_and (bit_xor a b) (2 ^ 64 - 1 - ignored) ≡ 0 = eqb-true (bit_and (bit_xor a b) (2 ^ 64 - 1 - ignored)) 0 e in
     let off : bit_and (bit_xor a b) mask ≡ 0 =
     ap (λ m. bit_and (bit_xor a b) m) (sym seen) ∙ sym (and_assoc mask (bit_xor a b) (2 ^ 64 - 1 - ignored))
-        ∙ ap (λ n. bit_and n mask) none in
+    ∙ ap (λ n. bit_and n mask) none in
     let other : bit_xor a (bit_xor a b) ≡ b = sym (xor_assoc a a b) ∙ ap (λ n. bit_xor n b) (xor_self a) ∙ xor_zero_l b in
     sym (and_xor_apart mask a (bit_xor a b) off) ∙ ap (λ n. bit_and n mask) other
 
@@ -117,8 +117,8 @@ thread-takes limit h x f =
       | inl z ↦
           let same = match-same h.match_bits m (subst (λ i. bits_match i h.match_bits m ≡ true) z.1 bits) in
           let at : t ≡ whole = ap (λ b. cond b (whole_thread limit m)
-                (cond (nat_lt ignored (2 ^ 16)) (upper_48_thread limit m)
-                (cond (nat_lt ignored (2 ^ 40)) (upper_24_thread limit m) last))) z.0
+          (cond (nat_lt ignored (2 ^ 16)) (upper_48_thread limit m)
+          (cond (nat_lt ignored (2 ^ 40)) (upper_24_thread limit m) last))) z.0
           ∙ sym (bucket-same n h.match_bits m same) in
           is-first t whole by_48 by_24 last at
       | inr p ↦ elim (lt_tells ignored (2 ^ 16)) [
@@ -163,7 +163,7 @@ one-of-four t a b c d ab bc cd = elim (eqb_tells t a) [
 pub thread-counts : (limit bits : ℕ) (x : Linked)
     → num (nat_eq (thread_of limit x) (whole_thread limit bits)) + num (nat_eq (thread_of limit x) (upper_48_thread limit bits))
     + (num (nat_eq (thread_of limit x) (upper_24_thread limit bits)) + num (nat_eq (thread_of limit x) (last_thread limit))) ≤ num
-        (may_take limit bits x)
+    (may_take limit bits x)
 thread-counts limit bits x =
     let n = buckets_of limit in
     let some : 0 < n = omega arith in

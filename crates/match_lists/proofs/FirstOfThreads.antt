@@ -1,6 +1,6 @@
 -- The first entry of a list that takes a message is the earliest one of the firsts of its threads.
-use Rattle.std.proofs.Common.{◌≡◌, ℕ, ◌+◌, ◌<◌, ◌≤◌, Bool, true, false, ◌||◌, nat_eq, nat_lt, List, [], ◌∷◌, filter, find, count_by, length,
-    Option, Some, None, refl, sym, ap, ◌∙◌, inl, inr, arith}
+use Rattle.std.proofs.Common.{◌≡◌, ℕ, ◌+◌, ◌<◌, ◌≤◌, Bool, true, false, ◌||◌, nat_eq, nat_lt, List, [], ◌∷◌, filter, find, count_by, length}
+use Rattle.std.proofs.Common.{Option, Some, None, refl, sym, ap, ◌∙◌, inl, inr, arith}
 use Rattle.std.proofs.lemmas.Bool.{cases_Bool, lt-ltb, le-ltb}
 use Rattle.std.proofs.lemmas.List.Sums.{length-filter, sum_by-cons}
 use Rattle.ptl_types.specs.declared.headers.Header.{Header}
@@ -10,8 +10,8 @@ use Rattle.chain_list.proofs.KeyLemmas.{same_key-apart, value-here}
 use Rattle.ni_model.specs.declared.Linked.{Linked}
 use Rattle.ni_model.specs.Lists.{fits}
 use Rattle.match_lists.specs.Lists.{values}
-use Rattle.match_lists.specs.Buckets.{thread_of, on_thread, whole_thread, upper_48_thread, upper_24_thread, last_thread, may_take,
-    candidates_in}
+use Rattle.match_lists.specs.Buckets.{thread_of, on_thread, whole_thread, upper_48_thread, upper_24_thread, last_thread, may_take}
+use Rattle.match_lists.specs.Buckets.{candidates_in}
 use Rattle.match_lists.specs.Indexed.{takes, Later, Rising, key_of, earlier_of, first_on, first_of_threads, on_threads}
 use Rattle.match_lists.proofs.BucketLemmas.{num, thread-takes, thread-counts}
 
@@ -24,8 +24,11 @@ find-pass p x xs e = rw e
 -- ---- later entries have later keys
 Later-filter : (q : Keyed Linked → Bool) (s : ℕ) (xs : List (Keyed Linked)) → Later s xs → Later s (filter q xs)
 Later-filter q s [] l = tt
-Later-filter q s (x ∷ xs) l = elim (cases_Bool (q x)) [ inl e ↦ rw e (l.0, Later-filter q s xs l.1) | inr e ↦ rw e
-    (Later-filter q s xs l.1) ]
+Later-filter q s (x ∷ xs) l = elim (cases_Bool (q x)) [
+  | inl e ↦ rw e (l.0, Later-filter q s xs l.1)
+  | inr e ↦ rw e
+      (Later-filter q s xs l.1)
+]
 
 -- the key of the first that passes, where it is after a stamp
 abbrev IsAfter : ℕ → Option ChainKey → Type 0
@@ -69,12 +72,18 @@ earlier-either p q r (x ∷ xs) given rise =
     elim (cases_Bool (q x)) [
       | inl f ↦ elim (cases_Bool (r x)) [
         | inl g ↦ elim (cases_Bool (p x)) [ inl e ↦ rw (f, g, e) (earlier-same x.key) | inr e ↦ rw (f, g, e) rest ]
-        | inr g ↦ elim (cases_Bool (p x)) [ inl e ↦ rw (f, g, e) (earlier-left x.key (key_of (find p rs)) after-r) | inr e ↦ rw (f, g, e)
-            rest ]
+        | inr g ↦ elim (cases_Bool (p x)) [
+          | inl e ↦ rw (f, g, e) (earlier-left x.key (key_of (find p rs)) after-r)
+          | inr e ↦ rw (f, g, e)
+              rest
+        ]
       ]
       | inr f ↦ elim (cases_Bool (r x)) [
-        | inl g ↦ elim (cases_Bool (p x)) [ inl e ↦ rw (f, g, e) (earlier-right x.key (key_of (find p qs)) after-q) | inr e ↦ rw (f, g, e)
-            rest ]
+        | inl g ↦ elim (cases_Bool (p x)) [
+          | inl e ↦ rw (f, g, e) (earlier-right x.key (key_of (find p qs)) after-q)
+          | inr e ↦ rw (f, g, e)
+              rest
+        ]
         | inr g ↦ rw (f, g) rest
       ]
     ]
@@ -165,7 +174,7 @@ pub some-on-threads : (h : Header) (limit : ℕ) (xs : List (Keyed Linked)) (k :
     0 < on_threads limit h.match_bits xs
 some-on-threads h limit xs k e =
     let some : (j : ℕ) (k : ChainKey) → first_on h limit xs j ≡ Some k → 0 < length (on_thread limit j xs) =
-          λ j. found-some (takes h) (on_thread limit j xs) in
+    λ j. found-some (takes h) (on_thread limit j xs) in
     let a = whole_thread limit h.match_bits in
     let b = upper_48_thread limit h.match_bits in
     let c = upper_24_thread limit h.match_bits in
@@ -173,6 +182,6 @@ some-on-threads h limit xs k e =
     some-earlier (earlier_of (first_on h limit xs a) (first_on h limit xs b)) (earlier_of (first_on h limit xs c) (first_on h limit xs d))
     (length (on_thread limit a xs) + length (on_thread limit b xs)) (length (on_thread limit c xs) + length (on_thread limit d xs))
     (some-earlier (first_on h limit xs a) (first_on h limit xs b) (length (on_thread limit a xs)) (length (on_thread limit b xs)) (some a)
-        (some b))
+    (some b))
     (some-earlier (first_on h limit xs c) (first_on h limit xs d) (length (on_thread limit c xs)) (length (on_thread limit d xs)) (some c)
-        (some d)) k e
+    (some d)) k e

@@ -1,18 +1,18 @@
 -- What the calls of a match list keep of its threads.
-use Rattle.std.proofs.Common.{◌≡◌, ℕ, suc, ◌+◌, ◌-◌, ◌<◌, Bool, true, false, cond, nat_eq, List, [], ◌∷◌, ◌++◌, filter, replicate, length,
-    get_or, set, Some, None, refl, sym, ap, subst, ◌∙◌, inl, inr, arith}
+use Rattle.std.proofs.Common.{◌≡◌, ℕ, suc, ◌+◌, ◌-◌, ◌<◌, Bool, true, false, cond, nat_eq, List, [], ◌∷◌, ◌++◌, filter, replicate, length}
+use Rattle.std.proofs.Common.{get_or, set, Some, None, refl, sym, ap, subst, ◌∙◌, inl, inr, arith}
 use Rattle.std.proofs.lemmas.Bool.{cases_Bool, ne_eqb, eq-eqb, or_right}
 use Rattle.std.proofs.lemmas.Bool.Decides.{eqb_tells}
-use Rattle.std.proofs.lemmas.List.{map-append, append-nil, length-append, length-set, length-map, length-replicate, get_or-set_same,
-    get_or-set_other, get_or-replicate}
+use Rattle.std.proofs.lemmas.List.{map-append, append-nil, length-append, length-set, length-map, length-replicate, get_or-set_same}
+use Rattle.std.proofs.lemmas.List.{get_or-set_other, get_or-replicate}
 use Rattle.std.proofs.lemmas.List.Elements.{filter-append}
 use Rattle.std.specs.Option.{is_some}
 use Rattle.chain_list.specs.declared.chain.ChainKey.{ChainKey}
 use Rattle.chain_list.specs.Chain.{Keyed, ChainList, chain_list, keyed, value_at, without, changed, stamp_at, first_or, NotAt, Apart}
 use Rattle.chain_list.proofs.ChainLemmas.{Apart-cut, Apart-before, stamp-here}
 use Rattle.chain_list.proofs.KeyLemmas.{split-live, without-append, without-here, changed-append, changed-here, value-append, value-here}
-use Rattle.chain_list.specs.threads.Threads.{Woven, woven, thread, is_on, is_threaded, first_place, place_after, with_place, without_place,
-    without as off}
+use Rattle.chain_list.specs.threads.Threads.{Woven, woven, thread, is_on, is_threaded, first_place, place_after, with_place, without_place}
+use Rattle.chain_list.specs.threads.Threads.{without as off}
 use Rattle.chain_list.proofs.threads.ThreadLemmas.{get-map, off_all, on_one}
 use Rattle.ni_model.specs.declared.Linked.{Linked}
 use Rattle.match_lists.specs.Lists.{running_at}
@@ -46,13 +46,19 @@ after-places (z ∷ xs) x ys n = let e : nat_eq z.key.place x.key.place ≡ fals
 
 NotAt-filter : (q : Keyed Linked → Bool) (p : ℕ) (xs : List (Keyed Linked)) → NotAt p xs → NotAt p (filter q xs)
 NotAt-filter q p [] n = tt
-NotAt-filter q p (x ∷ xs) n = elim (cases_Bool (q x)) [ inl e ↦ rw e (n.0, NotAt-filter q p xs n.1) | inr e ↦ rw e
-    (NotAt-filter q p xs n.1) ]
+NotAt-filter q p (x ∷ xs) n = elim (cases_Bool (q x)) [
+  | inl e ↦ rw e (n.0, NotAt-filter q p xs n.1)
+  | inr e ↦ rw e
+      (NotAt-filter q p xs n.1)
+]
 
 pub Apart-filter : (q : Keyed Linked → Bool) (xs : List (Keyed Linked)) → Apart xs → Apart (filter q xs)
 Apart-filter q [] a = tt
-Apart-filter q (x ∷ xs) a = elim (cases_Bool (q x)) [ inl e ↦ rw e (NotAt-filter q x.key.place xs a.0, Apart-filter q xs a.1) | inr e ↦ rw
-    e (Apart-filter q xs a.1) ]
+Apart-filter q (x ∷ xs) a = elim (cases_Bool (q x)) [
+  | inl e ↦ rw e (NotAt-filter q x.key.place xs a.0, Apart-filter q xs a.1)
+  | inr e ↦ rw
+      e (Apart-filter q xs a.1)
+]
 
 places-off : (p : ℕ) (xs : List (Keyed Linked)) → NotAt p xs → off p (places_of xs) ≡ places_of xs
 places-off p [] n = refl
@@ -96,8 +102,11 @@ Later-cut s (x ∷ xs) ys l = let rest = Later-cut s xs ys l.1 in ((l.0, rest.0)
 Rising-push : (xs : List (Keyed Linked)) (x : Keyed Linked) (given : ℕ) → Rising xs given → x.key.stamp ≡ given →
     Rising (xs ++ x ∷ []) (given + 1)
 Rising-push [] x given r e = (omega arith, tt, tt)
-Rising-push (z ∷ xs) x given r e = (omega (arith, r.0), Later-append z.key.stamp xs (x ∷ []) r.1 (omega (arith, r.0, e), tt),
-    Rising-push xs x given r.2 e)
+Rising-push (z ∷ xs) x given r e = (
+  omega (arith, r.0),
+  Later-append z.key.stamp xs (x ∷ []) r.1 (omega (arith, r.0, e), tt),
+  Rising-push xs x given r.2 e,
+)
 
 Rising-unlink : (xs : List (Keyed Linked)) (x : Keyed Linked) (ys : List (Keyed Linked)) (given : ℕ) → Rising (xs ++ x ∷ ys) given →
     Rising (xs ++ ys) given
@@ -125,12 +134,12 @@ pub IsIndexed-none : (chain : ChainList Linked) (threads : Woven) (limit : ℕ) 
     threads ≡ woven (replicate (last_thread limit + 1) []) limit → IsIndexed chain threads limit
 IsIndexed-none chain threads limit e f = subst (λ (q : ChainList Linked × Woven). IsIndexed q.0 q.1 limit) (λ i. (sym e i, sym f i))
     (record {
-  full = omega arith;
-  long = length-replicate (last_thread limit + 1) none;
-  places = refl;
-  threaded = λ k lt. get_or-replicate (last_thread limit + 1) k none none lt;
-  rising = tt;
-})
+      full = omega arith;
+      long = length-replicate (last_thread limit + 1) none;
+      places = refl;
+      threaded = λ k lt. get_or-replicate (last_thread limit + 1) k none none lt;
+      rising = tt;
+    })
   where
     none : List ℕ
     none = []
@@ -140,7 +149,7 @@ module _ (chain : ChainList Linked) (threads : Woven) (limit : ℕ) (x : Keyed L
   pub free-place : NotAt x.key.place chain.entries → is_threaded x.key.place threads ≡ false
   free-place n = off_all x.key.place threads.threads (λ j lt.
       ap (λ l. is_on x.key.place l) (c.threaded j (omega (arith, lt, c.long))) ∙ off-places x.key.place (on_thread limit j chain.entries)
-          (NotAt-filter (stands limit j) x.key.place chain.entries n))
+      (NotAt-filter (stands limit j) x.key.place chain.entries n))
 
   push-thread : (k : ℕ) → k < last_thread limit + 1 → thread k (with_place (thread_of limit x.value) x.key.place threads) ≡ places_of
       (on_thread limit k (chain.entries ++ x ∷ []))
@@ -149,15 +158,15 @@ module _ (chain : ChainList Linked) (threads : Woven) (limit : ℕ) (x : Keyed L
       let xs = chain.entries in
       let cut : places_of (on_thread limit k (xs ++ x ∷ [])) ≡ places_of (on_thread limit k xs) ++ places_of (on_thread limit k (x ∷ [])) =
       ap places_of (filter-append (stands limit k) xs (x ∷ [])) ∙ map-append (λ y. y.key.place) (on_thread limit k xs)
-          (on_thread limit k (x ∷ [])) in
+      (on_thread limit k (x ∷ [])) in
       let old = c.threaded k lt in
       elim (eqb_tells k t) [
         | inl e ↦
             let on : nat_eq t k ≡ true = eq-eqb t k (sym e.1) in
             let at : places_of (on_thread limit k (x ∷ [])) ≡ x.key.place ∷ [] = ap (λ b. places_of (cond b (x ∷ []) [])) on in
             ap (λ j. get_or (set threads.threads t (thread t threads ++ x.key.place ∷ [])) j []) e.1
-                ∙ get_or-set_same threads.threads t (thread t threads ++ x.key.place ∷ []) []
-                (omega (arith, c.long, thread-le limit x.value))
+            ∙ get_or-set_same threads.threads t (thread t threads ++ x.key.place ∷ []) []
+            (omega (arith, c.long, thread-le limit x.value))
             ∙ ap (λ j. thread j threads ++ x.key.place ∷ []) (sym e.1) ∙ (λ i. old i ++ sym at i) ∙ sym cut
         | inr e ↦
             let on : nat_eq t k ≡ false = ne_eqb t k (λ f. e.1 (sym f)) in
@@ -171,12 +180,12 @@ module _ (chain : ChainList Linked) (threads : Woven) (limit : ℕ) (x : Keyed L
       → threads' ≡ with_place (thread_of limit x.value) x.key.place threads → IsIndexed chain' threads' limit
   IsIndexed-push chain' threads' s lt e f = subst (λ (q : ChainList Linked × Woven). IsIndexed q.0 q.1 limit) (λ i. (sym e i, sym f i))
       (record {
-    full = omega (arith, c.full, length-append chain.entries (x ∷ []));
-    long = length-set threads.threads (thread_of limit x.value) (thread (thread_of limit x.value) threads ++ x.key.place ∷ []) ∙ c.long;
-    places = c.places;
-    threaded = push-thread;
-    rising = Rising-push chain.entries x chain.given c.rising s;
-  })
+        full = omega (arith, c.full, length-append chain.entries (x ∷ []));
+        long = length-set threads.threads (thread_of limit x.value) (thread (thread_of limit x.value) threads ++ x.key.place ∷ []) ∙ c.long;
+        places = c.places;
+        threaded = push-thread;
+        rising = Rising-push chain.entries x chain.given c.rising s;
+      })
 
 -- ---- what is known of a live key
 pub record IsLive (chain : ChainList Linked) (key : ChainKey) : Type 0 where
@@ -213,7 +222,7 @@ pub changed-live : (chain : ChainList Linked) (key : ChainKey) (l : IsLive chain
 changed-live chain key l v =
     let x = keyed key l.value in
     ap (λ ys. changed key v ys) l.is ∙ changed-append key v l.before (x ∷ l.behind) l.away
-        ∙ ap (λ r. l.before ++ r) (changed-here x v l.behind l.away_behind)
+    ∙ ap (λ r. l.before ++ r) (changed-here x v l.behind l.away_behind)
 
 module _ (chain : ChainList Linked) (threads : Woven) (limit : ℕ) (key : ChainKey) (c : IsIndexed chain threads limit)
     (l : IsLive chain key) where
@@ -225,9 +234,9 @@ module _ (chain : ChainList Linked) (threads : Woven) (limit : ℕ) (key : Chain
       let on : stands limit k x ≡ true = eq-eqb k k refl in
       let at : on_thread limit k chain.entries ≡ on_thread limit k l.before ++ x ∷ on_thread limit k l.behind =
       ap (λ xs. on_thread limit k xs) l.is ∙ filter-append (stands limit k) l.before (x ∷ l.behind)
-          ∙ ap (λ b. on_thread limit k l.before ++ cond b (x ∷ on_thread limit k l.behind) (on_thread limit k l.behind)) on in
+      ∙ ap (λ b. on_thread limit k l.before ++ cond b (x ∷ on_thread limit k l.behind) (on_thread limit k l.behind)) on in
       on_one key.place threads.threads k (ap (λ ps. is_on key.place ps) (c.threaded k lt ∙ ap places_of at)
-          ∙ on-places (on_thread limit k l.before) x (on_thread limit k l.behind))
+      ∙ on-places (on_thread limit k l.before) x (on_thread limit k l.behind))
 
   pub IsIndexed-unlink : (chain' : ChainList Linked) (threads' : Woven) →
       chain' ≡ chain_list (without key chain.entries) (chain.spare + 1) chain.given → threads' ≡ without_place key.place threads →
@@ -236,9 +245,9 @@ module _ (chain : ChainList Linked) (threads : Woven) (limit : ℕ) (key : Chain
       let x = keyed key l.value in
       let left : without key chain.entries ≡ l.before ++ l.behind =
       ap (λ ys. without key ys) l.is ∙ without-append key l.before (x ∷ l.behind) l.away
-          ∙ ap (λ r. l.before ++ r) (without-here x l.behind l.away_behind) in
+      ∙ ap (λ r. l.before ++ r) (without-here x l.behind l.away_behind) in
       subst (λ (q : ChainList Linked × Woven). IsIndexed q.0 q.1 limit)
-          (λ i. (sym (e ∙ ap (λ ys. chain_list ys (chain.spare + 1) chain.given) left) i, sym f i)) (record {
+      (λ i. (sym (e ∙ ap (λ ys. chain_list ys (chain.spare + 1) chain.given) left) i, sym f i)) (record {
         full = omega (arith, c.full, ap length l.is, length-append l.before (x ∷ l.behind), length-append l.before l.behind);
         long = length-map threads.threads (off key.place) ∙ c.long;
         places = c.places;

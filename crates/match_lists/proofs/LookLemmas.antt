@@ -19,17 +19,22 @@ seen-parts : (looks : List Look) (before : List (Keyed Linked)) (x : Keyed Linke
 seen-parts looks before x behind s =
     let P = IsSeen looks in
     let n = length before in
-    let rest : All P (x ∷ behind) = subst (All P) (drop_at before (x ∷ behind) n refl) (All-drop P n (before ++ x ∷ behind) s) in
-    (subst (All P) (take_at before (x ∷ behind) n refl) (All-take P n (before ++ x ∷ behind) s), All-head P x behind rest,
-        All-tail P x behind rest)
+    let rest : All P (x ∷ behind) = subst (All P) (drop_at before (x ∷ behind) n refl) (All-drop P n (before ++ x ∷ behind) s) in (
+      subst (All P) (take_at before (x ∷ behind) n refl) (All-take P n (before ++ x ∷ behind) s),
+      All-head P x behind rest,
+      All-tail P x behind rest,
+    )
 
 pub seen-without : (looks : List Look) (key : ChainKey) (xs : List (Keyed Linked)) → All (IsSeen looks) xs →
     All (IsSeen looks) (without key xs)
 seen-without looks key [] s = All-nil (IsSeen looks)
 seen-without looks key (x ∷ xs) s =
     let rest = seen-without looks key xs (All-tail (IsSeen looks) x xs s) in
-    elim (cases_Bool (same_key x.key key)) [ inl e ↦ rw e rest | inr e ↦ rw e
-        (All-cons (IsSeen looks) x (without key xs) (All-head (IsSeen looks) x xs s) rest) ]
+    elim (cases_Bool (same_key x.key key)) [
+      | inl e ↦ rw e rest
+      | inr e ↦ rw e
+          (All-cons (IsSeen looks) x (without key xs) (All-head (IsSeen looks) x xs s) rest)
+    ]
 
 -- a look is put where none of these entries lies
 seen-set : (looks : List Look) (place : ℕ) (look : Look) (xs : List (Keyed Linked)) → NotAt place xs → All (IsSeen looks) xs →
@@ -43,9 +48,11 @@ seen-set looks place look (x ∷ xs) n s =
 
 -- and where this one lies
 seen-here : (looks : List Look) (x : Keyed Linked) → x.key.place < length looks → IsSeen (set looks x.key.place (look_of x.value)) x
-seen-here looks x lt =
-    (omega (arith, length-set looks x.key.place (look_of x.value), lt), get_or-set_same looks x.key.place (look_of x.value)
-        (look_of x.value) lt)
+seen-here looks x lt = (
+  omega (arith, length-set looks x.key.place (look_of x.value), lt),
+  get_or-set_same looks x.key.place (look_of x.value)
+      (look_of x.value) lt,
+)
 
 -- the entry of a part at whose place a walk stands
 pub seen-part : (looks : List Look) (q : Keyed Linked → Bool) (xs front : List (Keyed Linked)) (x : Keyed Linked)
@@ -63,8 +70,12 @@ pub IsMatchList-none : (chain : ChainList Linked) (threads : Woven) (looks : Lis
     chain ≡ chain_list [] limit 0
     → length looks ≡ limit → IsMatchList chain threads looks limit
 IsMatchList-none chain threads looks limit i e long =
-    record { indexed = i; room_of_looks = long; seen = subst (λ (c : ChainList Linked). All (IsSeen looks) c.entries) (sym e)
-        (All-nil (IsSeen looks)) }
+    record {
+      indexed = i;
+      room_of_looks = long;
+      seen = subst (λ (c : ChainList Linked). All (IsSeen looks) c.entries) (sym e)
+          (All-nil (IsSeen looks));
+    }
 
 pub seen-push : (looks : List Look) (xs : List (Keyed Linked)) (x : Keyed Linked) → All (IsSeen looks) xs → NotAt x.key.place xs →
     x.key.place < length looks

@@ -1,6 +1,6 @@
 -- Entries of two lists whose slots lie apart: one comes in, or one goes.
-use Rattle.std.proofs.Common.{◌≡◌, ◌≢◌, ℕ, suc, ◌-◌, ◌<◌, Bool, true, false, cond, nat_eq, ◌||◌, List, [], ◌∷◌, ◌++◌, length, get_or, set,
-    Option, Some, None, refl, sym, ap, subst, ◌∙◌, inl, inr, append_assoc, append-nil, arith}
+use Rattle.std.proofs.Common.{◌≡◌, ◌≢◌, ℕ, suc, ◌-◌, ◌<◌, Bool, true, false, cond, nat_eq, ◌||◌, List, [], ◌∷◌, ◌++◌, length, get_or, set}
+use Rattle.std.proofs.Common.{Option, Some, None, refl, sym, ap, subst, ◌∙◌, inl, inr, append_assoc, append-nil, arith}
 use Rattle.std.proofs.lemmas.Bool.{ne_eqb, eq-eqb}
 use Rattle.std.proofs.lemmas.Bool.Decides.{eqb_tells}
 use Rattle.std.proofs.lemmas.List.{length-set, length-append, get_or-set_same, get_or-set_other}
@@ -68,7 +68,7 @@ pub NoSlot-all : (s : ℕ) (p o : ChainList Linked) → (slot_in s (values p.ent
 NoSlot-all s p o e =
     let both = or_false (slot_in s (values p.entries)) (slot_in s (values o.entries)) e in
     NoSlot-join s (tagged Priority p.entries) (tagged Overflow o.entries) (NoSlot-tagged Priority s p.entries both.0)
-        (NoSlot-tagged Overflow s o.entries both.1)
+    (NoSlot-tagged Overflow s o.entries both.1)
 
 pub tagged-append : (list : EntryList) (xs ys : List (Keyed Linked)) → tagged list (xs ++ ys) ≡ tagged list xs ++ tagged list ys
 tagged-append list [] ys = refl
@@ -77,7 +77,7 @@ tagged-append list (x ∷ xs) ys = ap (λ r. tag list x ∷ r) (tagged-append li
 -- ---- the table after one more entry
 pub table-insert : (table : List (Option LinkedAt)) (xs : List Tagged) (t : Tagged) (ys all all' : List Tagged)
     → all ≡ xs ++ ys → all' ≡ xs ++ t ∷ ys → SlotsApart all → NoSlot (slot_of t) all → slot_of t < length table →
-        ((s : ℕ) → get_or table s None ≡ where_slot s all)
+    ((s : ℕ) → get_or table s None ≡ where_slot s all)
     → SlotsApart all' × ((s : ℕ) → get_or (set table (slot_of t) (Some (where_tagged t))) s None ≡ where_slot s all')
 table-insert table xs t ys all all' e e' a n lt told =
     let cut = NoSlot-cut (slot_of t) xs ys (subst (λ l. NoSlot (slot_of t) l) e n) in (
@@ -115,9 +115,9 @@ pub IsLists-priority : (p p' o : ChainList Linked) (table : List (Option LinkedA
 IsLists-priority p p' o table limit slots given x l e spare lt free =
     let t = tag Priority x in
     let made = table-insert table (tagged Priority p.entries) t (tagged Overflow o.entries) (all_of p o)
-          (tagged Priority (p.entries ++ x ∷ []) ++ tagged Overflow o.entries) refl
+    (tagged Priority (p.entries ++ x ∷ []) ++ tagged Overflow o.entries) refl
     (ap (λ r. r ++ tagged Overflow o.entries) (tagged-append Priority p.entries (x ∷ []))
-        ∙ append_assoc (tagged Priority p.entries) (t ∷ []) (tagged Overflow o.entries))
+    ∙ append_assoc (tagged Priority p.entries) (t ∷ []) (tagged Overflow o.entries))
     l.apart (NoSlot-all x.value.handle.slot p o free) (omega (arith, l.long)) l.tabled in
     subst (λ q. IsLists q o (set table x.value.handle.slot (Some (where_tagged t))) limit slots) (sym e) (record {
       room = omega (arith, l.room, length-append p.entries (x ∷ []));
@@ -134,9 +134,9 @@ pub IsLists-overflow : (p o o' : ChainList Linked) (table : List (Option LinkedA
 IsLists-overflow p o o' table limit slots given x l e spare lt free =
     let t = tag Overflow x in
     let made = table-insert table (all_of p o) t [] (all_of p o) (tagged Priority p.entries ++ tagged Overflow (o.entries ++ x ∷ []))
-          (sym (append-nil (all_of p o)))
+    (sym (append-nil (all_of p o)))
     (ap (λ r. tagged Priority p.entries ++ r) (tagged-append Overflow o.entries (x ∷ []))
-        ∙ sym (append_assoc (tagged Priority p.entries) (tagged Overflow o.entries) (t ∷ [])))
+    ∙ sym (append_assoc (tagged Priority p.entries) (tagged Overflow o.entries) (t ∷ [])))
     l.apart (NoSlot-all x.value.handle.slot p o free) (omega (arith, l.long)) l.tabled in
     subst (λ q. IsLists p q (set table x.value.handle.slot (Some (where_tagged t))) limit slots) (sym e) (record {
       room = l.room;

@@ -1,6 +1,6 @@
 -- What unlinking an entry by its handle leaves of two lists.
-use Rattle.std.proofs.Common.{◌≡◌, ℕ, suc, ◌+◌, ◌<◌, ◌≤◌, Bool, true, false, cond, nat_eq, nat_lt, ◌||◌, List, [], ◌∷◌, ◌++◌, find, length,
-    get_or, set, Option, Some, None, refl, sym, ap, subst, ◌∙◌, ◌⊎◌, inl, inr, append_assoc, append-nil, arith}
+use Rattle.std.proofs.Common.{◌≡◌, ℕ, suc, ◌+◌, ◌<◌, ◌≤◌, Bool, true, false, cond, nat_eq, nat_lt, ◌||◌, List, [], ◌∷◌, ◌++◌, find, length}
+use Rattle.std.proofs.Common.{get_or, set, Option, Some, None, refl, sym, ap, subst, ◌∙◌, ◌⊎◌, inl, inr, append_assoc, append-nil, arith}
 use Rattle.std.proofs.Common.{MutBor}
 use Rattle.std.specs.Option.{option_copied_mut, is_some}
 use Rattle.std.proofs.lemmas.Bool.{ne_eqb}
@@ -84,8 +84,10 @@ absent-list : (list : EntryList) (h : Handle) (xs : List (Keyed Linked)) (rest :
     → NoHandle h xs
 absent-list list h [] rest a e = tt
 absent-list list h (x ∷ xs) rest a e = elim (eqb_tells x.value.handle.slot h.slot) [
-  | inl t ↦ (linked_at_test h (where_tagged (tag list x)) (rw t.0 at e),
-      no_slot list h xs (subst (λ s. NoSlot s (tagged list xs)) t.1 (NoSlot-cut x.value.handle.slot (tagged list xs) rest a.0).0))
+  | inl t ↦ (
+    linked_at_test h (where_tagged (tag list x)) (rw t.0 at e),
+    no_slot list h xs (subst (λ s. NoSlot s (tagged list xs)) t.1 (NoSlot-cut x.value.handle.slot (tagged list xs) rest a.0).0),
+  )
   | inr f ↦ (other_slot x.value.handle h f.1, absent-list list h xs rest a.1 (rw f.0 at e))
 ]
 
@@ -107,13 +109,13 @@ pub absent : (p o : ChainList Linked) (table : List (Option LinkedAt)) (limit sl
     × (find (is_named h) (values p.entries) ≡ None) × (find (is_named h) (values o.entries) ≡ None)
 absent p o table limit slots h l e =
     let none : where_linked h (where_slot h.slot (all_of p o)) ≡ None = subst (λ (x : Option LinkedAt). where_linked h x ≡ None)
-          (l.tabled h.slot) e in
+    (l.tabled h.slot) e in
     let left = absent-list Priority h p.entries (tagged Overflow o.entries) l.apart none in
     let apart = apart_rest (tagged Priority p.entries) (tagged Overflow o.entries) l.apart in
     let right : NoHandle h o.entries = elim (skip_list Priority h.slot p.entries (tagged Overflow o.entries) l.apart) [
       | inl q ↦ absent-list Overflow h o.entries [] (subst (λ r. SlotsApart r) (sym (append-nil (tagged Overflow o.entries))) apart)
           (ap (λ r. where_linked h (where_slot h.slot r)) (append-nil (tagged Overflow o.entries)) ∙ ap (λ r. where_linked h r) (sym q)
-              ∙ none)
+          ∙ none)
       | inr n ↦ no_slot Overflow h o.entries n
     ] in
     (unlinked-none h p.entries left, unlinked-none h o.entries right, find-none h p.entries left, find-none h o.entries right)
@@ -147,8 +149,14 @@ found_in list s (x ∷ xs) rest linked_at e = elim (eqb_tells x.value.handle.slo
       let same : linked_at ≡ where_tagged (tag list x) = cc in
       inl (record { before = []; entry = x; behind = xs; is = refl; linked_at_is = same })
   | inr f ↦ elim (found_in list s xs rest linked_at (rw f.0 at e)) [
-    | inl r ↦ inl (record { before = x ∷ r.before; entry = r.entry; behind = r.behind; is = ap (λ l. x ∷ l) r.is; linked_at_is =
-        r.linked_at_is })
+    | inl r ↦ inl (record {
+      before = x ∷ r.before;
+      entry = r.entry;
+      behind = r.behind;
+      is = ap (λ l. x ∷ l) r.is;
+      linked_at_is =
+          r.linked_at_is;
+    })
     | inr r ↦ inr r
   ]
 ]
@@ -198,7 +206,7 @@ pub unlink-priority : (p o : ChainList Linked) (table : List (Option LinkedAt)) 
     (linked_at : LinkedAt) → IsLists p o table limit slots → Apart p.entries
     → where_linked h (get_or table h.slot None) ≡ Some linked_at → linked_at.list ≡ Priority → h.slot < slots
     → IsLists (chain_list (without linked_at.key p.entries) (p.spare + 1) given) o (set table h.slot None) limit slots ×
-        Unlinks p.entries h o.entries linked_at
+    Unlinks p.entries h o.entries linked_at
 unlink-priority p o table limit slots given h linked_at l a e list lt =
     let some = linked_at_some h (get_or table h.slot None) linked_at e in
     let r = in_priority h.slot p.entries o.entries linked_at (sym (l.tabled h.slot) ∙ some.0) list in
@@ -208,12 +216,12 @@ unlink-priority p o table limit slots given h linked_at l a e list lt =
     let rest = tagged Priority r.behind ++ tagged Overflow o.entries in
     let all : all_of p o ≡ tagged Priority r.before ++ t ∷ rest =
     ap (λ xs. tagged Priority xs ++ tagged Overflow o.entries) r.is
-        ∙ ap (λ xs. xs ++ tagged Overflow o.entries) (tagged-append Priority r.before (r.entry ∷ r.behind))
+    ∙ ap (λ xs. xs ++ tagged Overflow o.entries) (tagged-append Priority r.before (r.entry ∷ r.behind))
     ∙ append_assoc (tagged Priority r.before) (t ∷ tagged Priority r.behind) (tagged Overflow o.entries) in
     let key = chain_key Priority p.entries linked_at r a in
     let left : tagged Priority (without linked_at.key p.entries) ++ tagged Overflow o.entries ≡ tagged Priority r.before ++ rest =
     ap (λ xs. tagged Priority xs ++ tagged Overflow o.entries) key.1
-        ∙ ap (λ xs. xs ++ tagged Overflow o.entries) (tagged-append Priority r.before r.behind)
+    ∙ ap (λ xs. xs ++ tagged Overflow o.entries) (tagged-append Priority r.before r.behind)
     ∙ append_assoc (tagged Priority r.before) (tagged Priority r.behind) (tagged Overflow o.entries) in
     let away = (SlotsApart-remove (tagged Priority r.before) t rest (subst (λ xs. SlotsApart xs) all l.apart)).1 in
     let cut = NoSlot-cut (slot_of t) (tagged Priority r.before) rest away in
@@ -222,11 +230,17 @@ unlink-priority p o table limit slots given h linked_at l a e list lt =
     let behind = no_slot Priority h r.behind (subst (λ s. NoSlot s (tagged Priority r.behind)) slot more.0) in
     let others = no_slot Overflow h o.entries (subst (λ s. NoSlot s (tagged Overflow o.entries)) slot more.1) in
     let made = table-remove table (tagged Priority r.before) t rest (all_of p o)
-          (tagged Priority (without linked_at.key p.entries) ++ tagged Overflow o.entries) all left l.apart (omega (arith, slot, l.long))
-          l.tabled in (
+    (tagged Priority (without linked_at.key p.entries) ++ tagged Overflow o.entries) all left l.apart (omega (arith, slot, l.long))
+    l.tabled in (
       record {
-        room = omega (arith, l.room, ap length r.is, ap length key.1, length-append r.before (r.entry ∷ r.behind),
-            length-append r.before r.behind);
+        room = omega (
+          arith,
+          l.room,
+          ap length r.is,
+          ap length key.1,
+          length-append r.before (r.entry ∷ r.behind),
+          length-append r.before r.behind,
+        );
         overflow_room = l.overflow_room;
         long = length-set table h.slot (nowhere) ∙ l.long;
         apart = made.0;
@@ -251,7 +265,7 @@ pub unlink-overflow : (p o : ChainList Linked) (table : List (Option LinkedAt)) 
     (linked_at : LinkedAt) → IsLists p o table limit slots → Apart o.entries
     → where_linked h (get_or table h.slot None) ≡ Some linked_at → linked_at.list ≡ Overflow → h.slot < slots
     → IsLists p (chain_list (without linked_at.key o.entries) (o.spare + 1) given) (set table h.slot None) limit slots ×
-        Unlinks o.entries h p.entries linked_at
+    Unlinks o.entries h p.entries linked_at
 unlink-overflow p o table limit slots given h linked_at l a e list lt =
     let some = linked_at_some h (get_or table h.slot None) linked_at e in
     let r = in_overflow h.slot p.entries o.entries linked_at (sym (l.tabled h.slot) ∙ some.0) list in
@@ -263,11 +277,11 @@ unlink-overflow p o table limit slots given h linked_at l a e list lt =
     let back = tagged Overflow r.behind in
     let all : all_of p o ≡ front ++ t ∷ back =
     ap (λ xs. first ++ tagged Overflow xs) r.is ∙ ap (λ xs. first ++ xs) (tagged-append Overflow r.before (r.entry ∷ r.behind))
-        ∙ sym (append_assoc first (tagged Overflow r.before) (t ∷ back)) in
+    ∙ sym (append_assoc first (tagged Overflow r.before) (t ∷ back)) in
     let key = chain_key Overflow o.entries linked_at r a in
     let left : first ++ tagged Overflow (without linked_at.key o.entries) ≡ front ++ back =
     ap (λ xs. first ++ tagged Overflow xs) key.1 ∙ ap (λ xs. first ++ xs) (tagged-append Overflow r.before r.behind)
-        ∙ sym (append_assoc first (tagged Overflow r.before) back) in
+    ∙ sym (append_assoc first (tagged Overflow r.before) back) in
     let away = (SlotsApart-remove front t back (subst (λ xs. SlotsApart xs) all l.apart)).1 in
     let cut = NoSlot-cut (slot_of t) front back away in
     let more = NoSlot-cut (slot_of t) first (tagged Overflow r.before) cut.0 in
@@ -275,11 +289,17 @@ unlink-overflow p o table limit slots given h linked_at l a e list lt =
     let before = no_slot Overflow h r.before (subst (λ s. NoSlot s (tagged Overflow r.before)) slot more.1) in
     let behind = no_slot Overflow h r.behind (subst (λ s. NoSlot s back) slot cut.1) in
     let made = table-remove table front t back (all_of p o) (first ++ tagged Overflow (without linked_at.key o.entries)) all left l.apart
-          (omega (arith, slot, l.long)) l.tabled in (
+    (omega (arith, slot, l.long)) l.tabled in (
       record {
         room = l.room;
-        overflow_room = omega (arith, l.overflow_room, ap length r.is, ap length key.1, length-append r.before (r.entry ∷ r.behind),
-            length-append r.before r.behind);
+        overflow_room = omega (
+          arith,
+          l.overflow_room,
+          ap length r.is,
+          ap length key.1,
+          length-append r.before (r.entry ∷ r.behind),
+          length-append r.before r.behind,
+        );
         long = length-set table h.slot (nowhere) ∙ l.long;
         apart = made.0;
         tabled = subst (λ i. (s : ℕ) → get_or (set table i None) s None ≡ where_slot s
@@ -303,11 +323,11 @@ unlink-overflow p o table limit slots given h linked_at l a e list lt =
 pub taken-priority : (p p' o : ChainList Linked) (table : List (Option LinkedAt)) (limit slots : ℕ) (h : Handle) (linked_at : LinkedAt)
     (x : Linked) → IsLists p o table limit slots → Apart p.entries
     → where_linked h (get_or table h.slot None) ≡ Some linked_at → linked_at.list ≡ Priority → h.slot < slots →
-        Some x ≡ value_at linked_at.key p.entries → p' ≡ chain_list (without linked_at.key p.entries) (p.spare + 1) p.given
+    Some x ≡ value_at linked_at.key p.entries → p' ≡ chain_list (without linked_at.key p.entries) (p.spare + 1) p.given
     → IsLists p' o (set table h.slot None) limit slots × (or_else (find (is_named h) (values p.entries))
-        (find (is_named h) (values o.entries)) ≡ Some x)
+    (find (is_named h) (values o.entries)) ≡ Some x)
     × (both (values p'.entries) (values o.entries) limit slots (p'.given + o.given) ≡ both (unlinked h (values p.entries))
-        (unlinked h (values o.entries)) limit slots (p.given + o.given))
+    (unlinked h (values o.entries)) limit slots (p.given + o.given))
 taken-priority p p' o table limit slots h linked_at x l a e list lt found left =
     let u = unlink-priority p o table limit slots p.given h linked_at l a e list lt in
     let same : Some x ≡ Some u.1.value = found ∙ u.1.value_is in (
@@ -320,11 +340,11 @@ taken-priority p p' o table limit slots h linked_at x l a e list lt found left =
 pub taken-overflow : (p o o' : ChainList Linked) (table : List (Option LinkedAt)) (limit slots : ℕ) (h : Handle) (linked_at : LinkedAt)
     (x : Linked) → IsLists p o table limit slots → Apart o.entries
     → where_linked h (get_or table h.slot None) ≡ Some linked_at → linked_at.list ≡ Overflow → h.slot < slots →
-        Some x ≡ value_at linked_at.key o.entries → o' ≡ chain_list (without linked_at.key o.entries) (o.spare + 1) o.given
+    Some x ≡ value_at linked_at.key o.entries → o' ≡ chain_list (without linked_at.key o.entries) (o.spare + 1) o.given
     → IsLists p o' (set table h.slot None) limit slots × (or_else (find (is_named h) (values p.entries))
-        (find (is_named h) (values o.entries)) ≡ Some x)
+    (find (is_named h) (values o.entries)) ≡ Some x)
     × (both (values p.entries) (values o'.entries) limit slots (p.given + o'.given) ≡ both (unlinked h (values p.entries))
-        (unlinked h (values o.entries)) limit slots (p.given + o.given))
+    (unlinked h (values o.entries)) limit slots (p.given + o.given))
 taken-overflow p o o' table limit slots h linked_at x l a e list lt found left =
     let u = unlink-overflow p o table limit slots o.given h linked_at l a e list lt in
     let same : Some x ≡ Some u.1.value = found ∙ u.1.value_is in (
@@ -343,7 +363,7 @@ advanced-none h to (x ∷ xs) n = (λ i. cond (n.0 i) (record { handle = x.value
 advanced-one : (h : Handle) (to : ℕ) (xs : List (Keyed Linked)) (x : Keyed Linked) (ys : List (Keyed Linked)) → NoHandle h xs →
     same_handle x.value.handle h ≡ true → NoHandle h ys
     → advanced h to (values (xs ++ x ∷ ys)) ≡ values (xs ++ keyed x.key
-        (record { handle = x.value.handle; running = to; entry = x.value.entry }) ∷ ys)
+    (record { handle = x.value.handle; running = to; entry = x.value.entry }) ∷ ys)
 advanced-one h to [] x ys m e n = (λ i. cond (e i) (record { handle = x.value.handle; running = to; entry = x.value.entry }) x.value
     ∷ advanced-none h to ys n i)
 advanced-one h to (z ∷ xs) x ys m e n = (λ i. cond (m.0 i) (record { handle = z.value.handle; running = to; entry = z.value.entry })
@@ -377,15 +397,15 @@ changed_key list xs linked_at r w a =
     let away = Apart-before r.before r.entry r.behind parts in
     let behind = (Apart-cut r.before (r.entry ∷ r.behind) parts).1.0 in
     (λ i. changed (key i) w (r.is i)) ∙ changed-append r.entry.key w r.before (r.entry ∷ r.behind) away
-        ∙ ap (λ l. r.before ++ l) (changed-here r.entry w r.behind behind)
+    ∙ ap (λ l. r.before ++ l) (changed-here r.entry w r.behind behind)
 
 pub advance-priority : (p o : ChainList Linked) (table : List (Option LinkedAt)) (limit slots to : ℕ) (h : Handle) (linked_at : LinkedAt)
     (x : Linked) → IsLists p o table limit slots → Apart p.entries
     → where_linked h (get_or table h.slot None) ≡ Some linked_at → linked_at.list ≡ Priority → h.slot < slots →
-        Some x ≡ value_at linked_at.key p.entries
+    Some x ≡ value_at linked_at.key p.entries
     → IsLists (chain_list (changed linked_at.key (running_at to x) p.entries) p.spare p.given) o table limit slots
     × (values (changed linked_at.key (running_at to x) p.entries) ≡ advanced h to (values p.entries)) ×
-        (advanced h to (values o.entries) ≡ values o.entries)
+    (advanced h to (values o.entries) ≡ values o.entries)
 advance-priority p o table limit slots to h linked_at x l a e list lt found =
     let some = linked_at_some h (get_or table h.slot None) linked_at e in
     let r = in_priority h.slot p.entries o.entries linked_at (sym (l.tabled h.slot) ∙ some.0) list in
@@ -398,14 +418,14 @@ advance-priority p o table limit slots to h linked_at x l a e list lt found =
     let rest = tagged Priority r.behind ++ tagged Overflow o.entries in
     let all : all_of p o ≡ tagged Priority r.before ++ t ∷ rest =
     ap (λ xs. tagged Priority xs ++ tagged Overflow o.entries) r.is
-        ∙ ap (λ xs. xs ++ tagged Overflow o.entries) (tagged-append Priority r.before (r.entry ∷ r.behind))
+    ∙ ap (λ xs. xs ++ tagged Overflow o.entries) (tagged-append Priority r.before (r.entry ∷ r.behind))
     ∙ append_assoc (tagged Priority r.before) (t ∷ tagged Priority r.behind) (tagged Overflow o.entries) in
     let key = ap (λ w. changed linked_at.key (running_at to w) p.entries) same
-          ∙ changed_key Priority p.entries linked_at r (running_at to r.entry.value) a in
+    ∙ changed_key Priority p.entries linked_at r (running_at to r.entry.value) a in
     let left : tagged Priority (changed linked_at.key (running_at to x) p.entries) ++ tagged Overflow o.entries ≡ tagged Priority r.before
-          ++ tag Priority y ∷ rest =
+    ++ tag Priority y ∷ rest =
     ap (λ xs. tagged Priority xs ++ tagged Overflow o.entries) key
-        ∙ ap (λ xs. xs ++ tagged Overflow o.entries) (tagged-append Priority r.before (y ∷ r.behind))
+    ∙ ap (λ xs. xs ++ tagged Overflow o.entries) (tagged-append Priority r.before (y ∷ r.behind))
     ∙ append_assoc (tagged Priority r.before) (tag Priority y ∷ tagged Priority r.behind) (tagged Overflow o.entries) in
     let away = (SlotsApart-remove (tagged Priority r.before) t rest (subst (λ xs. SlotsApart xs) all l.apart)).1 in
     let cut = NoSlot-cut (slot_of t) (tagged Priority r.before) rest away in
@@ -429,10 +449,10 @@ advance-priority p o table limit slots to h linked_at x l a e list lt found =
 pub advance-overflow : (p o : ChainList Linked) (table : List (Option LinkedAt)) (limit slots to : ℕ) (h : Handle) (linked_at : LinkedAt)
     (x : Linked) → IsLists p o table limit slots → Apart o.entries
     → where_linked h (get_or table h.slot None) ≡ Some linked_at → linked_at.list ≡ Overflow → h.slot < slots →
-        Some x ≡ value_at linked_at.key o.entries
+    Some x ≡ value_at linked_at.key o.entries
     → IsLists p (chain_list (changed linked_at.key (running_at to x) o.entries) o.spare o.given) table limit slots
     × (values (changed linked_at.key (running_at to x) o.entries) ≡ advanced h to (values o.entries)) ×
-        (advanced h to (values p.entries) ≡ values p.entries)
+    (advanced h to (values p.entries) ≡ values p.entries)
 advance-overflow p o table limit slots to h linked_at x l a e list lt found =
     let some = linked_at_some h (get_or table h.slot None) linked_at e in
     let r = in_overflow h.slot p.entries o.entries linked_at (sym (l.tabled h.slot) ∙ some.0) list in
@@ -447,12 +467,12 @@ advance-overflow p o table limit slots to h linked_at x l a e list lt found =
     let back = tagged Overflow r.behind in
     let all : all_of p o ≡ front ++ t ∷ back =
     ap (λ xs. first ++ tagged Overflow xs) r.is ∙ ap (λ xs. first ++ xs) (tagged-append Overflow r.before (r.entry ∷ r.behind))
-        ∙ sym (append_assoc first (tagged Overflow r.before) (t ∷ back)) in
+    ∙ sym (append_assoc first (tagged Overflow r.before) (t ∷ back)) in
     let key = ap (λ w. changed linked_at.key (running_at to w) o.entries) same
-          ∙ changed_key Overflow o.entries linked_at r (running_at to r.entry.value) a in
+    ∙ changed_key Overflow o.entries linked_at r (running_at to r.entry.value) a in
     let left : first ++ tagged Overflow (changed linked_at.key (running_at to x) o.entries) ≡ front ++ tag Overflow y ∷ back =
     ap (λ xs. first ++ tagged Overflow xs) key ∙ ap (λ xs. first ++ xs) (tagged-append Overflow r.before (y ∷ r.behind))
-        ∙ sym (append_assoc first (tagged Overflow r.before) (tag Overflow y ∷ back)) in
+    ∙ sym (append_assoc first (tagged Overflow r.before) (tag Overflow y ∷ back)) in
     let away = (SlotsApart-remove front t back (subst (λ xs. SlotsApart xs) all l.apart)).1 in
     let cut = NoSlot-cut (slot_of t) front back away in
     let more = NoSlot-cut (slot_of t) first (tagged Overflow r.before) cut.0 in
@@ -492,12 +512,12 @@ linked-find : (h : Handle) (xs : List Linked) → is_linked h xs ≡ is_some (fi
 linked-find h [] = refl
 linked-find h (x ∷ xs) =
     elim (same_handle x.handle h) as (λ b. (b || is_linked h xs) ≡ is_some (cond b (Some x) (find (is_named h) xs)))
-        [ true ↦ refl | false ↦ linked-find h xs ]
+    [ true ↦ refl | false ↦ linked-find h xs ]
 
 pub linked-absent : (p o : ChainList Linked) (table : List (Option LinkedAt)) (limit slots given : ℕ) (list : EntryList) (h : Handle) →
     IsLists p o table limit slots
     → where_linked h (get_or table h.slot None) ≡ None → is_linked h
-        (entries list (both (values p.entries) (values o.entries) limit slots given)) ≡ false
+    (entries list (both (values p.entries) (values o.entries) limit slots given)) ≡ false
 linked-absent p o table limit slots given list h l e =
     let none = absent p o table limit slots h l e in
     elim list as (λ k. is_linked h (entries k (both (values p.entries) (values o.entries) limit slots given)) ≡ false) [

@@ -1,6 +1,6 @@
 -- The walk along a chain by its keys.
-use Rattle.std.proofs.Common.{◌≡◌, ℕ, Bool, true, false, cond, nat_eq, get_or, inl, inr, List, [], ◌∷◌, ◌++◌, Option, Some, None, refl, sym,
-    ap, subst, ◌∙◌, append_assoc}
+use Rattle.std.proofs.Common.{◌≡◌, ℕ, Bool, true, false, cond, nat_eq, get_or, inl, inr, List, [], ◌∷◌, ◌++◌, Option, Some, None, refl, sym}
+use Rattle.std.proofs.Common.{ap, subst, ◌∙◌, append_assoc}
 use Rattle.std.proofs.Common.{Bor}
 use Rattle.std.proofs.lemmas.Bool.{ne_eqb, eq-eqb}
 use Rattle.std.proofs.lemmas.Bool.Decides.{eqb_tells}
@@ -56,11 +56,13 @@ module _ {X : Type 0} where
       let s = split-live key xs live in
       let parts : Apart (s.before ++ s.entry ∷ s.behind) = subst (λ l. Apart l) s.is a in
       let away : NotAt key.place s.before = subst (λ (k : ChainKey). NotAt k.place s.before) s.key_is
-            (Apart-before s.before s.entry s.behind parts) in
+      (Apart-before s.before s.entry s.behind parts) in
       let here : (k : ChainKey) → s.entry.key ≡ k → (value_at k (s.entry ∷ s.behind) ≡ Some s.entry.value) ×
-            (key_after k (s.entry ∷ s.behind) ≡ first_key s.behind) =
-      λ k e. (ap (λ j. value_at j (s.entry ∷ s.behind)) (sym e) ∙ value-here s.entry s.behind,
-          ap (λ j. key_after j (s.entry ∷ s.behind)) (sym e) ∙ after-here s.entry s.behind) in
+      (key_after k (s.entry ∷ s.behind) ≡ first_key s.behind) =
+      λ k e. (
+        ap (λ j. value_at j (s.entry ∷ s.behind)) (sym e) ∙ value-here s.entry s.behind,
+        ap (λ j. key_after j (s.entry ∷ s.behind)) (sym e) ∙ after-here s.entry s.behind,
+      ) in
       let next = ap (λ l. key_after key l) s.is ∙ after-append key s.before (s.entry ∷ s.behind) away ∙ (here key s.key_is).1 in
       record {
         value = s.entry.value;
@@ -118,7 +120,7 @@ module _ {X : Type 0} where
   place-split (z ∷ xs) x ys a =
       let apart = (NotAt-cut z.key.place xs (x ∷ ys) a.0).1.0 in
       let other : nat_eq z.key.place x.key.place ≡ false = ne_eqb z.key.place x.key.place (λ e. apart (sym e)) in
-          rw other (place-split xs x ys a.1)
+      rw other (place-split xs x ys a.1)
 
   place-next : (xs ys zs : List (Keyed X)) → Apart zs → zs ≡ xs ++ ys → from_place (first_or ys None) zs ≡ ys
   place-next xs [] zs a e = refl

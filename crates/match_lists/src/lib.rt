@@ -1,11 +1,11 @@
 //! The priority list and the overflow list of one portal table index (Portals 4.3, match lists).
 #![tactic(auto)]
 
-pub mod unexpected;
 mod lists;
 mod look;
 mod match_list;
 mod trails;
+pub mod unexpected;
 mod walk;
 
 pub use lists::{LinkedAt, Lists};

@@ -1,11 +1,13 @@
 //! The two lists, each on linked nodes, and the table that tells where the entry of a slot is linked.
-ghost use Rattle.std.specs.Prelude.{◌≡◌, ◌<◌, ◌≤◌, ◌+◌, ◌-◌, ◌*◌, ◌^◌, ◌++◌, ◌∷◌, [], ◌||◌, ◌↔◌, Some, None, false, IsSome, IsTrue, IfOk, IfSome, get_or, option_copied};
+ghost use Rattle.std.specs.Prelude.{◌≡◌, ◌<◌, ◌≤◌, ◌+◌, ◌-◌, ◌*◌, ◌^◌, ◌++◌, ◌∷◌, [], ◌||◌, ◌↔◌, Some, None, false, IsSome, IsTrue, IfOk};
+ghost use Rattle.std.specs.Prelude.{IfSome, get_or, option_copied};
 ghost use Rattle.match_lists.specs.Slots.{where_linked, same_list};
 ghost use Rattle.ni_model.specs.Append.{fresh};
 ghost use Rattle.ni_model.specs.Arrive.{first_fit};
 ghost use Rattle.ni_model.specs.Lists.{is_linked};
 ghost use Rattle.ni_model.specs.Refusals.{entry_names_ct};
-ghost use Rattle.match_lists.specs.Lists.{both, entries, with_entries, linked_count, candidates, has_slot, linked_as, named, entry_of, running_of, with_running, without_entry, advanced_to, values};
+ghost use Rattle.match_lists.specs.Lists.{both, entries, with_entries, linked_count, candidates, has_slot, linked_as, named, entry_of};
+ghost use Rattle.match_lists.specs.Lists.{running_of, with_running, without_entry, advanced_to, values};
 
 use crate::match_list::MatchList;
 use crate::walk::some_names;

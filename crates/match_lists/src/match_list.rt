@@ -1,5 +1,6 @@
 //! One match list: its entries in order, and threads through them by their match bits.
-ghost use Rattle.std.specs.Prelude.{◌≡◌, ◌<◌, ◌≤◌, ◌+◌, ◌-◌, ◌*◌, ◌^◌, ◌++◌, ◌∷◌, [], None, IsSome, IfOk, IfSome, IfNone, All, length, find, option_copied};
+ghost use Rattle.std.specs.Prelude.{◌≡◌, ◌<◌, ◌≤◌, ◌+◌, ◌-◌, ◌*◌, ◌^◌, ◌++◌, ◌∷◌, [], None, IsSome, IfOk, IfSome, IfNone, All, length};
+ghost use Rattle.std.specs.Prelude.{find, option_copied};
 ghost use Rattle.chain_list.specs.Chain.{chain_list, keyed, value_at, without, changed, Linked as IsLinked, Apart};
 ghost use Rattle.ni_model.specs.Lists.{fits};
 ghost use Rattle.match_lists.specs.Buckets.{bucket_of, buckets_of, thread_of, on_thread, last_thread, candidates_in};
@@ -202,7 +203,8 @@ impl MatchList {
     pub(crate) fn advance<L: Ledger>(&mut self, key: ChainKey, by: u64, steps: &mut Steps<L>)
         requires live { IsSome (value_at key self.old.entries) }
         requires fits { IfSome (value_at key self.old.entries) (λ x. x.running + by < 2 ^ 64) }
-        ensures chain { IfSome (value_at key self.old.entries) (λ x. self.new ≡ chain_list (changed key (running_at (x.running + by) x) self.old.entries) self.old.spare self.old.given) }
+        ensures chain { IfSome (value_at key self.old.entries)
+            (λ x. self.new ≡ chain_list (changed key (running_at (x.running + by) x) self.old.entries) self.old.spare self.old.given) }
         ensures steps { steps.new ≤ steps.old + 1 }
     {
         let _nodes = self.chain.nodes();

@@ -6,8 +6,8 @@ ghost use Rattle.match_lists.specs.declared.look.Look.{Look};
 ghost use Rattle.match_lists.specs.Trails.{place_in};
 
 use crate::look::{Look, no_look};
-use chain_list::{Places, Steps};
 use chain_list::threads::Threads;
+use chain_list::{Places, Steps};
 use ptl_types::NoMemory;
 use std::alloc::Global;
 use std::sync::ledger::Ledger;

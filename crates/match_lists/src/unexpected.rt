@@ -1,6 +1,7 @@
 //! The unexpected headers of an interface, in the order of arrival (Portals 4.3, unexpected messages).
 
-ghost use Rattle.std.specs.Prelude.{◌≡◌, ◌<◌, ◌≤◌, ◌+◌, ◌++◌, ◌∷◌, [], IfOk, vec_capacity, vec_len, drop, take, slice_set, IfNone, IfSome, Some, None, slice_index_or, remove, length, option_copied};
+ghost use Rattle.std.specs.Prelude.{◌≡◌, ◌<◌, ◌≤◌, ◌+◌, ◌++◌, ◌∷◌, [], IfOk, vec_capacity, vec_len, drop, take, slice_set, IfNone, IfSome};
+ghost use Rattle.std.specs.Prelude.{Some, None, slice_index_or, remove, length, option_copied};
 ghost use Rattle.ni_model.specs.declared.IndexedHeader.{IndexedHeader};
 ghost use Rattle.ni_model.specs.Headers.{unexpected_list, allows, finds, oldest, without_oldest, names_entry, no_room};
 ghost use Rattle.match_lists.specs.unexpected.Places.{indexed_header, header_at};
@@ -33,9 +34,12 @@ pub fn finds(unexpected: &IndexedHeader, pt: u32, entry: &Entry) -> bool
 
 /// The position of the oldest header that the entry finds, counted from the oldest of all.
 fn position_of(unexpected: &[IndexedHeader], pt: u32, entry: &Entry) -> Option<usize>
-    ensures none { IfNone result ((oldest pt entry.now unexpected.now ≡ None) × (without_oldest pt entry.now unexpected.now ≡ unexpected.now)) }
+    ensures none { IfNone result ((oldest pt entry.now unexpected.now ≡ None) ×
+        (without_oldest pt entry.now unexpected.now ≡ unexpected.now)) }
     ensures within { IfSome result (λ i. i < length unexpected.now) }
-    ensures some { IfSome result (λ i. (d : IndexedHeader) → (oldest pt entry.now unexpected.now ≡ Some (slice_index_or unexpected.now i d)) × (without_oldest pt entry.now unexpected.now ≡ remove unexpected.now i)) }
+    ensures some { IfSome result (λ i. (d : IndexedHeader) →
+        (oldest pt entry.now unexpected.now ≡ Some (slice_index_or unexpected.now i d)) ×
+        (without_oldest pt entry.now unexpected.now ≡ remove unexpected.now i)) }
 {
     for (i, x) in unexpected.iter().enumerate() {
         if finds(x, pt, entry) {

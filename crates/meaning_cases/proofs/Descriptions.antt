@@ -3,8 +3,8 @@ use Rattle.std.specs.Prelude.{◌≡◌, [], ◌∷◌, Some, None, refl, false,
 use Rattle.ptl_types.specs.declared.elements.AtomicOp.TheVariants.{Land, Min, Prod, Sum}
 use Rattle.ptl_types.specs.declared.elements.ElemType.TheVariants.{I16, I8, U16, U32, U8}
 use Rattle.coll_shape.specs.declared.types.Version.TheVariants.{One, Two}
-use Rattle.coll_shape.specs.declared.types.CollStep.TheVariants.{Allgather, Allreduce, Alltoall, Barrier, Broadcast, Exscan, Gather,
-    Gatherv, Reduce, Reducescatter, Scan, Scatter}
+use Rattle.coll_shape.specs.declared.types.CollStep.TheVariants.{Allgather, Allreduce, Alltoall, Barrier, Broadcast, Exscan, Gather}
+use Rattle.coll_shape.specs.declared.types.CollStep.TheVariants.{Gatherv, Reduce, Reducescatter, Scan, Scatter}
 use Rattle.coll_shape.specs.Outline.{Outline}
 use Rattle.coll_shape.specs.Meaning.{meaning_of, meant_upto}
 

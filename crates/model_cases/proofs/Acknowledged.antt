@@ -32,8 +32,25 @@ asked ack = (start (PutDeed (record (args 0 0 2) { ack = ack; target = 1 })) rea
 
 -- the answer of rank 1 to it
 abbrev ack : AckRequest → Bool → ℕ → Sent
-ack request ok length = message (record { kind = AckKind; source = 1; target = 0; pt = 0; match_bits = 5; offset = 0; length =
-    length; hdr_data = 77; op = None; swap = None; ty = U8; operand = 0; ack = request; home = Some first; home_offset = 0; ok = ok }) []
+ack request ok length = message (record {
+  kind = AckKind;
+  source = 1;
+  target = 0;
+  pt = 0;
+  match_bits = 5;
+  offset = 0;
+  length =
+      length;
+  hdr_data = 77;
+  op = None;
+  swap = None;
+  ty = U8;
+  operand = 0;
+  ack = request;
+  home = Some first;
+  home_offset = 0;
+  ok = ok;
+}) []
 
 abbrev events : State → List Event
 events s = events_in first s
@@ -58,8 +75,18 @@ comes_home : (target (asked Ack) (ack Ack true 2)).delivered.outcome ≡ Answere
 unfolding target answered started
 comes_home = refl
 
-told : events (target (asked Ack) (ack Ack true 2)).state ≡ send_event ∷ record { kind = AckEvent; source = 1; pt = 0; match_bits =
-    5; hdr_data = 77; requested = 0; delivered = 2; place = 0; ok = true } ∷ []
+told : events (target (asked Ack) (ack Ack true 2)).state ≡ send_event ∷ record {
+  kind = AckEvent;
+  source = 1;
+  pt = 0;
+  match_bits =
+      5;
+  hdr_data = 77;
+  requested = 0;
+  delivered = 2;
+  place = 0;
+  ok = true;
+} ∷ []
 unfolding target answered started
 told = refl
 
@@ -105,8 +132,25 @@ abbrev got : State
 got = (start (GetDeed (record (back 2) { target = 1 })) reading).state
 
 abbrev reply : ℕ → Bool → List ℕ → ℕ → Sent
-reply at ok bytes length = message (record { kind = ReplyKind; source = 1; target = 0; pt = 0; match_bits = 5; offset = 0; length =
-    length; hdr_data = 0; op = None; swap = None; ty = U8; operand = 0; ack = NoAck; home = Some first; home_offset = at; ok = ok }) bytes
+reply at ok bytes length = message (record {
+  kind = ReplyKind;
+  source = 1;
+  target = 0;
+  pt = 0;
+  match_bits = 5;
+  offset = 0;
+  length =
+      length;
+  hdr_data = 0;
+  op = None;
+  swap = None;
+  ty = U8;
+  operand = 0;
+  ack = NoAck;
+  home = Some first;
+  home_offset = at;
+  ok = ok;
+}) bytes
 
 written_at_home : (target got (reply 3 true (8 ∷ 9 ∷ []) 2)).state.memory ≡ 0 ∷ 0 ∷ 0 ∷ 8 ∷ 9 ∷ replicate 11 0
 unfolding target answered started
@@ -119,14 +163,27 @@ unfolding target answered started
 place_of_bytes = refl
 
 -- a reply that isn't ok writes nothing and has no place, whatever its length says
-failed_place : events (target got (reply 3 false [] 2)).state ≡ record send_event { hdr_data = 0 } ∷ record { kind = ReplyEvent; source =
-    1; pt = 0; match_bits = 5; hdr_data = 0; requested = 0; delivered = 2; place = 0; ok = false } ∷ []
+failed_place : events (target got (reply 3 false [] 2)).state ≡ record send_event { hdr_data = 0 } ∷ record {
+  kind = ReplyEvent;
+  source =
+      1;
+  pt = 0;
+  match_bits = 5;
+  hdr_data = 0;
+  requested = 0;
+  delivered = 2;
+  place = 0;
+  ok = false;
+} ∷ []
 unfolding target answered started
 failed_place = refl
 
 -- a reply that doesn't fit changes nothing but the register
-too_long : target got (reply 7 true (8 ∷ 9 ∷ []) 2) ≡ record { state = record got { drops = 1 }; delivered =
-    record { outcome = Dropped; answer = None } }
+too_long : target got (reply 7 true (8 ∷ 9 ∷ []) 2) ≡ record {
+  state = record got { drops = 1 };
+  delivered =
+      record { outcome = Dropped; answer = None };
+}
 unfolding target answered started
 too_long = refl
 

@@ -1,11 +1,11 @@
 -- What a caller sees to before a start, what parts and messages keep, and which entry matches: each bound with the last number that
 -- meets it and the first that doesn't.
-use Rattle.std.proofs.Common.{ℕ, Bool, true, false, ◌≡◌, ◌≤◌, ◌+◌, ◌-◌, ◌^◌, List, [], ◌∷◌, map, Option, Some, None, refl, arith, lit<,
-    lit≤, replicate}
+use Rattle.std.proofs.Common.{ℕ, Bool, true, false, ◌≡◌, ◌≤◌, ◌+◌, ◌-◌, ◌^◌, List, [], ◌∷◌, map, Option, Some, None, refl, arith, lit<}
+use Rattle.std.proofs.Common.{lit≤, replicate}
 use Rattle.ptl_types.specs.declared.headers.AckRequest.TheVariants.{NoAck, CtAck}
 use Rattle.ptl_types.specs.declared.headers.MessageKind.{MessageKind}
-use Rattle.ptl_types.specs.declared.headers.MessageKind.TheVariants.{Put as PutKind, Get as GetKind, Atomic as AtomicKind,
-    FetchAtomic as FetchKind, Swap as SwapKind, Ack as AckKind, Reply}
+use Rattle.ptl_types.specs.declared.headers.MessageKind.TheVariants.{Put as PutKind, Get as GetKind, Atomic as AtomicKind}
+use Rattle.ptl_types.specs.declared.headers.MessageKind.TheVariants.{FetchAtomic as FetchKind, Swap as SwapKind, Ack as AckKind, Reply}
 use Rattle.ptl_types.specs.declared.headers.Lane.TheVariants.{Request, Answer}
 use Rattle.ptl_types.specs.declared.elements.ElemType.TheVariants.{U16}
 use Rattle.ptl_types.specs.declared.elements.AtomicOp.TheVariants.{Sum}

@@ -12,8 +12,8 @@ use Rattle.ni_model.specs.Append.{append}
 use Rattle.ni_model.specs.Counts.{successes}
 use Rattle.ni_model.specs.State.{State, target}
 use Rattle.ni_model.specs.Calls.{ct_alloc, ct_get, me_append, me_unlink}
-use Rattle.model_cases.proofs.Setting.{new, first, entry, once, local, counting, put, put_at, get, asking, is_ok_answer, length_of_answer,
-    bytes_of_answer}
+use Rattle.model_cases.proofs.Setting.{new, first, entry, once, local, counting, put, put_at, get, asking, is_ok_answer, length_of_answer}
+use Rattle.model_cases.proofs.Setting.{bytes_of_answer}
 
 -- ---- two use-once entries that count
 two_entries : State → State

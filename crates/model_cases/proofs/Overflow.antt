@@ -72,10 +72,40 @@ unfolding target request append
 order_of_events = refl
 
 -- a taken header's event says where its bytes lie
-taken_says : events (append_once filled).state ≡ record { kind = Link; source = 0; pt = 1; match_bits = 5; hdr_data = 0; requested =
-    0; delivered = 0; place = 0; ok = true } ∷ record { kind = AutoUnlink; source = 0; pt = 1; match_bits = 5; hdr_data = 0; requested =
-    0; delivered = 0; place = 0; ok = true } ∷ record { kind = PutOverflow; source = 1; pt = 1; match_bits = 5; hdr_data = 77; requested =
-    3; delivered = 3; place = 0; ok = true } ∷ []
+taken_says : events (append_once filled).state ≡ record {
+  kind = Link;
+  source = 0;
+  pt = 1;
+  match_bits = 5;
+  hdr_data = 0;
+  requested =
+      0;
+  delivered = 0;
+  place = 0;
+  ok = true;
+} ∷ record {
+  kind = AutoUnlink;
+  source = 0;
+  pt = 1;
+  match_bits = 5;
+  hdr_data = 0;
+  requested =
+      0;
+  delivered = 0;
+  place = 0;
+  ok = true;
+} ∷ record {
+  kind = PutOverflow;
+  source = 1;
+  pt = 1;
+  match_bits = 5;
+  hdr_data = 77;
+  requested =
+      3;
+  delivered = 3;
+  place = 0;
+  ok = true;
+} ∷ []
 unfolding target request append
 taken_says = refl
 
@@ -147,8 +177,18 @@ atomic_first = refl
 
 -- ---- a message delivered to a priority entry is told with all that it says, and the unlinking after it
 abbrev put_event : Event
-put_event = record { kind = PutEvent; source = 1; pt = 1; match_bits = 5; hdr_data = 77; requested = 3; delivered = 2; place = 5; ok =
-    true }
+put_event = record {
+  kind = PutEvent;
+  source = 1;
+  pt = 1;
+  match_bits = 5;
+  hdr_data = 77;
+  requested = 3;
+  delivered = 2;
+  place = 5;
+  ok =
+      true;
+}
 
 delivery_is_told : kinds (target (me_append 0 1 Priority (once (entry 4 3)) (told 8)).state (put_at 1 1 (1 ∷ 2 ∷ 3 ∷ []))).state ≡ Link
     ∷ PutEvent ∷ AutoUnlink ∷ []
@@ -194,8 +234,18 @@ finds_nothing : (me_search 1 (entry 0 4) false (told 1)).answer ≡ Ok None
 unfolding search
 finds_nothing = refl
 
-missed : events (me_search 1 (entry 0 4) false (told 1)).state ≡ record { kind = Search; source = 0; pt = 1; match_bits = 5; hdr_data =
-    0; requested = 0; delivered = 0; place = 0; ok = false } ∷ []
+missed : events (me_search 1 (entry 0 4) false (told 1)).state ≡ record {
+  kind = Search;
+  source = 0;
+  pt = 1;
+  match_bits = 5;
+  hdr_data =
+      0;
+  requested = 0;
+  delivered = 0;
+  place = 0;
+  ok = false;
+} ∷ []
 unfolding search
 missed = refl
 

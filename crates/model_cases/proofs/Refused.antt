@@ -25,8 +25,8 @@ use Rattle.ni_model.specs.Counts.{successes}
 use Rattle.ni_model.specs.Starts.{started}
 use Rattle.ni_model.specs.Tables.{handle}
 use Rattle.ni_model.specs.State.{State, opened, target}
-use Rattle.ni_model.specs.Calls.{awaits, ct_alloc, ct_cancel, ct_free, ct_get, ct_inc, ct_set, eq_alloc, eq_free, eq_get, md_bind,
-    md_release, me_append, me_unlink, pt_alloc, pt_free, start, triggered}
+use Rattle.ni_model.specs.Calls.{awaits, ct_alloc, ct_cancel, ct_free, ct_get, ct_inc, ct_set, eq_alloc, eq_free, eq_get, md_bind}
+use Rattle.ni_model.specs.Calls.{md_release, me_append, me_unlink, pt_alloc, pt_free, start, triggered}
 use Rattle.model_cases.proofs.Setting.{counting, entry, first, once, part_of, second}
 use Rattle.model_cases.proofs.Wide.{asks, base, bound_both, fault_of, fetching, goal, many, region, sending, source, unknown}
 

@@ -5,8 +5,8 @@ use Rattle.ptl_types.specs.declared.elements.ElemType.{ElemType}
 use Rattle.ptl_types.specs.declared.elements.ElemType.TheVariants.{U8}
 use Rattle.ptl_types.specs.declared.elements.AtomicOp.{AtomicOp}
 use Rattle.ptl_types.specs.declared.elements.SwapOp.{SwapOp}
-use Rattle.ptl_types.specs.declared.headers.MessageKind.TheVariants.{Put as PutKind, Atomic as AtomicKind, FetchAtomic as FetchAtomicKind,
-    Swap as SwapKind}
+use Rattle.ptl_types.specs.declared.headers.MessageKind.TheVariants.{Put as PutKind, Atomic as AtomicKind, FetchAtomic as FetchAtomicKind}
+use Rattle.ptl_types.specs.declared.headers.MessageKind.TheVariants.{Swap as SwapKind}
 use Rattle.ptl_types.specs.declared.headers.AckRequest.{AckRequest}
 use Rattle.ptl_types.specs.declared.headers.AckRequest.TheVariants.{NoAck}
 use Rattle.ptl_types.specs.declared.entries.Entry.{Entry}
@@ -66,14 +66,32 @@ abbrev pub local : ℕ → Entry → Entry
 local free e = record e { manage_local = true; min_free = free }
 
 abbrev pub part_of : ℕ → ℕ → Descriptor
-part_of start length = record { start = start; length = length; eq = None; ct = None; count_send = false; count_reply = false; count_ack =
-    false }
+part_of start length = record {
+  start = start;
+  length = length;
+  eq = None;
+  ct = None;
+  count_send = false;
+  count_reply = false;
+  count_ack =
+      false;
+}
 
 -- ---- messages of rank 1 to rank 0, with match bits 5 and header data 77
 
 abbrev pub args : ℕ → ℕ → ℕ → PutArgs
-args pt offset length = record { md = first; local_offset = 0; length = length; ack = NoAck; target = 0; pt = pt; match_bits =
-    5; remote_offset = offset; hdr_data = 77 }
+args pt offset length = record {
+  md = first;
+  local_offset = 0;
+  length = length;
+  ack = NoAck;
+  target = 0;
+  pt = pt;
+  match_bits =
+      5;
+  remote_offset = offset;
+  hdr_data = 77;
+}
 
 abbrev pub back : ℕ → GetArgs
 back length = record { md = first; local_offset = 3; length = length; target = 0; pt = 0; match_bits = 5; remote_offset = 0 }

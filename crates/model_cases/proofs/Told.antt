@@ -11,8 +11,9 @@ use Rattle.ptl_types.specs.declared.entries.List.{List as EntryList}
 use Rattle.ptl_types.specs.declared.entries.List.TheVariants.{Priority, Overflow as InOverflow}
 use Rattle.ptl_types.specs.declared.events.Event.{Event}
 use Rattle.ptl_types.specs.declared.events.EventKind.{EventKind}
-use Rattle.ptl_types.specs.declared.events.EventKind.TheVariants.{Put as PutEvent, Get as GetEvent, Atomic as AtomicEvent,
-    FetchAtomic as FetchEvent, PutOverflow, AtomicOverflow, AutoUnlink, AutoFree, Link, Search}
+use Rattle.ptl_types.specs.declared.events.EventKind.TheVariants.{Put as PutEvent, Get as GetEvent, Atomic as AtomicEvent}
+use Rattle.ptl_types.specs.declared.events.EventKind.TheVariants.{FetchAtomic as FetchEvent, PutOverflow, AtomicOverflow, AutoUnlink}
+use Rattle.ptl_types.specs.declared.events.EventKind.TheVariants.{AutoFree, Link, Search}
 use Rattle.ptl_types.specs.Messages.{Sent, message}
 use Rattle.ni_model.specs.Append.{append, search}
 use Rattle.ni_model.specs.Arrive.{request}

@@ -2,8 +2,8 @@
 use Rattle.std.specs.Prelude.{ℕ, true, false, ◌≡◌, [], ◌∷◌, Option, Some, None, Ok, refl}
 use Rattle.ptl_types.specs.declared.handles.Handle.{Handle}
 use Rattle.ptl_types.specs.declared.headers.Header.{Header}
-use Rattle.ptl_types.specs.declared.headers.MessageKind.TheVariants.{Put as PutKind, Get as GetKind, Atomic as AtomicKind,
-    FetchAtomic as FetchKind, Swap as SwapKind}
+use Rattle.ptl_types.specs.declared.headers.MessageKind.TheVariants.{Put as PutKind, Get as GetKind, Atomic as AtomicKind}
+use Rattle.ptl_types.specs.declared.headers.MessageKind.TheVariants.{FetchAtomic as FetchKind, Swap as SwapKind}
 use Rattle.ptl_types.specs.declared.headers.AckRequest.{AckRequest}
 use Rattle.ptl_types.specs.declared.headers.AckRequest.TheVariants.{NoAck, CtAck, Ack}
 use Rattle.ptl_types.specs.declared.elements.ElemType.TheVariants.{U8, U16}

@@ -6,8 +6,8 @@ ghost use Rattle.ni_model.specs.Counts.{counted, successes};
 ghost use Rattle.ni_model.specs.Queues.{raised};
 
 use crate::counters::Counter;
-use crate::queues::Queue;
 use crate::handles::Store;
+use crate::queues::Queue;
 use ptl_types::{Count, Event, Handle};
 
 /// That many successes, and no failure.

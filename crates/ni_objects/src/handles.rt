@@ -1,6 +1,7 @@
 //! A table of live things of an interface, each under a handle of its slot and its stamp.
 
-ghost use Rattle.std.specs.Prelude.{◌≡◌, ◌<◌, ◌↔◌, Some, IsSome, IsErr, IsTrue, IfSome, IfNone, IfOk, IfErr, false, length, option_copied, All};
+ghost use Rattle.std.specs.Prelude.{◌≡◌, ◌<◌, ◌↔◌, Some, IsSome, IsErr, IsTrue, IfSome, IfNone, IfOk, IfErr, false, length, option_copied};
+ghost use Rattle.std.specs.Prelude.{All};
 ghost use Rattle.std.specs.Option.{option_copied_mut};
 ghost use Rattle.std.specs.Borrow.{sem};
 ghost use Rattle.ptl_types.specs.declared.handles.Handle.{Handle};

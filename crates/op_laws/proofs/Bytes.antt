@@ -1,6 +1,6 @@
 -- Parts of a list of bytes, and what is written over them.
-use Rattle.std.proofs.Common.{ℕ, zero, suc, ◌+◌, ◌*◌, ◌/◌, ◌%◌, ◌≡◌, ◌≤◌, ◌<◌, List, refl, length, drop, ap, ◌∙◌, arith, rules, lit<,
-    div-add-mod'}
+use Rattle.std.proofs.Common.{ℕ, zero, suc, ◌+◌, ◌*◌, ◌/◌, ◌%◌, ◌≡◌, ◌≤◌, ◌<◌, List, refl, length, drop, ap, ◌∙◌, arith, rules, lit<}
+use Rattle.std.proofs.Common.{div-add-mod'}
 use Rattle.std.proofs.lemmas.List.{places, same_lists, length-append, length-take, length-drop, take_all}
 use Rattle.ptl_types.specs.Elements.{by_element, combined, little_endian, part, repeated, starting, written}
 use Rattle.ptl_types.specs.Operations.{bytes_of, op, start_value}

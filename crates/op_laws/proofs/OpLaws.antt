@@ -1,7 +1,7 @@
 -- The ten operations on bit patterns: partial results may be combined in any order, and the starting value changes none of them.
-use Rattle.std.proofs.Common.{◌/◌, ◌-◌, mod-eq_of_lt, add_comm, mul_comm, ℕ, Bool, true, false, cond, not, ◌&&◌, ◌||◌, ◌+◌, ◌*◌, ◌%◌, ◌≡◌,
-    ◌<◌, refl, ap, ◌∙◌, sym, arith, mod-lt, pow_pos, bit_and, bit_or, bit_xor, min, max, nat_le, lit<, if◌then◌else◌, le-leb, leb-false,
-    leb-true, mul_right_comm, lt_of_le_of_lt}
+use Rattle.std.proofs.Common.{◌/◌, ◌-◌, mod-eq_of_lt, add_comm, mul_comm, ℕ, Bool, true, false, cond, not, ◌&&◌, ◌||◌, ◌+◌, ◌*◌, ◌%◌, ◌≡◌}
+use Rattle.std.proofs.Common.{◌<◌, refl, ap, ◌∙◌, sym, arith, mod-lt, pow_pos, bit_and, bit_or, bit_xor, min, max, nat_le, lit<}
+use Rattle.std.proofs.Common.{if◌then◌else◌, le-leb, leb-false, leb-true, mul_right_comm, lt_of_le_of_lt}
 use Rattle.std.specs.Int.{bit_at}
 use Rattle.std.proofs.lemmas.Bool.{false_from_ne_true}
 use Rattle.std.proofs.lemmas.Nat.Bits.{bit_at-zero, bit_at_xor, bit_at_and, bit_at_or, same_from_bits}
@@ -86,8 +86,8 @@ logic_swaps : (f : Bool → Bool → Bool) → ((p q r : Bool) → f (f p q) r �
     (f (isnt_zero (one_if (f (isnt_zero x) (isnt_zero b)))) (isnt_zero a))
 logic_swaps f h x a b =
     ap (λ v. one_if (f v (isnt_zero b))) (isnt_zero-one_if (f (isnt_zero x) (isnt_zero a)))
-        ∙ ap one_if (h (isnt_zero x) (isnt_zero a) (isnt_zero b))
-        ∙ sym (ap (λ v. one_if (f v (isnt_zero a))) (isnt_zero-one_if (f (isnt_zero x) (isnt_zero b))))
+    ∙ ap one_if (h (isnt_zero x) (isnt_zero a) (isnt_zero b))
+    ∙ sym (ap (λ v. one_if (f v (isnt_zero a))) (isnt_zero-one_if (f (isnt_zero x) (isnt_zero b))))
 
 -- the lesser and the greater by a key that tells values apart
 abbrev lesser : (ℕ → ℕ) → ℕ → ℕ → ℕ
@@ -103,9 +103,9 @@ lesser_swaps k x a b p q r = at (nat_le (k x) (k a)) (nat_le (k x) (k b)) refl r
     at : (s t : Bool) → nat_le (k x) (k a) ≡ s → nat_le (k x) (k b) ≡ t → lesser k (cond s x a) b ≡ lesser k (cond t x b) a
     at true true e f = rw (e, f) refl
     at true false e f = let g : nat_le (k b) (k a) ≡ true = le-leb _ _ (let i = leb-true _ _ e in let j = leb-false _ _ f in omega arith)
-                              in rw (f, g) refl
+        in rw (f, g) refl
     at false true e f = let g : nat_le (k a) (k b) ≡ true = le-leb _ _ (let i = leb-false _ _ e in let j = leb-true _ _ f in omega arith)
-                              in rw (e, g) refl
+        in rw (e, g) refl
     at false false e f = both (nat_le (k a) (k b)) (nat_le (k b) (k a)) refl refl
       where
         both : (s t : Bool) → nat_le (k a) (k b) ≡ s → nat_le (k b) (k a) ≡ t → cond s a b ≡ cond t b a
@@ -124,9 +124,9 @@ greater_swaps k x a b p q r = at (nat_le (k x) (k a)) (nat_le (k x) (k b)) refl 
     at : (s t : Bool) → nat_le (k x) (k a) ≡ s → nat_le (k x) (k b) ≡ t → greater k (cond s a x) b ≡ greater k (cond t b x) a
     at false false e f = rw (e, f) refl
     at true false e f = let g : nat_le (k a) (k b) ≡ false = false_le (λ i. let n = leb-true _ _ i in let j = leb-false _ _ f in let l =
-                                                                                                                                       leb-true _ _ e in absurd (omega arith)) in rw (e, g) refl
+        leb-true _ _ e in absurd (omega arith)) in rw (e, g) refl
     at false true e f = let g : nat_le (k b) (k a) ≡ false = false_le (λ i. let n = leb-true _ _ i in let j = leb-true _ _ f in let l =
-                                                                                                                                      leb-false _ _ e in absurd (omega arith)) in rw (f, g) refl
+        leb-false _ _ e in absurd (omega arith)) in rw (f, g) refl
     at true true e f = both (nat_le (k a) (k b)) (nat_le (k b) (k a)) refl refl
       where
         both : (s t : Bool) → nat_le (k a) (k b) ≡ s → nat_le (k b) (k a) ≡ t → cond s b a ≡ cond t a b

@@ -1,6 +1,6 @@
 -- What came upon starting values may be joined in their place: op(x, op(e, d)) = op(x, d).
-use Rattle.std.proofs.Common.{ℕ, zero, suc, ◌/◌, ◌^◌, ◌≡◌, ◌<◌, List, ◌++◌, refl, length, take, drop, ap, ap₂, ◌∙◌, sym, subst, take_at,
-    drop_at, mul-div_cancel}
+use Rattle.std.proofs.Common.{ℕ, zero, suc, ◌/◌, ◌^◌, ◌≡◌, ◌<◌, List, ◌++◌, refl, length, take, drop, ap, ap₂, ◌∙◌, sym, subst, take_at}
+use Rattle.std.proofs.Common.{drop_at, mul-div_cancel}
 use Rattle.ptl_types.specs.Operations.{bytes_of, op, span, start_value}
 use Rattle.ptl_types.specs.Elements.{by_element, little_endian, pattern, repeated, starting}
 use Rattle.op_laws.specs.Combining.{CombineStarts}
@@ -17,10 +17,10 @@ module _ (f : ℕ → ℕ → ℕ) (w e : ℕ) (small : e < 256 ^ w)
   repeated-start (suc n) xs ds =
       let d = pattern (take w ds) in
       let inner : by_element f w (suc n) (repeated w (suc n) e) ds ≡ little_endian w (f e (pattern (take w ds))) ++ by_element f w n
-            (repeated w n e) (drop w ds) =
+      (repeated w n e) (drop w ds) =
       ap₂ (λ v rest. little_endian w (f (pattern v) (pattern (take w ds))) ++ by_element f w n rest (drop w ds))
       (take_at (little_endian w e) (repeated w n e) w (length-little_endian w e))
-          (drop_at (little_endian w e) (repeated w n e) w (length-little_endian w e))
+      (drop_at (little_endian w e) (repeated w n e) w (length-little_endian w e))
       ∙ ap (λ v. little_endian w (f v (pattern (take w ds))) ++ by_element f w n (repeated w n e) (drop w ds)) (pattern-little w e small) in
       ap (λ v. by_element f w (suc n) xs v) inner
       ∙ ap₂ (λ v rest. little_endian w (f (pattern (take w xs)) (pattern v)) ++ by_element f w n (drop w xs) rest)
@@ -28,7 +28,7 @@ module _ (f : ℕ → ℕ → ℕ) (w e : ℕ) (small : e < 256 ^ w)
       (drop_at (little_endian w (f e (pattern (take w ds)))) (by_element f w n (repeated w n e) (drop w ds)) w (length-little_endian w _))
       ∙ ap₂ (λ v rest. little_endian w v ++ rest)
       (ap (f (pattern (take w xs))) (pattern-little w (f e (pattern (take w ds))) (below e (pattern (take w ds)) small (pattern-lt w ds)))
-          ∙ starts (pattern (take w xs)) (pattern (take w ds)) (pattern-lt w xs) (pattern-lt w ds))
+      ∙ starts (pattern (take w xs)) (pattern (take w ds)) (pattern-lt w xs) (pattern-lt w ds))
       (repeated-start n (drop w xs) (drop w ds))
 
 pub combined-starts : CombineStarts
@@ -36,9 +36,9 @@ combined-starts o ty x d size =
     let w = bytes_of ty in
     let n : length (starting o ty (length d)) / bytes_of ty ≡ length x / bytes_of ty =
     ap (λ m. m / bytes_of ty) (length-elements_of (bytes_of ty) (length d / bytes_of ty) (start_value o ty))
-        ∙ mul-div_cancel (length d / bytes_of ty) (bytes-pos ty) ∙ ap (λ m. m / bytes_of ty) (sym size) in
+    ∙ mul-div_cancel (length d / bytes_of ty) (bytes-pos ty) ∙ ap (λ m. m / bytes_of ty) (sym size) in
     ap₂ (λ m k. by_element (op o ty) (bytes_of ty) (length x / bytes_of ty) x
-        (by_element (op o ty) (bytes_of ty) m (repeated (bytes_of ty) k (start_value o ty)) d)) n (ap (λ m. m / bytes_of ty) (sym size))
+    (by_element (op o ty) (bytes_of ty) m (repeated (bytes_of ty) k (start_value o ty)) d)) n (ap (λ m. m / bytes_of ty) (sym size))
     ∙ repeated-start (op o ty) (bytes_of ty) (start_value o ty) (subst (λ v. start_value o ty < v) (span-is ty) (start-lt o ty))
     (λ x d i j. absorbs o ty x d (up i) (up j))
     (λ x a i j. subst (λ v. op o ty x a < v) (span-is ty) (op-below o ty x a (up i) (up j)))

@@ -1,6 +1,6 @@
 -- The law at lists, from the law at numbers.
-use Rattle.std.proofs.Common.{ℕ, zero, suc, ◌/◌, ◌^◌, ◌≡◌, ◌<◌, List, [], ◌∷◌, ◌++◌, refl, length, take, drop, ap, ap₂, ◌∙◌, sym, subst,
-    arith, take_at, drop_at, mul-div_cancel, lit<, pow-suc}
+use Rattle.std.proofs.Common.{ℕ, zero, suc, ◌/◌, ◌^◌, ◌≡◌, ◌<◌, List, [], ◌∷◌, ◌++◌, refl, length, take, drop, ap, ap₂, ◌∙◌, sym, subst}
+use Rattle.std.proofs.Common.{arith, take_at, drop_at, mul-div_cancel, lit<, pow-suc}
 use Rattle.ptl_types.specs.declared.elements.AtomicOp.{AtomicOp}
 use Rattle.ptl_types.specs.declared.elements.ElemType.{ElemType}
 use Rattle.ptl_types.specs.declared.elements.ElemType.TheVariants.{I16, I32, I64, I8, U16, U32, U64, U8}
@@ -44,19 +44,19 @@ module _ (f : ℕ → ℕ → ℕ) (w : ℕ)
       let b = pattern (take w vs) in
       let rest : List ℕ → List ℕ = λ ys. by_element f w n (drop w xs) (drop w ys) in
       let half : (ys zs : List ℕ) → by_element f w (suc n) (by_element f w (suc n) xs ys) zs ≡ little_endian w
-            (f (f (pattern (take w xs)) (pattern (take w ys))) (pattern (take w zs))) ++ by_element f w n
-            (by_element f w n (drop w xs) (drop w ys)) (drop w zs) =
+      (f (f (pattern (take w xs)) (pattern (take w ys))) (pattern (take w zs))) ++ by_element f w n
+      (by_element f w n (drop w xs) (drop w ys)) (drop w zs) =
       (λ ys zs.
       ap₂ (λ first later. little_endian w (f (pattern first) (pattern (take w zs))) ++ by_element f w n later (drop w zs))
       (take_at (little_endian w (f (pattern (take w xs)) (pattern (take w ys)))) (by_element f w n (drop w xs) (drop w ys)) w
-          (length-little_endian w _))
+      (length-little_endian w _))
       (drop_at (little_endian w (f (pattern (take w xs)) (pattern (take w ys)))) (by_element f w n (drop w xs) (drop w ys)) w
-          (length-little_endian w _))
+      (length-little_endian w _))
       ∙ ap (λ v. little_endian w (f v (pattern (take w zs))) ++ by_element f w n (by_element f w n (drop w xs) (drop w ys)) (drop w zs))
       (pattern-little w (f (pattern (take w xs)) (pattern (take w ys))) (below _ _ (pattern-lt w xs) (pattern-lt w ys)))) in
       half us vs
       ∙ ap₂ (λ v later. little_endian w v ++ later) (swaps _ _ _ (pattern-lt w xs) (pattern-lt w us) (pattern-lt w vs))
-          (repeated-swap n (drop w xs) (drop w us) (drop w vs))
+      (repeated-swap n (drop w xs) (drop w us) (drop w vs))
       ∙ sym (half vs us)
 
 pub span-is : (ty : ElemType) → span ty ≡ 256 ^ bytes_of ty
@@ -74,7 +74,7 @@ combined-swaps h o ty x a b =
     let w = bytes_of ty in
     let same : (y : List ℕ) → length (combined o ty x y) / bytes_of ty ≡ length x / bytes_of ty =
     (λ y. ap (λ n. n / bytes_of ty) (length-by_element (op o ty) (bytes_of ty) (length x / bytes_of ty) x y)
-        ∙ mul-div_cancel (length x / bytes_of ty) (bytes-pos ty)) in
+    ∙ mul-div_cancel (length x / bytes_of ty) (bytes-pos ty)) in
     ap (λ n. by_element (op o ty) (bytes_of ty) n (combined o ty x a) b) (same a)
     ∙ repeated-swap (op o ty) (bytes_of ty)
     (λ x a b i j k. h.swaps o ty x a b (up i) (up j) (up k))

@@ -1,6 +1,6 @@
 -- What a world allows of a rank is what is enabled there, under any slots that agree with it.
-use Rattle.std.proofs.Common.{ℕ, zero, suc, false, ◌<◌, ◌≡◌, ◌∙◌, ◌++◌, List, [], ◌∷◌, refl, sym, ap, subst, arith, length, append-nil,
-    IsTrue, count_by}
+use Rattle.std.proofs.Common.{ℕ, zero, suc, false, ◌<◌, ◌≡◌, ◌∙◌, ◌++◌, List, [], ◌∷◌, refl, sym, ap, subst, arith, length, append-nil}
+use Rattle.std.proofs.Common.{IsTrue, count_by}
 use Rattle.ptl_types.specs.Messages.{Sent}
 use Rattle.ptl_types.specs.declared.headers.Lane.{Lane}
 use Rattle.ptl_types.specs.declared.headers.Lane.TheVariants.{Answer, Request}

@@ -1,6 +1,6 @@
 -- A world after a listed step.
-use Rattle.std.proofs.Common.{ℕ, false, cond, ◌&&◌, ◌<◌, ◌≡◌, ◌⊎◌, ◌∙◌, ◌++◌, List, [], ◌∷◌, Option, Some, None, refl, sym, ap, ap₂, subst,
-    inl, inr, arith, length, map, filter, count_by, append-nil, append_assoc, IsTrue}
+use Rattle.std.proofs.Common.{ℕ, false, cond, ◌&&◌, ◌<◌, ◌≡◌, ◌⊎◌, ◌∙◌, ◌++◌, List, [], ◌∷◌, Option, Some, None, refl, sym, ap, ap₂, subst}
+use Rattle.std.proofs.Common.{inl, inr, arith, length, map, filter, count_by, append-nil, append_assoc, IsTrue}
 use Rattle.std.proofs.lemmas.Bool.{cases_eq, ne_eqb}
 use Rattle.std.proofs.lemmas.List.{map-append}
 use Rattle.std.proofs.lemmas.List.Elements.{filter-append}

@@ -14,8 +14,8 @@ ghost use Rattle.order_check.specs.Work.{IsDriven, IsUnfinished};
 
 use crate::allowing::{is_quiet, ranks};
 use crate::taking::{next_listed, take_all};
-use order_lines::Orders;
 use cuts::orders::Verdict;
+use order_lines::Orders;
 use ptl_types::{Cause, LocalStep, NoMemory, Rank};
 use schedule_compiler::Job;
 use std::alloc::Global;

@@ -5,7 +5,7 @@ mod allowing;
 mod judging;
 mod taking;
 
+pub use cuts::orders::Verdict;
 pub use judging::check;
 pub use order_lines::Orders;
-pub use cuts::orders::Verdict;
 pub use ptl_types::Cause;

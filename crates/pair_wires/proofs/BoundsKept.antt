@@ -38,5 +38,12 @@ pub all-moved : (received held moved left sent : List Sent) → sent ≡ receive
     length held ≤ length moved → sent ≡ received ++ moved
 all-moved received held moved [] sent whole parts enough = parts ∙ append-nil (received ++ moved)
 all-moved received held moved (x ∷ left) sent whole parts enough =
-    absurd (omega (arith, ap (λ (l : List Sent). length l) whole, ap (λ (l : List Sent). length l) parts, length-append received held,
-    length-append (received ++ moved) (x ∷ left), length-append received moved, enough))
+    absurd (omega (
+      arith,
+      ap (λ (l : List Sent). length l) whole,
+      ap (λ (l : List Sent). length l) parts,
+      length-append received held,
+      length-append (received ++ moved) (x ∷ left),
+      length-append received moved,
+      enough,
+    ))

@@ -28,7 +28,15 @@ impl Model for OutEnd {
 
     ghost Value = { Outgoing };
 
-    ghost view = { λ e. record { wire = e.pass.table_id; bounds = e.pass.me.0.client.bounds; sent = followed_by e.pass.me.0.client.sent e.waiting; waits = is_there e.waiting; refused = e.refused; heard = e.pass.me.0.client.heard } };
+    ghost view = { λ e. record {
+      wire = e.pass.table_id;
+      bounds = e.pass.me.0.client.bounds;
+      sent =
+          followed_by e.pass.me.0.client.sent e.waiting;
+      waits = is_there e.waiting;
+      refused = e.refused;
+      heard = e.pass.me.0.client.heard;
+    } };
 
     ghost invariant = { λ e. OutKeeps e.pass.me.0.client e.pass.me.1 e.waiting e.pushed };
 }
@@ -68,7 +76,14 @@ impl Model for InEnd {
 
     ghost Value = { Incoming };
 
-    ghost view = { λ e. record { wire = e.pass.table_id; bounds = e.pass.me.0.client.bounds; received = e.pass.me.0.client.received; empty = e.empty; told = e.pass.me.0.client.told } };
+    ghost view = { λ e. record {
+      wire = e.pass.table_id;
+      bounds = e.pass.me.0.client.bounds;
+      received =
+          e.pass.me.0.client.received;
+      empty = e.empty;
+      told = e.pass.me.0.client.told;
+    } };
 
     ghost invariant = { λ e. InKeeps e.pass.me.0.client e.pass.me.1 e.popped };
 }

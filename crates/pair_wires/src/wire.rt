@@ -1,6 +1,7 @@
 //! A wire from one rank to another, over a queue under a rule.
 
-ghost use Rattle.std.specs.Prelude.{◌≡◌, true, ◌+◌, ◌≤◌, ◌<◌, [], ◌∷◌, ◌++◌, List, length, IfOk, IfErr, OnOk, IfSome, IfNone, IsTrue, IsFalse, false};
+ghost use Rattle.std.specs.Prelude.{◌≡◌, true, ◌+◌, ◌≤◌, ◌<◌, [], ◌∷◌, ◌++◌, List, length, IfOk, IfErr, OnOk, IfSome, IfNone, IsTrue};
+ghost use Rattle.std.specs.Prelude.{IsFalse, false};
 ghost use Rattle.ptl_types.specs.Messages.{Sent};
 ghost use Rattle.crossbeam_queue.specs.Passes.{view, IsPassOf};
 ghost use Rattle.ptl_types.specs.Handles.{one_more};
@@ -58,7 +59,8 @@ fn move_one<R: Wait>(rt: &R, line: &Line, pass: &mut Pass<Message, EndView>, res
     requires nonempty { length (view pass.old).received < length (view pass.old).sent }
     requires room { length rest.old.messages < rest.old.capacity }
     ensures pass { IsPassOf line.now pass.new }
-    ensures moved { (m : Sent) × Drains (view pass.old) m (view pass.new) × (rest.new ≡ plain (rest.old.messages ++ m ∷ []) rest.old.capacity) }
+    ensures moved { (m : Sent) × Drains (view pass.old) m (view pass.new) ×
+        (rest.new ≡ plain (rest.old.messages ++ m ∷ []) rest.old.capacity) }
 {
     let Some(message) = line.pop_as::<DrainStep, R>(rt, pass) else {
         unreachable!()
@@ -152,7 +154,8 @@ impl Wire {
         ensures wire { IsOutOf self.now end.new }
         ensures sent { end.new.sent ≡ end.old.sent ++ message ∷ [] }
         ensures pushed { end.new.waits ≡ false → end.new.refused ≡ end.old.refused }
-        ensures full { end.new.waits ≡ true → (end.new.refused ≡ one_more end.old.refused) × (self.now.capacity + end.old.heard ≤ length end.old.sent) }
+        ensures full { end.new.waits ≡ true → (end.new.refused ≡ one_more end.old.refused) ×
+            (self.now.capacity + end.old.heard ≤ length end.old.sent) }
         ensures heard { end.new.heard ≡ end.old.heard }
     {
         if let Err(back) = self.push(rt, end, message) {
@@ -170,7 +173,8 @@ impl Wire {
         ensures sent { end.new.sent ≡ end.old.sent }
         ensures flushed { IsTrue result → (end.new.waits ≡ false) × (end.new.refused ≡ end.old.refused) }
         ensures waits { IsFalse result → (end.old.waits ≡ true) × (end.new.waits ≡ true) }
-        ensures full { IsFalse result → (end.new.refused ≡ one_more end.old.refused) × (self.now.capacity + end.old.heard < length end.old.sent) }
+        ensures full { IsFalse result → (end.new.refused ≡ one_more end.old.refused) ×
+            (self.now.capacity + end.old.heard < length end.old.sent) }
         ensures heard { end.new.heard ≡ end.old.heard }
     {
         let Some(message) = end.waiting.take() else {

@@ -3,8 +3,8 @@
 use crate::answers::gives;
 use ni_objects::counters::Counter;
 use ni_objects::delivery::{count, raise, successes};
-use ni_objects::queues::Queue;
 use ni_objects::handles::{Store, is_live_or_none, names, where_set};
+use ni_objects::queues::Queue;
 use ptl_types::{EqGot, Event, EventKind, Handle};
 use std::test::Fail;
 

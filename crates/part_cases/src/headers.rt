@@ -1,9 +1,9 @@
 //! Headers are taken in the order of arrival.
 
 use crate::answers::gives;
+use match_lists::unexpected::Headers;
 use ptl_types::{AckRequest, ElemType, Entry, Handle, Header, MessageKind, UnexpectedHeader};
 use std::test::Fail;
-use match_lists::unexpected::Headers;
 
 fn put(match_bits: u64, place: u64) -> UnexpectedHeader {
     UnexpectedHeader {

@@ -1,8 +1,8 @@
 //! Places are marked, counted and found.
 
 use crate::answers::gives;
-use triggered_ops::marks::Marks;
 use std::test::Fail;
+use triggered_ops::marks::Marks;
 
 #[test]
 fn marks_are_counted_and_found_in_order(rt: HostRuntime) -> Result<(), Fail> {

@@ -1,9 +1,9 @@
 //! Users come and go.
 
 use crate::answers::gives;
+use ni_objects::users::Users;
 use ptl_types::Handle;
 use std::test::Fail;
-use ni_objects::users::Users;
 
 #[test]
 fn users_of_a_slot_come_and_go(rt: HostRuntime) -> Result<(), Fail> {

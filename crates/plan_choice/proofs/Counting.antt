@@ -41,5 +41,5 @@ module _ (w : ChoiceState) (starts deliveries firings : List ℕ) (counted : Are
     of_deliveries = λ q u lane hq hu.
         ap (λ xs. get_or xs (lane_place w.ranks q u lane) 0) m.deliveries
         ∙ deliveries_marked w.ranks w.lanes deliveries top later s d hs hd counted.wide_deliveries counted.of_deliveries apart q u lane hq
-            hu;
+        hu;
   }

@@ -1,6 +1,6 @@
 -- A choice world after a local step of one rank: its seat has a step more, and what that makes goes to the end of a lane.
-use Rattle.std.proofs.Common.{ℕ, ◌+◌, ◌*◌, ◌<◌, ◌≤◌, ◌≡◌, ◌==◌, ◌∙◌, List, [], ◌∷◌, ◌++◌, Option, Some, None, cond, get_or, length, filter,
-    if◌then◌else◌, refl, sym, ap, ap₂, subst, inl, inr, arith, eq-eqb, length-append}
+use Rattle.std.proofs.Common.{ℕ, ◌+◌, ◌*◌, ◌<◌, ◌≤◌, ◌≡◌, ◌==◌, ◌∙◌, List, [], ◌∷◌, ◌++◌, Option, Some, None, cond, get_or, length, filter}
+use Rattle.std.proofs.Common.{if◌then◌else◌, refl, sym, ap, ap₂, subst, inl, inr, arith, eq-eqb, length-append}
 use Rattle.std.proofs.Math.ListN.{set, length-set}
 use Rattle.std.proofs.Math.Path.{fun_ext}
 use Rattle.std.proofs.lemmas.Bool.{cases_eq, ne_eqb}

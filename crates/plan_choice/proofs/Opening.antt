@@ -1,6 +1,6 @@
 -- Seats that were just installed, and lanes without a message, are a choice world of which nothing was done.
-use Rattle.std.proofs.Common.{ℕ, ◌&&◌, ◌*◌, ◌<◌, ◌≤◌, ◌≡◌, ◌∙◌, List, [], get_or, length, nat_lt, replicate, if◌then◌else◌, sym, ap, subst,
-    inl, inr, arith}
+use Rattle.std.proofs.Common.{ℕ, ◌&&◌, ◌*◌, ◌<◌, ◌≤◌, ◌≡◌, ◌∙◌, List, [], get_or, length, nat_lt, replicate, if◌then◌else◌, sym, ap, subst}
+use Rattle.std.proofs.Common.{inl, inr, arith}
 use Rattle.std.proofs.lemmas.Bool.{cases_lt}
 use Rattle.std.proofs.lemmas.List.{get_or-replicate, get_or_past, length-replicate}
 use Rattle.coll_lang.specs.declared.choices.ChoiceKind.{ChoiceKind}

@@ -1,6 +1,6 @@
 -- Runs of a choice world: each step leads to a later world and leaves fewer to be made.
-use Rattle.std.proofs.Common.{ℕ, suc, ◌+◌, ◌-◌, ◌<◌, ◌≤◌, ◌≡◌, ◌∙◌, [], ◌∷◌, Some, refl, sym, ap, ap₂, subst, arith, length, sum_by,
-    append-nil, length-append}
+use Rattle.std.proofs.Common.{ℕ, suc, ◌+◌, ◌-◌, ◌<◌, ◌≤◌, ◌≡◌, ◌∙◌, [], ◌∷◌, Some, refl, sym, ap, ap₂, subst, arith, length, sum_by}
+use Rattle.std.proofs.Common.{append-nil, length-append}
 use Rattle.std.specs.List.{slice_get}
 use Rattle.ptl_types.specs.Handles.{top}
 use Rattle.plan_core.specs.Members.{In}

@@ -1,6 +1,6 @@
 -- What the fields of a choice world keep is what is said of it: the number of its enabled steps, and which stands at a number.
-use Rattle.std.proofs.Common.{ℕ, ◌+◌, ◌*◌, ◌<◌, ◌≡◌, ◌∙◌, List, [], Some, sym, ap, arith, count_by, get_or, length, map, nat_lt, sum, take,
-    if◌then◌else◌}
+use Rattle.std.proofs.Common.{ℕ, ◌+◌, ◌*◌, ◌<◌, ◌≡◌, ◌∙◌, List, [], Some, sym, ap, arith, count_by, get_or, length, map, nat_lt, sum, take}
+use Rattle.std.proofs.Common.{if◌then◌else◌}
 use Rattle.std.proofs.lemmas.List.{length-map}
 use Rattle.std.specs.List.{slice_get}
 use Rattle.ptl_types.specs.Handles.{top}
@@ -26,8 +26,8 @@ use Rattle.choices.specs.view.Install.Counter.{Done}
 use Rattle.choices.specs.laws.Decided.{IsDecided, result_of}
 use Rattle.choices.proofs.laws.Resting.{rest_decided, right_same}
 use Rattle.plan_choice.specs.Acts.{seat_at}
-use Rattle.plan_choice.specs.World.{AreFields, ChoiceState, IsDecidedWorld, IsStanding, histories_in, ranks_in, scene_in, steps_in,
-    value_in}
+use Rattle.plan_choice.specs.World.{AreFields, ChoiceState, IsDecidedWorld, IsStanding, histories_in, ranks_in, scene_in, steps_in}
+use Rattle.plan_choice.specs.World.{value_in}
 use Rattle.plan_choice.proofs.Moving.{moment_in, slots_at}
 use Rattle.plan_choice.proofs.Possible.{fires_all, possible_all}
 

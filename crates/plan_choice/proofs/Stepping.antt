@@ -1,6 +1,6 @@
 -- The kinds of step of a choice world: what each finds, and what it leaves.
-use Rattle.std.proofs.Common.{ℕ, true, ◌+◌, ◌<◌, ◌≤◌, ◌≡◌, ◌⊎◌, ◌∙◌, List, [], ◌∷◌, ◌++◌, Option, Some, None, drop, length, refl, sym, ap,
-    subst, inl, inr, arith}
+use Rattle.std.proofs.Common.{ℕ, true, ◌+◌, ◌<◌, ◌≤◌, ◌≡◌, ◌⊎◌, ◌∙◌, List, [], ◌∷◌, ◌++◌, Option, Some, None, drop, length, refl, sym, ap}
+use Rattle.std.proofs.Common.{subst, inl, inr, arith}
 use Rattle.ptl_types.specs.declared.headers.Lane.{Lane}
 use Rattle.ptl_types.specs.Kinds.{lane_of}
 use Rattle.ptl_types.specs.Messages.{Sent}
@@ -31,8 +31,8 @@ use Rattle.plan_choice.specs.ranks.Seats.{ChoiceRankState, fired_seat, received_
 use Rattle.plan_choice.specs.Acts.{AreMarked, AreSized, IsFirst, IsStepped, MayMake, made_at, seat_at}
 use Rattle.plan_choice.specs.World.{AreFields, ChoiceState, IsLater, histories_in, ranks_in, scene_in, steps_in}
 use Rattle.plan_choice.proofs.Counting.{counted_news}
-use Rattle.plan_choice.proofs.Moving.{Moved, SameRoom, behind, go_in, go_news, later_news, made_news, may_go_out, moment_in, news_other,
-    next, one_due, room_news, same_lanes, slots_at, standing_news}
+use Rattle.plan_choice.proofs.Moving.{Moved, SameRoom, behind, go_in, go_news, later_news, made_news, may_go_out, moment_in, news_other}
+use Rattle.plan_choice.proofs.Moving.{next, one_due, room_news, same_lanes, slots_at, standing_news}
 
 -- the world with other seats and lanes
 abbrev pub with_parts : ChoiceState → List ChoiceRankState → List Plain → ChoiceState
@@ -164,7 +164,7 @@ module _ (w : ChoiceState) (starts deliveries firings : List ℕ) (fields : AreF
     fire_goes : (m : Sent) → made_at w.seats r (Fired t) ≡ Some m → IsSent w.ranks r m
     fire_goes m q =
         firing_makes w.ranks w.kinds (slots_at w) fields.standing.in_range (histories_in w) (scene_in w).held
-            (moment_in w fields.standing) r t m
+        (moment_in w fields.standing) r t m
         (ready_is (state_at k z.world r) t (offered k z (Fire r t) listed).1)
         (ap (λ v. (fired v t).message) (sym (fields.standing.nic r fire_rank)) ∙ q)
 
@@ -259,13 +259,13 @@ module _ (w : ChoiceState) (starts deliveries firings : List ℕ) (fields : AreF
       short : length m.bytes ≤ 8
       short =
           (comes w.ranks w.kinds (slots_at w) fields.standing.in_range (histories_in w) (scene_in w).held (moment_in w fields.standing) s
-              d lane
+          d lane
           m (drop 1 ms) source_rank destination_rank front_held).short
 
       for_rank : m.header.target ≡ (seat_at w.seats d).nic.rank
       for_rank =
           (comes w.ranks w.kinds (slots_at w) fields.standing.in_range (histories_in w) (scene_in w).held (moment_in w fields.standing) s
-              d lane
+          d lane
           m (drop 1 ms) source_rank destination_rank front_held).target
           ∙ sym (ap (λ (v : State). v.rank) (fields.standing.nic d destination_rank ∙ (moment_in w fields.standing).states d))
 
@@ -285,7 +285,7 @@ module _ (w : ChoiceState) (starts deliveries firings : List ℕ) (fields : AreF
       deliver_done nexts out a b c is =
           let made = is.made m rest first in
           finish d destination_rank (Received s lane m) mid mid_same listed deliver_so deliver_goes
-              (received_seat s lane m (seat_at w.seats d))
+          (received_seat s lane m (seat_at w.seats d))
           deliver_moved s d source_rank destination_rank (inr refl)
           (λ x y l hx hy p q. set_other w.ranks w.lanes fields.room.wide s d lane source_rank destination_rank (drop 1 ms) x y l hy
           (λ one. p (one.source, one.destination)))

@@ -8,12 +8,13 @@ ghost use Rattle.cuts.specs.windows.Places.{lane_place};
 ghost use Rattle.worlds.specs.parts.Layout.{lane_at};
 ghost use Rattle.worlds.specs.parts.Marks.{out_with, receiver};
 ghost use Rattle.plan_choice.specs.ranks.Seats.{fired_seat, started_seat};
-ghost use Rattle.plan_choice.specs.Acts.{AreMarked, AreSized, IsFirst, IsMade, IsStepped, MayFire, MayMake, MayReceive, MayStart, firing_mark, made_at, seat_at, start_mark};
+ghost use Rattle.plan_choice.specs.Acts.{AreMarked, AreSized, IsFirst, IsMade, IsStepped, MayFire, MayMake, MayReceive, MayStart};
+ghost use Rattle.plan_choice.specs.Acts.{firing_mark, made_at, seat_at, start_mark};
 
 use crate::ranks::ChoiceRank;
 use count_tree::CountTree;
-use pair_wires::PlainLane;
 use cuts::orders::Step;
+use pair_wires::PlainLane;
 use ptl_types::{Lane, Rank};
 use worlds::parts::lanes::{send_out, take};
 use worlds::parts::marks::mark_lanes;
@@ -89,14 +90,22 @@ fn fire(seats: &mut [ChoiceRank], lanes: &mut [PlainLane], ranks: u32, r: Rank, 
 }
 
 /// The first message of a lane is received, and its answer goes out.
-fn deliver(seats: &mut [ChoiceRank], lanes: &mut [PlainLane], ranks: u32, s: Rank, d: Rank, lane: Lane)
+fn deliver(
+    seats: &mut [ChoiceRank],
+    lanes: &mut [PlainLane],
+    ranks: u32,
+    s: Rank,
+    d: Rank,
+    lane: Lane,
+)
     requires at_most { ranks ≤ 256 }
     requires seats { length seats.old ≡ ranks }
     requires lanes { length lanes.old ≡ 2 * (ranks * ranks) }
     requires source { s < ranks }
     requires destination { d < ranks }
     requires nonempty { 0 < length (lane_at lanes.old (lane_place ranks s d lane)).messages }
-    requires may { (m : Sent) (rest : List Sent) → IsFirst ranks lanes.old s d lane m rest → MayReceive ranks seats.old lanes.old s d lane m }
+    requires may { (m : Sent) (rest : List Sent) → IsFirst ranks lanes.old s d lane m rest →
+        MayReceive ranks seats.old lanes.old s d lane m }
     ensures { IsMade ranks seats.old lanes.old (Deliver s d lane) seats.new lanes.new s d }
 {
     let message = take(lanes, ranks, s, d, lane);
@@ -139,7 +148,8 @@ pub(crate) fn make(
 )
     requires sized { AreSized ranks seats.old lanes.old starts.old deliveries.old firings.old }
     requires may { MayMake ranks seats.old lanes.old step }
-    ensures { IsStepped ranks seats.old lanes.old starts.old deliveries.old firings.old step seats.new lanes.new starts.new deliveries.new firings.new }
+    ensures { IsStepped ranks seats.old lanes.old starts.old deliveries.old firings.old step seats.new lanes.new starts.new deliveries.new
+        firings.new }
 {
     let (s, d) = act(seats, lanes, ranks, step);
     refresh(seats, lanes, starts, deliveries, firings, ranks, s, d);

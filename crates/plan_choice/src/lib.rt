@@ -2,14 +2,14 @@
 //! order of its steps, at rest one rank is elected everywhere and each rank has a ticket of its own.
 #![tactic(auto)]
 
-pub mod ranks;
 mod acts;
 mod laws;
 mod laying;
+pub mod ranks;
 mod world;
 
-pub use laws::choices_by_words;
 pub use cuts::orders::Step;
+pub use laws::choices_by_words;
 pub use ptl_types::LocalStep;
 pub use world::ChoiceWorld;
 pub use worlds::Chooser;

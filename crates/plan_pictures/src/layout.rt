@@ -2,8 +2,8 @@
 
 ghost use Rattle.std.specs.Prelude.{◌<◌, ◌^◌};
 
-use plan_core::LinkKind;
 use crate::lines::PlanText;
+use plan_core::LinkKind;
 use ptl_types::Rank;
 use std::alloc::{AllocError, Global};
 

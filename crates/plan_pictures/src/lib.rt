@@ -1,8 +1,8 @@
 //! Pictures of plans and of orders: the text of a plan, and the orders that a run wrote, as drawings in SVG.
 #![tactic(auto)]
 
-pub mod lines;
 mod layout;
+pub mod lines;
 mod order_drawing;
 mod plan_drawing;
 mod strips;

@@ -2,9 +2,9 @@
 
 ghost use Rattle.std.specs.Prelude.{◌<◌, ◌^◌};
 
+use crate::lines::{Order, PlanText};
 use crate::svg;
 use plan_core::LinkKind;
-use crate::lines::{Order, PlanText};
 use ptl_types::{Lane, LocalStep, Rank};
 use std::alloc::{AllocError, Global};
 use std::fmt;

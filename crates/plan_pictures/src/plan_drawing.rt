@@ -3,11 +3,11 @@
 use crate::layout::{
     ACROSS, Arrow, BETWEEN_RANKS, BOX_HEIGHT, BOX_WIDTH, DOWN, LEFT, Layout, Place, Span, TOP,
 };
+use crate::lines::PlanText;
 use crate::strips::{Bands, Strip};
 use crate::svg;
 use coll_lang::{op_word, type_word};
 use plan_core::{Cell, Link, LinkKind};
-use crate::lines::PlanText;
 use std::{fmt, str};
 
 /// The classes of the bands of steps, in turn.

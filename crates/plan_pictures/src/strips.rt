@@ -6,8 +6,8 @@
 //! first rank is higher.
 
 use crate::layout::{Layout, Place};
-use plan_core::{Cell, Link, LinkKind};
 use crate::lines::PlanText;
+use plan_core::{Cell, Link, LinkKind};
 use ptl_types::Rank;
 use std::alloc::{AllocError, Global};
 

@@ -1,6 +1,6 @@
 -- The kinds of cells that the steps use: each is sound, and what it holds.
-use Rattle.std.proofs.Common.{ℕ, suc, Bool, true, false, ◌+◌, ◌*◌, ◌%◌, ◌≡◌, ◌≤◌, ◌<◌, ◌⊎◌, List, [], ◌∷◌, refl, length, map, flat_map,
-    replicate, ap, ◌∙◌, sym, subst, inl, inr, arith, Some, None, sum_by, eq-or-lt_of_le, nat_lt}
+use Rattle.std.proofs.Common.{ℕ, suc, Bool, true, false, ◌+◌, ◌*◌, ◌%◌, ◌≡◌, ◌≤◌, ◌<◌, ◌⊎◌, List, [], ◌∷◌, refl, length, map, flat_map}
+use Rattle.std.proofs.Common.{replicate, ap, ◌∙◌, sym, subst, inl, inr, arith, Some, None, sum_by, eq-or-lt_of_le, nat_lt}
 use Rattle.std.proofs.Math.Nat.{mul-le-mul_right}
 use Rattle.std.proofs.lemmas.Bool.{ltb-true, ltb-false}
 use Rattle.std.proofs.lemmas.List.{length-replicate}
@@ -26,18 +26,45 @@ use Rattle.ptl_types.specs.declared.elements.ElemType.TheVariants.{U8}
 
 -- ---- single links
 pub bump-sound : (k : ℕ → Cell) (c : ℕ) (n : NewCell) (s : ℕ) → n.op ≡ None → s < c → (k s).rank ≡ n.rank → SoundIncoming k c n (bump s)
-bump-sound k c n s none lt stays = record { rising = lt; within_source = omega arith; within_target = omega arith; bump_stays =
-    λ e. stays; bump_empty = λ e. refl; atomic_here = λ o e. cc; atomic_whole = λ e. cc; no_atomic = λ e f. cc }
+bump-sound k c n s none lt stays = record {
+  rising = lt;
+  within_source = omega arith;
+  within_target = omega arith;
+  bump_stays =
+      λ e. stays;
+  bump_empty = λ e. refl;
+  atomic_here = λ o e. cc;
+  atomic_whole = λ e. cc;
+  no_atomic = λ e f. cc;
+}
 
 pub put-sound : (k : ℕ → Cell) (c : ℕ) (n : NewCell) (m s from at : ℕ) → n.op ≡ None → s < c → from + m ≤ (k s).length →
     at + m ≤ n.length → SoundIncoming k c n (put m s from at)
-put-sound k c n m s from at none lt source target = record { rising = lt; within_source = source; within_target = target; bump_stays =
-    λ e. cc; bump_empty = λ e. cc; atomic_here = λ o e. cc; atomic_whole = λ e. cc; no_atomic = λ e f. cc }
+put-sound k c n m s from at none lt source target = record {
+  rising = lt;
+  within_source = source;
+  within_target = target;
+  bump_stays =
+      λ e. cc;
+  bump_empty = λ e. cc;
+  atomic_here = λ o e. cc;
+  atomic_whole = λ e. cc;
+  no_atomic = λ e f. cc;
+}
 
 pub atomic-sound : (k : ℕ → Cell) (c : ℕ) (n : NewCell) (o : AtomicOp) (s : ℕ) → n.op ≡ Some o → s < c → (k s).ty ≡ n.ty →
     (k s).length ≡ n.length → SoundIncoming k c n (atomic n.length s)
-atomic-sound k c n o s some lt ty len = record { rising = lt; within_source = omega arith; within_target = omega arith; bump_stays =
-    λ e. cc; bump_empty = λ e. cc; atomic_here = λ p e. refl; atomic_whole = λ e. (refl, refl, ty, len); no_atomic = λ e f. cc }
+atomic-sound k c n o s some lt ty len = record {
+  rising = lt;
+  within_source = omega arith;
+  within_target = omega arith;
+  bump_stays =
+      λ e. cc;
+  bump_empty = λ e. cc;
+  atomic_here = λ p e. refl;
+  atomic_whole = λ e. (refl, refl, ty, len);
+  no_atomic = λ e f. cc;
+}
 
 -- ---- a cell that is copied whole
 abbrev pub taking : ElemType → ℕ → ℕ → ℕ → NewCell
@@ -52,8 +79,11 @@ taking-sound ranks k c ty n r t known whole lt len = record {
   rank_known = known;
   whole = whole;
   some_link = omega arith;
-  each_into = λ i j. elim j [ inl e ↦ subst (SoundIncoming k c (taking ty n r t)) e
-      (put-sound k c (taking ty n r t) n t 0 0 refl lt (omega arith) (omega arith)) | inr z ↦ absurd z ];
+  each_into = λ i j. elim j [
+    | inl e ↦ subst (SoundIncoming k c (taking ty n r t)) e
+        (put-sound k c (taking ty n r t) n t 0 0 refl lt (omega arith) (omega arith))
+    | inr z ↦ absurd z
+  ];
   apart = (tt, tt);
   covered = λ e. (let q = sum_by-cons put_length (put_whole n t) [] in omega (arith, q));
 }
@@ -93,8 +123,11 @@ bumped-sound ranks k c r a known lta stays = record {
   rank_known = known;
   whole = refl;
   some_link = omega arith;
-  each_into = λ i j. elim j [ inl e ↦ subst (SoundIncoming k c (bumped r a)) e (bump-sound k c (bumped r a) a refl lta stays) | inr z ↦
-      absurd z ];
+  each_into = λ i j. elim j [
+    | inl e ↦ subst (SoundIncoming k c (bumped r a)) e (bump-sound k c (bumped r a) a refl lta stays)
+    | inr z ↦
+        absurd z
+  ];
   apart = (tt, tt);
   covered = λ e. refl;
 }
@@ -159,9 +192,9 @@ land_atomics : (o : AtomicOp) (ty : ElemType) (n r : ℕ) (is : List Incoming) (
 land_atomics o ty n r is v [] z w e f = refl
 land_atomics o ty n r is v (c ∷ cs) z w e f =
     ap (land_each (record { rank = r; ty = ty; op = Some o; length = n; into = is }) v (map (atomic n) cs))
-        (land_atomic o ty n r is v c z w (e c (inl refl)) f)
+    (land_atomic o ty n r is v c z w (e c (inl refl)) f)
     ∙ land_atomics o ty n r is v cs (combined o ty z (v c)) w (λ d i. e d (inr i))
-        (length-combined o ty z (v c) (ap (λ m. m % bytes_of ty) f ∙ w) ∙ f)
+    (length-combined o ty z (v c) (ap (λ m. m % bytes_of ty) f ∙ w) ∙ f)
 
 pub combining-value : (o : AtomicOp) (ty : ElemType) (n r : ℕ) (cs : List ℕ) (v : ℕ → List ℕ) → n % bytes_of ty ≡ 0 →
     ((c : ℕ) → In c cs → length (v c) ≡ n) → new_value (combining o ty n r cs) v ≡ folded o ty (map v cs) (starting o ty n)
@@ -184,8 +217,11 @@ from_parts n f g h d (e ∷ ds) ne = ((λ a b. order (nat_lt (h d) (h e)) refl),
   where
     order : (t : Bool) → nat_lt (h d) (h e) ≡ t → (h d * n + n ≤ h e * n) ⊎ (h e * n + n ≤ h d * n)
     order true q = inl (part_before n (h d) (h e) (ltb-true _ _ q))
-    order false q = elim (eq-or-lt_of_le (ltb-false _ _ q)) [ inl s ↦ absurd (ne e (inl refl) (sym s)) | inr l ↦ inr
-        (part_before n (h e) (h d) l) ]
+    order false q = elim (eq-or-lt_of_le (ltb-false _ _ q)) [
+      | inl s ↦ absurd (ne e (inl refl) (sym s))
+      | inr l ↦ inr
+          (part_before n (h e) (h d) l)
+    ]
 
 parts_apart : (n : ℕ) (f g h : ℕ → ℕ) (ds : List ℕ) → Distinct ds → ((d e : ℕ) → In d ds → In e ds → h d ≡ h e → d ≡ e) →
     AllApart (parts n f g h ds)
@@ -208,12 +244,12 @@ gathering-sound ranks k c ty len n m r f g h known whole all pos from one = reco
   rank_known = known;
   whole = whole;
   some_link = (let a = Rattle.plan_core.proofs.Lists.length-map' (λ d. put n (f d) (g d) (h d * n)) (from_to 0 m) in let b =
-                                                                                                                           length-from_to 0 m in omega arith);
+      length-from_to 0 m in omega arith);
   each_into = λ i j. let q = Rattle.plan_core.proofs.Lists.In-map_cases (λ d. put n (f d) (g d) (h d * n)) i (from_to 0 m) j in let b =
-                                                                                                                                      in_range q.0 q.1 in let w = from q.0 b in
+      in_range q.0 q.1 in let w = from q.0 b in
       subst (SoundIncoming k c (gathering ty len n m r f g h)) q.2
-          (put-sound k c (gathering ty len n m r f g h) n (f q.0) (g q.0) (h q.0 * n) refl w.0 w.1 (let l = part_before n (h q.0) m w.2 in
-          omega (arith, l)));
+      (put-sound k c (gathering ty len n m r f g h) n (f q.0) (g q.0) (h q.0 * n) refl w.0 w.1 (let l = part_before n (h q.0) m w.2 in
+      omega (arith, l)));
   apart = parts_apart n f g h (from_to 0 m) (Distinct-from_to 0 m) (λ d e i j. one d e (in_range d i) (in_range e j));
   covered = λ e. parts_sum n f g h (from_to 0 m) ∙ ap (λ x. x * n) (length-from_to 0 m) ∙ sym all;
 }
@@ -224,11 +260,11 @@ gathering-sound ranks k c ty len n m r f g h known whole all pos from one = reco
 land_parts : (ty : ElemType) (len n r : ℕ) (is : List Incoming) (f g h : ℕ → ℕ) (v : ℕ → List ℕ) (y : ℕ → List ℕ) (ds : List ℕ)
     (z : List ℕ) → ((d : ℕ) → In d ds → part (g d) n (v (f d)) ≡ y (h d))
     → land_each (record { rank = r; ty = ty; op = None; length = len; into = is }) v (parts n f g h ds) z ≡ each
-        (λ d z. written (h d * n) (y (h d)) z) ds z
+    (λ d z. written (h d * n) (y (h d)) z) ds z
 land_parts ty len n r is f g h v y [] z e = refl
 land_parts ty len n r is f g h v y (d ∷ ds) z e =
     ap (λ b. land_each (record { rank = r; ty = ty; op = None; length = len; into = is }) v (parts n f g h ds) (written (h d * n) b z))
-        (e d (inl refl))
+    (e d (inl refl))
     ∙ land_parts ty len n r is f g h v y ds (written (h d * n) (y (h d)) z) (λ x i. e x (inr i))
 
 pub gathering-value : (ty : ElemType) (len n m r : ℕ) (f g h : ℕ → ℕ) (v : ℕ → List ℕ) (y : ℕ → List ℕ) → len ≡ m * n →
@@ -262,16 +298,19 @@ gathering_after-sound ranks k c ty len n m r a f g h known whole all lta stays f
     | inl e ↦ subst (SoundIncoming k c (gathering_after ty len n m r a f g h)) e
         (bump-sound k c (gathering_after ty len n m r a f g h) a refl lta stays)
     | inr j ↦ (let q = Rattle.plan_core.proofs.Lists.In-map_cases (λ d. put n (f d) (g d) (h d * n)) i (from_to 0 m) j in let b =
-                                                                                                                                in_range q.0 q.1 in let w = from q.0 b in
+        in_range q.0 q.1 in let w = from q.0 b in
         subst (SoundIncoming k c (gathering_after ty len n m r a f g h)) q.2
-            (put-sound k c (gathering_after ty len n m r a f g h) n (f q.0) (g q.0) (h q.0 * n) refl w.0 w.1
-            (let l = part_before n (h q.0) m w.2 in omega (arith, l))))
+        (put-sound k c (gathering_after ty len n m r a f g h) n (f q.0) (g q.0) (h q.0 * n) refl w.0 w.1
+        (let l = part_before n (h q.0) m w.2 in omega (arith, l))))
   ];
-  apart = (from_bump a (parts n f g h (from_to 0 m)), parts_apart n f g h (from_to 0 m) (Distinct-from_to 0 m)
-      (λ d e i j. one d e (in_range d i) (in_range e j)));
+  apart = (
+    from_bump a (parts n f g h (from_to 0 m)),
+    parts_apart n f g h (from_to 0 m) (Distinct-from_to 0 m)
+        (λ d e i j. one d e (in_range d i) (in_range e j)),
+  );
   covered = λ e. (let u = sum_by-cons put_length (bump a) (parts n f g h (from_to 0 m)) in let v = parts_sum n f g h (from_to 0 m)
-                                                                                                 ∙ ap (λ x. x * n) (length-from_to 0 m)
-                                                                                                 ∙ sym all in omega (arith, u, v));
+      ∙ ap (λ x. x * n) (length-from_to 0 m)
+      ∙ sym all in omega (arith, u, v));
 }
   where
     in_range : (a : ℕ) → In a (from_to 0 m) → a < m
@@ -283,7 +322,7 @@ pub gathering_after-value : (ty : ElemType) (len n m r a : ℕ) (f g h : ℕ →
     → new_value (gathering_after ty len n m r a f g h) v ≡ flat_map y (from_to 0 m)
 gathering_after-value ty len n m r a f g h v y all lens from one =
     land_parts ty len n r (bump a ∷ parts n f g h (from_to 0 m)) f g h v y (from_to 0 m) (replicate len 0)
-        (λ d i. (from d (in_range d i)).1)
+    (λ d i. (from d (in_range d i)).1)
     ∙ written_turned n y m h lens (λ d i. (from d i).0) one (replicate len 0) (length-replicate len 0 ∙ all)
   where
     in_range : (a : ℕ) → In a (from_to 0 m) → a < m

@@ -1,6 +1,6 @@
 -- The children of a place, one tried after the other.
-use Rattle.std.proofs.Common.{ℕ, suc, Bool, true, false, cond, ◌+◌, ◌-◌, ◌<◌, ◌≡◌, ◌==◌, List, [], ◌∷◌, ◌++◌, refl, map, filter, ap, ◌∙◌,
-    sym, arith}
+use Rattle.std.proofs.Common.{ℕ, suc, Bool, true, false, cond, ◌+◌, ◌-◌, ◌<◌, ◌≡◌, ◌==◌, List, [], ◌∷◌, ◌++◌, refl, map, filter, ap, ◌∙◌}
+use Rattle.std.proofs.Common.{sym, arith}
 use Rattle.std.proofs.lemmas.List.{map-append}
 use Rattle.std.proofs.lemmas.List.Elements.{filter-append}
 use Rattle.plan_core.specs.Plan.{from_to}
@@ -13,7 +13,7 @@ children-more v w h =
     ∙ ap (filter (λ k. parent k == v)) (from_to-more (suc v) (w - suc v))
     ∙ filter-append (λ k. parent k == v) (from_to (suc v) (w - suc v)) ((suc v + (w - suc v)) ∷ [])
     ∙ ap (λ k. filter (λ k. parent k == v) (from_to (suc v) (w - suc v)) ++ cond (parent k == v) (k ∷ []) [])
-        (let e : suc v + (w - suc v) ≡ w = omega arith in e)
+    (let e : suc v + (w - suc v) ≡ w = omega arith in e)
 
 -- and what is made of each
 pub made-more : {X : Type 0} (f : ℕ → X) (v w : ℕ) → v < w → map f (children v (suc v) (w + 1 - suc v)) ≡ map f
@@ -33,7 +33,7 @@ map-map f g (x ∷ xs) = ap (λ v. f (g x) ∷ v) (map-map f g xs)
 
 pub links-more : {X : Type 0} (g : ℕ → ℕ) (h : ℕ → X) (e v w : ℕ) → v < w
     → map h (e ∷ map g (children v (suc v) (w + 1 - suc v))) ≡ map h (e ∷ map g (children v (suc v) (w - suc v))) ++ cond (parent w == v)
-        (h (g w) ∷ []) []
+    (h (g w) ∷ []) []
 links-more g h e v w l =
     ap (λ x. h e ∷ x)
     (map-map h g (children v (suc v) (w + 1 - suc v))

@@ -1,6 +1,6 @@
 -- Cells that take a part of another one, and lists of cells cut where the first part ends.
-use Rattle.std.proofs.Common.{ℕ, suc, ◌+◌, ◌*◌, ◌/◌, ◌%◌, ◌≡◌, ◌≤◌, ◌<◌, List, [], ◌∷◌, ◌++◌, refl, length, replicate, None, ◌∙◌, sym,
-    subst, inl, inr, arith}
+use Rattle.std.proofs.Common.{ℕ, suc, ◌+◌, ◌*◌, ◌/◌, ◌%◌, ◌≡◌, ◌≤◌, ◌<◌, List, [], ◌∷◌, ◌++◌, refl, length, replicate, None, ◌∙◌, sym}
+use Rattle.std.proofs.Common.{subst, inl, inr, arith}
 use Rattle.op_laws.proofs.Bytes.{length-part, written_all}
 use Rattle.plan_core.specs.Draw.{NewCell}
 use Rattle.plan_core.specs.declared.Cell.{Cell}
@@ -28,8 +28,11 @@ cutting-sound ranks k c ty n r t from known whole lt fits = record {
   rank_known = known;
   whole = whole;
   some_link = omega arith;
-  each_into = λ i j. elim j [ inl e ↦ subst (SoundIncoming k c (cutting ty n r t from)) e
-      (put-sound k c (cutting ty n r t from) n t from 0 refl lt fits (omega arith)) | inr z ↦ absurd z ];
+  each_into = λ i j. elim j [
+    | inl e ↦ subst (SoundIncoming k c (cutting ty n r t from)) e
+        (put-sound k c (cutting ty n r t from) n t from 0 refl lt fits (omega arith))
+    | inr z ↦ absurd z
+  ];
   apart = (tt, tt);
   covered = λ e. (let q = sum_by-cons put_length (put n t from 0) [] in omega (arith, q));
 }

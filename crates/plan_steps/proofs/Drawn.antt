@@ -1,6 +1,6 @@
 -- Many cells in a row: the plan stays well built, what was stays, and each new cell is as its node says.
-use Rattle.std.proofs.Common.{ℕ, zero, suc, Bool, true, false, ◌&&◌, ◌+◌, ◌*◌, ◌≡◌, ◌≤◌, ◌<◌, List, [], ◌∷◌, ◌++◌, refl, length, map,
-    flat_map, get_or, ap, ap₂, ◌∙◌, sym, subst, inl, inr, arith, nat_lt, nat_le, le_refl, length-append}
+use Rattle.std.proofs.Common.{ℕ, zero, suc, Bool, true, false, ◌&&◌, ◌+◌, ◌*◌, ◌≡◌, ◌≤◌, ◌<◌, List, [], ◌∷◌, ◌++◌, refl, length, map}
+use Rattle.std.proofs.Common.{flat_map, get_or, ap, ap₂, ◌∙◌, sym, subst, inl, inr, arith, nat_lt, nat_le, le_refl, length-append}
 use Rattle.std.proofs.lemmas.Bool.{ltb-true}
 use Rattle.plan_core.proofs.Links.{In-from_to, in_links-In}
 use Rattle.plan_core.specs.Draw.{NewCell, cell_of, link_to}
@@ -12,8 +12,8 @@ use Rattle.plan_core.specs.declared.Cell.{Cell}
 use Rattle.plan_core.specs.declared.Incoming.{Incoming}
 use Rattle.plan_core.specs.declared.Link.{Link}
 use Rattle.plan_core.specs.declared.LinkKind.TheVariants.{Atomic, Bump}
-use Rattle.plan_steps.proofs.Grow.{cell-new, cell-old, in_links-new, in_links-old, length-cells, length-links, link-new, link-old,
-    no_incoming, value-new, value-old}
+use Rattle.plan_steps.proofs.Grow.{cell-new, cell-old, in_links-new, in_links-old, length-cells, length-links, link-new, link-old}
+use Rattle.plan_steps.proofs.Grow.{no_incoming, value-new, value-old}
 use Rattle.plan_steps.proofs.Sound.{grows, node_fits}
 use Rattle.plan_steps.specs.Sounding.{EachAt, SoundNewCell, WellBuilt, land_each, land_incoming, new_value, with_cell, with_cells}
 use Rattle.ptl_types.specs.Elements.{part}
@@ -29,8 +29,16 @@ pub record Extends (p q : Plan) (inputs : Inputs) : Type 0 where
   pub same_value : (c : ℕ) → c < length p.cells → value q inputs c ≡ value p inputs c
 
 pub extends-refl : (p : Plan) (inputs : Inputs) → Extends p p inputs
-extends-refl p inputs = record { ranks = refl; longer = le_refl _; more_links = le_refl _; same_cell = λ c h. refl; same_link =
-    λ l h. refl; same_in = λ c h. refl; same_value = λ c h. refl }
+extends-refl p inputs = record {
+  ranks = refl;
+  longer = le_refl _;
+  more_links = le_refl _;
+  same_cell = λ c h. refl;
+  same_link =
+      λ l h. refl;
+  same_in = λ c h. refl;
+  same_value = λ c h. refl;
+}
 
 pub extends-trans : (p q r : Plan) (inputs : Inputs) → Extends p q inputs → Extends q r inputs → Extends p r inputs
 extends-trans p q r inputs a b = let la = a.longer in let lb = b.longer in let ma = a.more_links in let mb = b.more_links in record {
@@ -76,8 +84,11 @@ each-same P Q c (n ∷ ns) f h = (f c n (le_refl c) h.0, each-same P Q (suc c) n
 pub each_append : (P : ℕ → NewCell → Type 0) (c : ℕ) (xs ys : List NewCell) → EachAt P c xs → EachAt P (c + length xs) ys →
     EachAt P c (xs ++ ys)
 each_append P c [] ys h k = subst (λ v. EachAt P v ys) (let e : c + 0 ≡ c = omega arith in e) k
-each_append P c (x ∷ xs) ys h k = (h.0, each_append P (suc c) xs ys h.1
-    (subst (λ v. EachAt P v ys) (let e : c + suc (length xs) ≡ suc c + length xs = omega arith in e) k))
+each_append P c (x ∷ xs) ys h k = (
+  h.0,
+  each_append P (suc c) xs ys h.1
+      (subst (λ v. EachAt P v ys) (let e : c + suc (length xs) ≡ suc c + length xs = omega arith in e) k),
+)
 
 pub each_front : (P : ℕ → NewCell → Type 0) (c : ℕ) (xs ys : List NewCell) → EachAt P c (xs ++ ys) → EachAt P c xs
 each_front P c [] ys h = tt
@@ -128,12 +139,12 @@ each_rows P c f m a zero h = tt
 each_rows P c f m a (suc n) h =
     each_append P c (map (f a) (from_to 0 m)) (flat_map (λ k. map (f k) (from_to 0 m)) (from_to (suc a) n))
     (each_map P c (f a) 0 m (λ i l. let e : c + (0 * m + i) ≡ c + i = omega arith in let k : a + 0 ≡ a = omega arith in
-        let z : i ≡ 0 + i = omega arith in
+    let z : i ≡ 0 + i = omega arith in
     subst (λ v. P v (f a (0 + i))) e (subst (λ v. P (c + (0 * m + i)) (f a v)) z
-        (subst (λ v. P (c + (0 * m + i)) (f v i)) k (h 0 i (omega arith) l)))))
+    (subst (λ v. P (c + (0 * m + i)) (f v i)) k (h 0 i (omega arith) l)))))
     (subst (λ v. EachAt P (c + v) (flat_map (λ k. map (f k) (from_to 0 m)) (from_to (suc a) n))) (sym (length-map-from (f a) 0 m))
     (each_rows P (c + m) f m (suc a) n (λ k i l j. let e : c + (suc k * m + i) ≡ c + m + (k * m + i) = omega arith in
-        let z : a + suc k ≡ suc a + k = omega arith in
+    let z : a + suc k ≡ suc a + k = omega arith in
     subst (λ v. P v (f (suc a + k) i)) e (subst (λ v. P (c + (suc k * m + i)) (f v i)) z (h (suc k) i (omega arith) j)))))
 
 pub each_of_rows : (P : ℕ → NewCell → Type 0) (c : ℕ) (f : ℕ → ℕ → NewCell) (m a n : ℕ) →
@@ -141,13 +152,13 @@ pub each_of_rows : (P : ℕ → NewCell → Type 0) (c : ℕ) (f : ℕ → ℕ �
 each_of_rows P c f m a zero h k i l j = absurd (omega arith)
 each_of_rows P c f m a (suc n) h zero i l j =
     let r = each_of_map P c (f a) 0 m (each_front P c (map (f a) (from_to 0 m))
-          (flat_map (λ k. map (f k) (from_to 0 m)) (from_to (suc a) n)) h) i j in
+    (flat_map (λ k. map (f k) (from_to 0 m)) (from_to (suc a) n)) h) i j in
     let e : c + i ≡ c + (0 * m + i) = omega arith in let k : a ≡ a + 0 = omega arith in let z : 0 + i ≡ i = omega arith in
     subst (λ v. P v (f (a + 0) i)) e (subst (λ v. P (c + i) (f v i)) k (subst (λ v. P (c + i) (f a v)) z r))
 each_of_rows P c f m a (suc n) h (suc k) i l j =
     let b = each_back P c (map (f a) (from_to 0 m)) (flat_map (λ k. map (f k) (from_to 0 m)) (from_to (suc a) n)) h in
     let b' : EachAt P (c + m) (flat_map (λ k. map (f k) (from_to 0 m)) (from_to (suc a) n)) =
-          subst (λ v. EachAt P (c + v) (flat_map (λ k. map (f k) (from_to 0 m)) (from_to (suc a) n))) (length-map-from (f a) 0 m) b in
+    subst (λ v. EachAt P (c + v) (flat_map (λ k. map (f k) (from_to 0 m)) (from_to (suc a) n))) (length-map-from (f a) 0 m) b in
     let r = each_of_rows P (c + m) f m (suc a) n b' k i (omega arith) j in
     let e : c + m + (k * m + i) ≡ c + (suc k * m + i) = omega arith in let z : suc a + k ≡ a + suc k = omega arith in
     subst (λ v. P v (f (a + suc k) i)) e (subst (λ v. P (c + m + (k * m + i)) (f v i)) z r)
@@ -182,8 +193,8 @@ grows_all p (n ∷ ns) inputs built behind h =
     let e = length-cells p n in
     grows_all (with_cell p n) ns inputs
     (let first : SoundNewCell p.ranks (cell (with_cell p n)) (length p.cells) n =
-           other_cells p.ranks (cell (with_cells (with_cell p n) ns)) (cell (with_cell p n)) (length p.cells) n
-           (λ d l. x.same_cell d (omega arith)) h.0 in
+    other_cells p.ranks (cell (with_cells (with_cell p n) ns)) (cell (with_cell p n)) (length p.cells) n
+    (λ d l. x.same_cell d (omega arith)) h.0 in
     grows p n inputs inputs built (node_fits p.ranks (cell (with_cell p n)) (length p.cells) n first) (λ l. first.covered)
     (le_refl inputs) (omega arith) (λ i l m. absurd (omega arith)) (λ l. absurd (omega arith)))
     (omega arith)
@@ -232,8 +243,12 @@ record IsAt (i : Incoming) (is : List Incoming) : Type 0 where
 at_place : (i : Incoming) (is : List Incoming) → In i is → IsAt i is
 at_place i [] h = absurd h
 at_place i (j ∷ js) (inl e) = record { place = 0; below = omega arith; there = e }
-at_place i (j ∷ js) (inr h) = let r = at_place i js h in record { place = suc r.place; below = (let b = r.below in omega arith); there =
-    r.there }
+at_place i (j ∷ js) (inr h) = let r = at_place i js h in record {
+  place = suc r.place;
+  below = (let b = r.below in omega arith);
+  there =
+      r.there;
+}
 
 drawn-one : (p : Plan) (n : NewCell) (inputs : Inputs) → WellBuilt p (length inputs * p.ranks) →
     p.ranks + length inputs * p.ranks ≤ length p.cells → ((i : Incoming) → In i n.into → i.source < length p.cells) →
@@ -246,7 +261,7 @@ drawn-one p n inputs built behind lower = record {
       (out (nat_lt (length p.cells) (p.ranks + length inputs * p.ranks)) refl);
   comes = λ i j. let r = at_place i n.into j in
       let e : link (with_cell p n) (length p.links + r.place) ≡ link_to (length p.cells) i = link-new p n r.place r.below
-            ∙ ap (link_to (length p.cells)) r.there in record {
+      ∙ ap (link_to (length p.cells)) r.there in record {
         l = length p.links + r.place;
         into = subst (λ ls. In (length p.links + r.place) ls) (sym (in_links-new p n (λ l h. (built.links_sound l h).cells)))
             (In-from_to (length p.links) (length n.into) (length p.links + r.place) (omega arith) (let w = r.below in omega arith));
@@ -270,14 +285,14 @@ drawn_all p (n ∷ ns) inputs built behind h =
     let x = extends-all (with_cell p n) ns inputs in
     let e = length-cells p n in
     let first : SoundNewCell p.ranks (cell (with_cell p n)) (length p.cells) n =
-          other_cells p.ranks (cell (with_cells (with_cell p n) ns)) (cell (with_cell p n)) (length p.cells) n
-          (λ d l. x.same_cell d (omega arith)) h.0 in
+    other_cells p.ranks (cell (with_cells (with_cell p n) ns)) (cell (with_cell p n)) (length p.cells) n
+    (λ d l. x.same_cell d (omega arith)) h.0 in
     let next : WellBuilt (with_cell p n) (length inputs * p.ranks) = grows p n (length inputs * p.ranks) (length inputs * p.ranks) built
-          (node_fits p.ranks (cell (with_cell p n)) (length p.cells) n first) (λ l. first.covered) (le_refl (length inputs * p.ranks))
-          (omega arith) (λ i l m. absurd (omega arith)) (λ l. absurd (omega arith)) in (
+    (node_fits p.ranks (cell (with_cell p n)) (length p.cells) n first) (λ l. first.covered) (le_refl (length inputs * p.ranks))
+    (omega arith) (λ i l m. absurd (omega arith)) (λ l. absurd (omega arith)) in (
       drawn-extends (with_cell p n) (with_cells (with_cell p n) ns) inputs (length inputs * p.ranks) next x (length p.cells) n
           (drawn-one p n inputs built behind (λ i j. (first.each_into i j).rising)),
       subst (λ v. EachAt (Drawn (with_cells (with_cell p n) ns) inputs) v ns) e
           (drawn_all (with_cell p n) ns inputs next (omega arith)
-              (subst (λ v. EachAt (SoundNewCell p.ranks (cell (with_cells (with_cell p n) ns))) v ns) (sym e) h.1)),
+          (subst (λ v. EachAt (SoundNewCell p.ranks (cell (with_cells (with_cell p n) ns))) v ns) (sym e) h.1)),
     )

@@ -55,13 +55,13 @@ pub entries-sound : (ranks : ℕ) (k : ℕ → Cell) (s : StepContext) → Groun
 entries-sound ranks k s ground whole has = each_places (SoundNewCell ranks k) s s.first (full_entry s)
     (λ i h. let a = has i h in let l = a.low in let e = ground.exit_low i h in
     copying-sound ranks k (s.first + i) s.ty s.length (rank_at s i) (exit_at s i) (source_at s i) (ground.members i h) whole (omega arith)
-        (ground.exit_rank i h) (omega arith) a.long)
+    (ground.exit_rank i h) (omega arith) a.long)
 
 pub bare-sound : (ranks : ℕ) (k : ℕ → Cell) (s : StepContext) → Ground ranks k s →
     EachAt (SoundNewCell ranks k) s.first (map (bare_entry s) (places s))
 bare-sound ranks k s ground = each_places (SoundNewCell ranks k) s s.first (bare_entry s)
     (λ i h. let e = ground.exit_low i h in bumped-sound ranks k (s.first + i) (rank_at s i) (exit_at s i) (ground.members i h)
-        (omega arith) (ground.exit_rank i h))
+    (omega arith) (ground.exit_rank i h))
 
 -- E(i) holds A
 pub entry-value : (k : ℕ → Cell) (v : ℕ → List ℕ) (s : StepContext) (i : ℕ) → Known k v (entry s i) (full_entry s i) →

@@ -1,6 +1,6 @@
 -- Folds of lists: their parts may be joined and may change places; over a tree; over the places turned round.
-use Rattle.std.proofs.Common.{ℕ, zero, suc, Bool, true, false, cond, ◌+◌, ◌-◌, ◌*◌, ◌%◌, ◌==◌, ◌≡◌, ◌≤◌, ◌<◌, List, [], ◌∷◌, ◌++◌, refl,
-    length, map, filter, flat_map, ap, ◌∙◌, sym, subst, inl, inr, arith, eqb-true, nat_lt, append_assoc}
+use Rattle.std.proofs.Common.{ℕ, zero, suc, Bool, true, false, cond, ◌+◌, ◌-◌, ◌*◌, ◌%◌, ◌==◌, ◌≡◌, ◌≤◌, ◌<◌, List, [], ◌∷◌, ◌++◌, refl}
+use Rattle.std.proofs.Common.{length, map, filter, flat_map, ap, ◌∙◌, sym, subst, inl, inr, arith, eqb-true, nat_lt, append_assoc}
 use Rattle.std.proofs.Math.Nat.{mod-eq_of_lt, add-mul-mod_self_left}
 use Rattle.std.proofs.lemmas.Bool.{ne_eqb, eqb-false, ltb-true, ltb-false}
 use Rattle.op_laws.proofs.Bytes.{length-combined, length-repeated}
@@ -104,16 +104,16 @@ module _ (o : AtomicOp) (ty : ElemType) where
       ap (λ us. folded o ty us z) (map-map x h (from_to 0 m))
       ∙ folded-members x (map h (from_to 0 m)) (from_to 0 m) z
       (Distinct-map h (from_to 0 m) (Distinct-from_to 0 m) (λ a b i j e. let p = from_to-In 0 m a i in let q = from_to-In 0 m b j in
-          one a b (omega arith) (omega arith) e))
+      one a b (omega arith) (omega arith) e))
       (λ u i. let r = In-map_cases h u (from_to 0 m) i in let q = from_to-In 0 m r.0 r.1 in
-          subst (λ v. In v (from_to 0 m)) r.2 (In-from_to 0 m (h r.0) (omega arith) (let b = below r.0 (omega arith) in omega arith)))
+      subst (λ v. In v (from_to 0 m)) r.2 (In-from_to 0 m (h r.0) (omega arith) (let b = below r.0 (omega arith) in omega arith)))
       (let e = length-map' h (from_to 0 m) in omega arith)
 
 -- ---- a tree: each place combines its own list and then its children's results; the root has the fold of all
 module _ (o : AtomicOp) (ty : ElemType) (n m : ℕ) (whole : n % bytes_of ty ≡ 0) (par : ℕ → ℕ) (lower : (w : ℕ) → 0 < w → par w < w)
     (x : ℕ → List ℕ) (sum : ℕ → List ℕ)
     (sums : (v : ℕ) → v < m → sum v ≡ folded o ty (x v ∷ map sum (filter (λ w. par w == v) (from_to (suc v) (m - suc v))))
-        (starting o ty n)) where
+    (starting o ty n)) where
   abbrev kids : ℕ → ℕ → List ℕ
   kids t u = filter (λ w. par w == u) (from_to t (m - t))
 
@@ -131,14 +131,14 @@ module _ (o : AtomicOp) (ty : ElemType) (n m : ℕ) (whole : n % bytes_of ty ≡
   stays t h [] out z = refl
   stays t h (u ∷ us) out z =
       let e : filter (λ w. par w == u) (from_to t (m - t)) ≡ filter (λ w. par w == u) (from_to (suc t) (m - suc t)) = step-kids t u h
-            ∙ ap (λ b. cond b (t ∷ filter (λ w. par w == u) (from_to (suc t) (m - suc t)))
-            (filter (λ w. par w == u) (from_to (suc t) (m - suc t)))) (ne_eqb (par t) u (λ q. out (inl (sym q)))) in
+      ∙ ap (λ b. cond b (t ∷ filter (λ w. par w == u) (from_to (suc t) (m - suc t)))
+      (filter (λ w. par w == u) (from_to (suc t) (m - suc t)))) (ne_eqb (par t) u (λ q. out (inl (sym q)))) in
       folded-append o ty (x u ∷ map sum (filter (λ w. par w == u) (from_to t (m - t))))
-          (flat_map (λ u. x u ∷ map sum (filter (λ w. par w == u) (from_to t (m - t)))) us) z
+      (flat_map (λ u. x u ∷ map sum (filter (λ w. par w == u) (from_to t (m - t)))) us) z
       ∙ ap (λ ks. total t us (folded o ty (x u ∷ map sum ks) z)) e
       ∙ stays t h us (λ i. out (inr i)) (folded o ty (x u ∷ map sum (filter (λ w. par w == u) (from_to (suc t) (m - suc t)))) z)
       ∙ sym (folded-append o ty (x u ∷ map sum (filter (λ w. par w == u) (from_to (suc t) (m - suc t))))
-          (flat_map (λ u. x u ∷ map sum (filter (λ w. par w == u) (from_to (suc t) (m - suc t)))) us) z)
+      (flat_map (λ u. x u ∷ map sum (filter (λ w. par w == u) (from_to (suc t) (m - suc t)))) us) z)
 
   -- one partial result more, at its parent
   one_more : (t : ℕ) → t < m → (us : List ℕ) → Distinct us → In (par t) us → (z : List ℕ) →
@@ -175,21 +175,21 @@ module _ (o : AtomicOp) (ty : ElemType) (n m : ℕ) (whole : n % bytes_of ty ≡
   stage : (t : ℕ) → 0 < t → t < m → total (suc t) (from_to 0 (suc t)) (starting o ty n) ≡ total t (from_to 0 t) (starting o ty n)
   stage t pos h =
       let split : from_to 0 (suc t) ≡ from_to 0 t ++ t ∷ [] = ap (from_to 0) (let e : suc t ≡ t + 1 = omega arith in e)
-            ∙ from_to-append 0 t 1 ∙ ap (λ v. from_to 0 t ++ v ∷ []) (let e : 0 + t ≡ t = omega arith in e) in
+      ∙ from_to-append 0 t 1 ∙ ap (λ v. from_to 0 t ++ v ∷ []) (let e : 0 + t ≡ t = omega arith in e) in
       let f : ℕ → List (List ℕ) = λ u. x u ∷ map sum (filter (λ w. par w == u) (from_to (suc t) (m - suc t))) in
       let inner : ℕ = length (folded o ty (flat_map f (from_to 0 t)) (starting o ty n)) in
       let len : length (folded o ty (flat_map f (from_to 0 t)) (starting o ty n)) ≡ n =
-            length-folded o ty (flat_map f (from_to 0 t)) (starting o ty n) (ap (λ v. v % bytes_of ty) start-length ∙ whole)
-            ∙ start-length in
+      length-folded o ty (flat_map f (from_to 0 t)) (starting o ty n) (ap (λ v. v % bytes_of ty) start-length ∙ whole)
+      ∙ start-length in
       ap (λ us. folded o ty (flat_map f us) (starting o ty n)) split
       ∙ ap (λ xs. folded o ty xs (starting o ty n)) (flat-append f (from_to 0 t) (t ∷ []))
       ∙ folded-append o ty (flat_map f (from_to 0 t)) (f t ++ []) (starting o ty n)
       ∙ folded-append o ty (f t) [] (folded o ty (flat_map f (from_to 0 t)) (starting o ty n))
       ∙ sym (folded-join o ty n whole (folded o ty (flat_map f (from_to 0 t)) (starting o ty n)) (x t)
-          (map sum (filter (λ w. par w == t) (from_to (suc t) (m - suc t)))) len)
+      (map sum (filter (λ w. par w == t) (from_to (suc t) (m - suc t)))) len)
       ∙ ap (combined o ty (folded o ty (flat_map f (from_to 0 t)) (starting o ty n))) (sym (sums t h))
       ∙ sym (one_more t h (from_to 0 t) (Distinct-from_to 0 t) (In-from_to 0 t (par t) (omega arith) (let l = lower t pos in omega arith))
-          (starting o ty n))
+      (starting o ty n))
 
   down_to : (k t : ℕ) → 0 < t → t + k ≡ m → total m (from_to 0 m) (starting o ty n) ≡ total t (from_to 0 t) (starting o ty n)
   down_to zero t pos e = ap (λ v. total v (from_to 0 v) (starting o ty n)) (let q : m ≡ t = omega arith in q)
@@ -199,7 +199,7 @@ module _ (o : AtomicOp) (ty : ElemType) (n m : ℕ) (whole : n % bytes_of ty ≡
   none_left [] z = refl
   none_left (u ∷ us) z =
       folded-append o ty (x u ∷ map sum (filter (λ w. par w == u) (from_to m (m - m))))
-          (flat_map (λ u. x u ∷ map sum (filter (λ w. par w == u) (from_to m (m - m)))) us) z
+      (flat_map (λ u. x u ∷ map sum (filter (λ w. par w == u) (from_to m (m - m)))) us) z
       ∙ ap (λ k. total m us (folded o ty (x u ∷ map sum (filter (λ w. par w == u) (from_to m k))) z)) (let e : m - m ≡ 0 = omega arith in e)
       ∙ none_left us (combined o ty z (x u))
 

@@ -1,6 +1,6 @@
 -- Members of a list of rising numbers that pass a test.
-use Rattle.std.proofs.Common.{ℕ, zero, suc, Bool, true, false, cond, ◌||◌, ◌+◌, ◌≡◌, ◌<◌, ◌≤◌, ◌==◌, ◌∷◌, refl, filter, ap, ◌∙◌, sym, arith,
-    eq-eqb, eqb-true}
+use Rattle.std.proofs.Common.{ℕ, zero, suc, Bool, true, false, cond, ◌||◌, ◌+◌, ◌≡◌, ◌<◌, ◌≤◌, ◌==◌, ◌∷◌, refl, filter, ap, ◌∙◌, sym, arith}
+use Rattle.std.proofs.Common.{eq-eqb, eqb-true}
 use Rattle.coll_shape.specs.Collectives.{is_in}
 use Rattle.plan_core.specs.Plan.{from_to}
 use Rattle.std.proofs.lemmas.Bool.{ne_eqb}

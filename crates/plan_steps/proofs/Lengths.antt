@@ -34,7 +34,7 @@ module _ (p : Plan) (inputs : Inputs) (m : ℕ) (built : WellBuilt p m) (fit : A
       let below = length-below n (link p l).source (let t : (link p l).target ≡ c = r.1 in omega arith) (let t = s.cells in omega arith) in
       subst (λ d. length z ≡ (cell p d).length → length (step p inputs l z) ≡ (cell p d).length) r.1
       (λ q. length-land (cell p (link p l).target) (link p l).kind (link p l).target_offset (due p inputs l) z
-          (built.whole (link p l).target s.cells) (Lands-of p l s (due p inputs l) (length-due p inputs l s below)) q) e)
+      (built.whole (link p l).target s.cells) (Lands-of p l s (due p inputs l) (length-due p inputs l s below)) q) e)
       (initial p inputs c) (length-first c k)
 
   pub length-value : (c : ℕ) → c < length p.cells → length (value p inputs c) ≡ (cell p c).length

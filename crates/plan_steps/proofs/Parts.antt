@@ -1,6 +1,6 @@
 -- Parts filled_by one after the other, in any order, make their concatenation.
-use Rattle.std.proofs.Common.{ℕ, zero, suc, Bool, true, false, ◌+◌, ◌-◌, ◌*◌, ◌≡◌, ◌≤◌, ◌<◌, ◌⊎◌, List, [], ◌∷◌, ◌++◌, refl, length, map,
-    flat_map, drop, ap, ap₂, ◌∙◌, sym, subst, inl, inr, arith, rules, append_assoc, length-append, append-nil}
+use Rattle.std.proofs.Common.{ℕ, zero, suc, Bool, true, false, ◌+◌, ◌-◌, ◌*◌, ◌≡◌, ◌≤◌, ◌<◌, ◌⊎◌, List, [], ◌∷◌, ◌++◌, refl, length, map}
+use Rattle.std.proofs.Common.{flat_map, drop, ap, ap₂, ◌∙◌, sym, subst, inl, inr, arith, rules, append_assoc, length-append, append-nil}
 use Rattle.std.proofs.Math.Nat.{mul-le-mul_right}
 use Rattle.std.proofs.lemmas.List.{places, same_lists, length-drop}
 use Rattle.op_laws.proofs.Bytes.{length-written, written-apart}
@@ -26,7 +26,7 @@ each-turned f P h m below one keeps swaps z p =
     ∙ each_same f P (map h (from_to 0 m)) (from_to 0 m)
     (Distinct-map h (from_to 0 m) (Distinct-from_to 0 m) (λ a b i j e. one a b (in_range a i) (in_range b j) e))
     (λ u i. let r = In-map_cases h u (from_to 0 m) i in subst (λ v. In v (from_to 0 m)) r.2
-        (In-from_to 0 m (h r.0) (omega arith) (let b = below r.0 (in_range r.0 r.1) in omega arith)))
+    (In-from_to 0 m (h r.0) (omega arith) (let b = below r.0 (in_range r.0 r.1) in omega arith)))
     (let e = length-map' h (from_to 0 m) in omega arith)
     (λ a v i q. keeps a v (in_range a i) q) (λ a b v i j q. swaps a b v (in_range a i) (in_range b j) q) z p
   where
@@ -67,7 +67,7 @@ module _ (n : ℕ) (y : ℕ → List ℕ) where
   in_order (suc m) h z l =
       let front = flat_map y (from_to 0 m) in
       let len : length (flat_map y (from_to 0 m)) ≡ m * n = length-flat (from_to 0 m) (λ q i. let r = from_to-In 0 m q i in
-            h q (omega arith)) ∙ ap (λ v. v * n) (length-from_to 0 m) in
+      h q (omega arith)) ∙ ap (λ v. v * n) (length-from_to 0 m) in
       let one = h m (omega arith) in
       let s : suc m * n ≡ m * n + n = omega arith in
       ap (λ us. each (λ q z. written (q * n) (y q) z) us z) (split m)

@@ -1,6 +1,6 @@
 -- How many rounds of doubling reach all places.
-use Rattle.std.proofs.Common.{ℕ, zero, suc, Bool, true, false, cond, ◌+◌, ◌^◌, ◌≡◌, ◌≤◌, ◌<◌, refl, subst, inl, inr, arith, nat_le, pow-suc,
-    pow_pos}
+use Rattle.std.proofs.Common.{ℕ, zero, suc, Bool, true, false, cond, ◌+◌, ◌^◌, ◌≡◌, ◌≤◌, ◌<◌, refl, subst, inl, inr, arith, nat_le, pow-suc}
+use Rattle.std.proofs.Common.{pow_pos}
 use Rattle.plan_steps.specs.Rounds.{rounds, rounds_from}
 use Rattle.std.proofs.lemmas.Bool.{leb-true, leb-false}
 

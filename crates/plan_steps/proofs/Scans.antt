@@ -1,6 +1,6 @@
 -- The fold of the places up to r, by doubling.
-use Rattle.std.proofs.Common.{ℕ, zero, suc, Bool, true, false, cond, ◌+◌, ◌-◌, ◌%◌, ◌^◌, ◌≡◌, ◌≤◌, ◌<◌, List, ◌++◌, refl, length, map, ap,
-    ap₂, ◌∙◌, sym, arith, nat_le, pow-suc}
+use Rattle.std.proofs.Common.{ℕ, zero, suc, Bool, true, false, cond, ◌+◌, ◌-◌, ◌%◌, ◌^◌, ◌≡◌, ◌≤◌, ◌<◌, List, ◌++◌, refl, length, map, ap}
+use Rattle.std.proofs.Common.{ap₂, ◌∙◌, sym, arith, nat_le, pow-suc}
 use Rattle.std.proofs.lemmas.Bool.{leb-true, leb-false}
 use Rattle.std.proofs.lemmas.List.{map-append}
 use Rattle.op_laws.proofs.Bytes.{length-repeated}
@@ -16,7 +16,7 @@ use Rattle.ptl_types.specs.declared.elements.ElemType.{ElemType}
 module _ (o : AtomicOp) (ty : ElemType) (n m : ℕ) (whole : n % bytes_of ty ≡ 0) (x : ℕ → List ℕ) (sum : ℕ → ℕ → List ℕ) (last : ℕ)
     (first : (r : ℕ) → r < m → sum 0 r ≡ combined o ty (starting o ty n) (x r))
     (next : (k r : ℕ) → k < last → r < m → sum (suc k) r ≡ cond (nat_le (2 ^ k) r)
-        (combined o ty (combined o ty (starting o ty n) (sum k r)) (sum k (r - 2 ^ k))) (combined o ty (starting o ty n) (sum k r))) where
+    (combined o ty (combined o ty (starting o ty n) (sum k r)) (sum k (r - 2 ^ k))) (combined o ty (starting o ty n) (sum k r))) where
   -- the fold of l places from a on
   abbrev span_of : ℕ → ℕ → List ℕ → List ℕ
   span_of a l z = folded o ty (map x (from_to a l)) z
@@ -46,7 +46,7 @@ module _ (o : AtomicOp) (ty : ElemType) (n m : ℕ) (whole : n % bytes_of ty ≡
           ap (combined o ty (starting o ty n)) (earlier r h)
           ∙ join (suc r - 2 ^ k) (suc r - (suc r - 2 ^ k)) (omega arith) (starting o ty n) start-length
           ∙ ap₂ (λ a l. span_of a l (starting o ty n)) (let q : suc r - 2 ^ k ≡ suc r - 2 ^ suc k = omega arith in q)
-              (let q : suc r - (suc r - 2 ^ k) ≡ suc r - (suc r - 2 ^ suc k) = omega arith in q)
+          (let q : suc r - (suc r - 2 ^ k) ≡ suc r - (suc r - 2 ^ suc k) = omega arith in q)
       at earlier true e =
           let i : 2 ^ k ≤ r = leb-true _ _ e in
           let p = pow-suc 2 k in
@@ -56,7 +56,7 @@ module _ (o : AtomicOp) (ty : ElemType) (n m : ℕ) (whole : n % bytes_of ty ≡
           let a2 = suc (r - 2 ^ k) - 2 ^ k in
           let l2 = suc (r - 2 ^ k) - (suc (r - 2 ^ k) - 2 ^ k) in
           let len : length (span_of a1 l1 (starting o ty n)) ≡ n = length-folded o ty (map x (from_to a1 l1)) (starting o ty n)
-                (ap (λ v. v % bytes_of ty) start-length ∙ whole) ∙ start-length in
+          (ap (λ v. v % bytes_of ty) start-length ∙ whole) ∙ start-length in
           ap₂ (λ u v. combined o ty (combined o ty (starting o ty n) u) v) (earlier r h) (earlier (r - 2 ^ k) (omega arith))
           ∙ ap (λ u. combined o ty u (span_of a2 l2 (starting o ty n))) (join a1 l1 (omega arith) (starting o ty n) start-length)
           ∙ join a2 l2 (omega arith) (span_of a1 l1 (starting o ty n)) len
@@ -65,9 +65,9 @@ module _ (o : AtomicOp) (ty : ElemType) (n m : ℕ) (whole : n % bytes_of ty ≡
           ∙ ap (λ xs. folded o ty xs (starting o ty n))
           (sym (map-append x (from_to a2 l2) (from_to a1 l1))
           ∙ ap (map x) (ap₂ (λ u v. from_to a2 l2 ++ from_to u v) (let q : a1 ≡ a2 + l2 = omega arith in q)
-              (let q : l1 ≡ 2 ^ k = omega arith in q) ∙ sym (from_to-append a2 l2 (2 ^ k))
+          (let q : l1 ≡ 2 ^ k = omega arith in q) ∙ sym (from_to-append a2 l2 (2 ^ k))
           ∙ ap₂ from_to (let q : a2 ≡ suc r - 2 ^ suc k = omega arith in q) (let q : l2 + 2 ^ k ≡ suc r - (suc r - 2 ^ suc k) =
-                                                                                   omega arith in q)))
+          omega arith in q)))
 
   pub scanned : (k r : ℕ) → k ≤ last → m ≤ 2 ^ k → r < m → sum k r ≡ span_of 0 (suc r) (starting o ty n)
   scanned k r t big h = doubled k r t h ∙ ap₂ (λ a l. span_of a l (starting o ty n)) (let e : suc r - 2 ^ k ≡ 0 = omega arith in e)

@@ -1,6 +1,6 @@
 -- After a step: a member's exit and the cell that holds the new buffer there are those of its place, and all others stay.
-use Rattle.std.proofs.Common.{ℕ, zero, suc, Bool, true, false, nat_lt, ◌+◌, ◌-◌, ◌*◌, ◌≡◌, ◌<◌, ◌≤◌, List, Option, Some, None, refl, length,
-    get_or, set, ap, ◌∙◌, sym, subst, arith, get_or-set_same, get_or-set_other, ◌⊎◌, inl, inr, eq-or-lt_of_le}
+use Rattle.std.proofs.Common.{ℕ, zero, suc, Bool, true, false, nat_lt, ◌+◌, ◌-◌, ◌*◌, ◌≡◌, ◌<◌, ◌≤◌, List, Option, Some, None, refl, length}
+use Rattle.std.proofs.Common.{get_or, set, ap, ◌∙◌, sym, subst, arith, get_or-set_same, get_or-set_other, ◌⊎◌, inl, inr, eq-or-lt_of_le}
 use Rattle.std.proofs.Math.Nat.{mul-le-mul_right}
 use Rattle.std.proofs.lemmas.Bool.{ltb-true, ltb-false}
 use Rattle.std.proofs.lemmas.List.{length-set}
@@ -53,7 +53,7 @@ exits_by-member n xs g ends are long (suc m) i h l = at (last (omega arith)) (λ
     at (inl e) rest =
         ap (λ j. get_or (set (exits_by xs g ends m) (member g m) (end_at ends m).exit) (member g j) 0) e
         ∙ same (exits_by xs g ends m) (member g m) (end_at ends m).exit (let a = length-exits_by xs g ends m in let b =
-                                                                                                                      are.ranks m (omega arith) in omega (arith, a, b, long))
+        are.ranks m (omega arith) in omega (arith, a, b, long))
         ∙ ap (λ j. (end_at ends j).exit) (sym e)
     at (inr k) rest = other (exits_by xs g ends m) (member g m) (member g i) (end_at ends m).exit
         (λ e. apart n g are i m k (omega arith) e) ∙ rest k
@@ -129,7 +129,7 @@ unfolding held_by
 held_by-stays h g ends b zero x ne = refl
 held_by-stays h g ends b (suc m) x ne =
     hold_by-stays (held_by h g ends b m) b (member g m) (end_at ends m).holder x
-        (λ e. ne m (omega arith) (ap (λ v. b * v + member g m) (sym (ranks-held_by h g ends b m)) ∙ e))
+    (λ e. ne m (omega arith) (ap (λ v. b * v + member g m) (sym (ranks-held_by h g ends b m)) ∙ e))
     ∙ held_by-stays h g ends b m x (λ i l e. ne i (omega arith) e)
 
 -- buffer b is held by none so far: then the cell of a member is that of its place
@@ -151,15 +151,15 @@ held_by-member h g ends b are long none (suc m) i k l = at (last (omega arith))
         ap (λ v. get_or (hold_by (held_by h g ends b m) b (member g m) (end_at ends m).holder).cells (b * v + member g m) None) (sym e)
         ∙ hold_by-there (held_by h g ends b m) b (member g m) (end_at ends m).holder
         (subst (λ v. b * v + member g m < length (held_by h g ends b m).cells) (sym e) (let a = many-held_by h g ends b m in let c =
-                                                                                                                                   long (member g m) w in omega (arith, a, c)))
+        long (member g m) w in omega (arith, a, c)))
         (ap (λ v. get_or (held_by h g ends b m).cells (b * v + member g m) None) e
         ∙ held_by-stays h g ends b m (b * h.ranks + member g m)
-            (λ j j_low q. apart h.ranks g are j m j_low (omega arith) (let z : member g j ≡ member g m = omega (arith, q) in z))
+        (λ j j_low q. apart h.ranks g are j m j_low (omega arith) (let z : member g j ≡ member g m = omega (arith, q) in z))
         ∙ none (member g m) w)
 
     at : (i ≡ m) ⊎ (i < m) → (i < m → get_or (held_by h g ends b m).cells (b * h.ranks + member g i) None ≡ (end_at ends i).holder)
         → get_or (hold_by (held_by h g ends b m) b (member g m) (end_at ends m).holder).cells (b * h.ranks + member g i) None
-            ≡ (end_at ends i).holder
+        ≡ (end_at ends i).holder
     at (inl e) rest =
         ap (λ j. get_or (hold_by (held_by h g ends b m) b (member g m) (end_at ends m).holder).cells (b * h.ranks + member g j) None) e
         ∙ same (are.ranks m (omega arith))
@@ -167,5 +167,5 @@ held_by-member h g ends b are long none (suc m) i k l = at (last (omega arith))
     at (inr w) rest =
         hold_by-stays (held_by h g ends b m) b (member g m) (end_at ends m).holder (b * h.ranks + member g i)
         (λ q. apart h.ranks g are i m w (omega arith) (let z : member g i ≡ member g m =
-                                                             omega (arith, ap (λ v. b * v) (ranks-held_by h g ends b m), q) in z))
+        omega (arith, ap (λ v. b * v) (ranks-held_by h g ends b m), q) in z))
         ∙ rest w

@@ -1,6 +1,7 @@
 -- One more cell with its links keeps a plan sound.
-use Rattle.std.proofs.Common.{ℕ, zero, suc, Bool, true, false, cond, ◌+◌, ◌-◌, ◌%◌, ◌≡◌, ◌≤◌, ◌<◌, ◌⊎◌, List, [], ◌∷◌, refl, length, get_or,
-    ap, ap₂, ◌∙◌, sym, subst, inl, inr, arith, Some, None, sum_by, nat_lt, eq-or-lt_of_le, le_of_suc-le-suc, le_refl}
+use Rattle.std.proofs.Common.{ℕ, zero, suc, Bool, true, false, cond, ◌+◌, ◌-◌, ◌%◌, ◌≡◌, ◌≤◌, ◌<◌, ◌⊎◌, List, [], ◌∷◌, refl, length, get_or}
+use Rattle.std.proofs.Common.{ap, ap₂, ◌∙◌, sym, subst, inl, inr, arith, Some, None, sum_by, nat_lt, eq-or-lt_of_le, le_of_suc-le-suc}
+use Rattle.std.proofs.Common.{le_refl}
 use Rattle.std.proofs.lemmas.Bool.{ltb-true, ltb-false}
 use Rattle.std.proofs.lemmas.List.Sums.{sum_by-cons}
 use Rattle.plan_core.proofs.Links.{in_links-In}
@@ -12,10 +13,10 @@ use Rattle.plan_core.specs.declared.Cell.{Cell}
 use Rattle.plan_core.specs.declared.Incoming.{Incoming}
 use Rattle.plan_core.specs.declared.Link.{Link}
 use Rattle.plan_core.specs.declared.LinkKind.TheVariants.{Atomic, Bump, Put}
-use Rattle.plan_steps.proofs.Grow.{In-get_or, InPlan, cell-new, cell-old, in_links-new, in_links-old, length-cells, length-from_to,
-    length-links, link-new, link-old, no_incoming}
-use Rattle.plan_steps.specs.Sounding.{AllApart, ArePartsApart, FromAll, NodeFits, SoundIncoming, SoundNewCell, WellBuilt, put_length,
-    with_cell}
+use Rattle.plan_steps.proofs.Grow.{In-get_or, InPlan, cell-new, cell-old, in_links-new, in_links-old, length-cells, length-from_to}
+use Rattle.plan_steps.proofs.Grow.{length-links, link-new, link-old, no_incoming}
+use Rattle.plan_steps.specs.Sounding.{AllApart, ArePartsApart, FromAll, NodeFits, SoundIncoming, SoundNewCell, WellBuilt, put_length}
+use Rattle.plan_steps.specs.Sounding.{with_cell}
 use Rattle.ptl_types.specs.Operations.{bytes_of}
 use Rattle.ptl_types.specs.declared.elements.AtomicOp.{AtomicOp}
 
@@ -63,33 +64,79 @@ record Judged (k : Link) (s t : Cell) (cells : ℕ) : Type 0 where
   no_atomic : t.op ≡ None → k.kind ≡ Atomic → ⊥
 
 judged : (p : Plan) (l : ℕ) → SoundLink p l → Judged (link p l) (cell p (link p l).source) (cell p (link p l).target) (length p.cells)
-judged p l h = record { rising = h.rising; inside = h.cells; within_source = h.within_source; within_target =
-    h.within_target; bump_stays = h.bump_stays; bump_empty = h.bump_empty; atomic_here = h.atomic_here; atomic_whole =
-    h.atomic_whole; no_atomic = h.no_atomic }
+judged p l h = record {
+  rising = h.rising;
+  inside = h.cells;
+  within_source = h.within_source;
+  within_target =
+      h.within_target;
+  bump_stays = h.bump_stays;
+  bump_empty = h.bump_empty;
+  atomic_here = h.atomic_here;
+  atomic_whole =
+      h.atomic_whole;
+  no_atomic = h.no_atomic;
+}
 
 from_judged : (p : Plan) (l : ℕ) → Judged (link p l) (cell p (link p l).source) (cell p (link p l).target) (length p.cells) → SoundLink p l
-from_judged p l h = record { rising = h.rising; cells = h.inside; within_source = h.within_source; within_target =
-    h.within_target; bump_stays = h.bump_stays; bump_empty = h.bump_empty; atomic_here = h.atomic_here; atomic_whole =
-    h.atomic_whole; no_atomic = h.no_atomic }
+from_judged p l h = record {
+  rising = h.rising;
+  cells = h.inside;
+  within_source = h.within_source;
+  within_target =
+      h.within_target;
+  bump_stays = h.bump_stays;
+  bump_empty = h.bump_empty;
+  atomic_here = h.atomic_here;
+  atomic_whole =
+      h.atomic_whole;
+  no_atomic = h.no_atomic;
+}
 
 more_cells : (k : Link) (s t : Cell) (a b : ℕ) → a ≤ b → Judged k s t a → Judged k s t b
-more_cells k s t a b le h = record { rising = h.rising; inside = (let i = h.inside in omega arith); within_source =
-    h.within_source; within_target = h.within_target; bump_stays = h.bump_stays; bump_empty = h.bump_empty; atomic_here =
-    h.atomic_here; atomic_whole = h.atomic_whole; no_atomic = h.no_atomic }
+more_cells k s t a b le h = record {
+  rising = h.rising;
+  inside = (let i = h.inside in omega arith);
+  within_source =
+      h.within_source;
+  within_target = h.within_target;
+  bump_stays = h.bump_stays;
+  bump_empty = h.bump_empty;
+  atomic_here =
+      h.atomic_here;
+  atomic_whole = h.atomic_whole;
+  no_atomic = h.no_atomic;
+}
 
 judged_new : (k : ℕ → Cell) (c m : ℕ) (n : NewCell) (i : Incoming) → c < m → SoundIncoming k c n i →
     Judged (link_to c i) (k i.source) (cell_of n) m
-judged_new k c m n i lt h = record { rising = h.rising; inside = lt; within_source = h.within_source; within_target =
-    h.within_target; bump_stays = h.bump_stays; bump_empty = h.bump_empty; atomic_here = h.atomic_here; atomic_whole =
-    h.atomic_whole; no_atomic = h.no_atomic }
+judged_new k c m n i lt h = record {
+  rising = h.rising;
+  inside = lt;
+  within_source = h.within_source;
+  within_target =
+      h.within_target;
+  bump_stays = h.bump_stays;
+  bump_empty = h.bump_empty;
+  atomic_here = h.atomic_here;
+  atomic_whole =
+      h.atomic_whole;
+  no_atomic = h.no_atomic;
+}
 
 abbrev LinksApart : Link → Link → Type 0
 LinksApart j k = (j.target ≡ k.target) → j.kind ≡ Put → k.kind ≡ Put → (j.target_offset + j.length ≤ k.target_offset) ⊎
     (k.target_offset + k.length ≤ j.target_offset)
 
 pub node_fits : (ranks : ℕ) (k : ℕ → Cell) (c : ℕ) (n : NewCell) → SoundNewCell ranks k c n → NodeFits ranks k c n
-node_fits ranks k c n h = record { rank_known = h.rank_known; whole = h.whole; some_link = h.some_link; each_into = h.each_into; apart =
-    h.apart }
+node_fits ranks k c n h = record {
+  rank_known = h.rank_known;
+  whole = h.whole;
+  some_link = h.some_link;
+  each_into = h.each_into;
+  apart =
+      h.apart;
+}
 
 module _ (p : Plan) (n : NewCell) (inputs more : ℕ) (built : WellBuilt p inputs)
     (sound : NodeFits p.ranks (cell (with_cell p n)) (length p.cells) n)
@@ -141,18 +188,18 @@ module _ (p : Plan) (n : NewCell) (inputs more : ℕ) (built : WellBuilt p input
           from_judged (with_cell p n) l
           (subst (λ k. Judged k (cell (with_cell p n) k.source) (cell (with_cell p n) k.target) (length (with_cell p n).cells)) (sym e)
           (subst (λ s. Judged (link p l) s (cell (with_cell p n) (link p l).target) (length (with_cell p n).cells))
-              (sym (cell-old p n (link p l).source (omega arith)))
+          (sym (cell-old p n (link p l).source (omega arith)))
           (subst (λ t. Judged (link p l) (cell p (link p l).source) t (length (with_cell p n).cells))
-              (sym (cell-old p n (link p l).target top))
+          (sym (cell-old p n (link p l).target top))
           (more_cells (link p l) (cell p (link p l).source) (cell p (link p l).target) (length p.cells) (length (with_cell p n).cells)
-              (let g = grown in omega arith) o))))
+          (let g = grown in omega arith) o))))
       at (New j i k e) =
           from_judged (with_cell p n) l
           (subst (λ v. Judged v (cell (with_cell p n) v.source) (cell (with_cell p n) v.target) (length (with_cell p n).cells)) (sym e)
           (subst (λ t. Judged (link_to (length p.cells) (get_or n.into j no_incoming))
-              (cell (with_cell p n) (get_or n.into j no_incoming).source) t (length (with_cell p n).cells)) (sym (cell-new p n))
+          (cell (with_cell p n) (get_or n.into j no_incoming).source) t (length (with_cell p n).cells)) (sym (cell-new p n))
           (judged_new (cell (with_cell p n)) (length p.cells) (length (with_cell p n).cells) n (get_or n.into j no_incoming)
-              (let g = grown in omega arith) (into_sound j i))))
+          (let g = grown in omega arith) (into_sound j i))))
 
   needs_grow : (c : ℕ) → c < length (with_cell p n).cells → p.ranks ≤ c →
       (cell (with_cell p n) c).needs ≡ length (in_links (with_cell p n) c)
@@ -161,16 +208,20 @@ module _ (p : Plan) (n : NewCell) (inputs more : ℕ) (built : WellBuilt p input
       at : (c ≡ length p.cells) ⊎ (c < length p.cells) → (cell (with_cell p n) c).needs ≡ length (in_links (with_cell p n) c)
       at (inl e) = subst (λ v. (cell (with_cell p n) v).needs ≡ length (in_links (with_cell p n) v)) (sym e)
           (ap (λ (k : Cell). k.needs) (cell-new p n) ∙ sym (ap length (in_links-new p n inside)
-              ∙ length-from_to (length p.links) (length n.into)))
+          ∙ length-from_to (length p.links) (length n.into)))
       at (inr l) = ap (λ (k : Cell). k.needs) (cell-old p n c l) ∙ built.needs c l r ∙ ap length (sym (in_links-old p n c l))
 
   go_grow : (r : ℕ) → r < p.ranks → ((cell (with_cell p n) r).needs ≡ 1) × (in_links (with_cell p n) r ≡ []) ×
       ((cell (with_cell p n) r).rank ≡ r) × ((cell (with_cell p n) r).length ≡ 0)
   go_grow r h =
       let l : r < length p.cells = (let a = built.all_go in omega arith) in
-      let o = built.go_needs r h in
-      (ap (λ (k : Cell). k.needs) (cell-old p n r l) ∙ o.0, in_links-old p n r l ∙ o.1, ap (λ (k : Cell). k.rank) (cell-old p n r l)
-          ∙ o.2, ap (λ (k : Cell). k.length) (cell-old p n r l) ∙ o.3)
+      let o = built.go_needs r h in (
+        ap (λ (k : Cell). k.needs) (cell-old p n r l) ∙ o.0,
+        in_links-old p n r l ∙ o.1,
+        ap (λ (k : Cell). k.rank) (cell-old p n r l)
+            ∙ o.2,
+        ap (λ (k : Cell). k.length) (cell-old p n r l) ∙ o.3,
+      )
 
   apart_links : (l m : ℕ) → l < length (with_cell p n).links → m < length (with_cell p n).links → (l ≡ m → ⊥) →
       LinksApart (link (with_cell p n) l) (link (with_cell p n) m)
@@ -199,14 +250,14 @@ module _ (p : Plan) (n : NewCell) (inputs more : ℕ) (built : WellBuilt p input
       at (inl e) = subst (λ v. put_bytes (with_cell p n) v ≡ (cell (with_cell p n) v).length) (sym e)
           (ap (sum_by (λ l. bytes_in (link (with_cell p n) l))) (in_links-new p n inside)
           ∙ sum_by-from (λ l. bytes_in (link (with_cell p n) l)) put_length no_incoming n.into (length p.links)
-              (λ j l. ap bytes_in (link-new p n j l))
+          (λ j l. ap bytes_in (link-new p n j l))
           ∙ covers (let z = r in omega arith) (subst (λ (k : Cell). k.op ≡ None) (cell-new p n)
-              (subst (λ v. (cell (with_cell p n) v).op ≡ None) e none))
+          (subst (λ v. (cell (with_cell p n) v).op ≡ None) e none))
           ∙ sym (ap (λ (k : Cell). k.length) (cell-new p n)))
       at (inr l) =
           ap (sum_by (λ l. bytes_in (link (with_cell p n) l))) (in_links-old p n c l)
           ∙ sum_by-same (λ l. bytes_in (link (with_cell p n) l)) (λ l. bytes_in (link p l)) (in_links p c)
-              (λ m i. ap bytes_in (link-old p n m (in_links-In p c m i).0))
+          (λ m i. ap bytes_in (link-old p n m (in_links-In p c m i).0))
           ∙ built.covered c l (omega arith) (subst (λ (k : Cell). k.op ≡ None) (cell-old p n c l) none)
           ∙ sym (ap (λ (k : Cell). k.length) (cell-old p n c l))
 

@@ -1,6 +1,6 @@
 -- How many links and bytes cells have, in a row and in rows, in closed form.
-use Rattle.std.proofs.Common.{ℕ, zero, suc, Bool, true, false, cond, ◌+◌, ◌-◌, ◌*◌, ◌≡◌, ◌<◌, ◌≤◌, ◌==◌, List, ◌∷◌, ◌++◌, refl, length, map,
-    ap, ap₂, ◌∙◌, sym, arith, eq-eqb, eqb-true}
+use Rattle.std.proofs.Common.{ℕ, zero, suc, Bool, true, false, cond, ◌+◌, ◌-◌, ◌*◌, ◌≡◌, ◌<◌, ◌≤◌, ◌==◌, List, ◌∷◌, ◌++◌, refl, length, map}
+use Rattle.std.proofs.Common.{ap, ap₂, ◌∙◌, sym, arith, eq-eqb, eqb-true}
 use Rattle.plan_core.specs.Draw.{NewCell, links_of, bytes_in}
 use Rattle.plan_core.specs.Plan.{from_to}
 use Rattle.plan_steps.specs.Broadcast.{first_cell}
@@ -27,13 +27,13 @@ pub links-row : (f : ℕ → NewCell) (k n m : ℕ) → ((i : ℕ) → length (f
 links-row f k zero m h = let e : 0 ≡ 0 * m = omega arith in e
 links-row f k (suc n) m h =
     links-cons (f k) (map f (from_to (suc k) n)) ∙ ap₂ (λ a b. a + b) (h k) (links-row f (suc k) n m h)
-        ∙ (let e : m + n * m ≡ suc n * m = omega arith in e)
+    ∙ (let e : m + n * m ≡ suc n * m = omega arith in e)
 
 pub bytes-row : (f : ℕ → NewCell) (k n m : ℕ) → ((i : ℕ) → (f i).length ≡ m) → bytes_in (map f (from_to k n)) ≡ n * m
 bytes-row f k zero m h = let e : 0 ≡ 0 * m = omega arith in e
 bytes-row f k (suc n) m h =
     bytes-cons (f k) (map f (from_to (suc k) n)) ∙ ap₂ (λ a b. a + b) (h k) (bytes-row f (suc k) n m h)
-        ∙ (let e : m + n * m ≡ suc n * m = omega arith in e)
+    ∙ (let e : m + n * m ≡ suc n * m = omega arith in e)
 
 pub links-rows : (s : StepContext) (f : ℕ → ℕ → NewCell) (a n m : ℕ) → ((k i : ℕ) → length (f k i).into ≡ m)
     → links_of (rows s f a n) ≡ n * (count s * m)
@@ -63,7 +63,7 @@ links-one f k (suc n) root a b h l x y = at (k == root) refl
     later j zero g = let e : 0 ≡ 0 * b = omega arith in e
     later j (suc m) g =
         links-cons (f j) (map f (from_to (suc j) m)) ∙ ap₂ (λ u v. u + v) (y j (λ z. absurd (omega arith)))
-            (later (suc j) m (omega arith)) ∙ (let e : b + m * b ≡ suc m * b = omega arith in e)
+        (later (suc j) m (omega arith)) ∙ (let e : b + m * b ≡ suc m * b = omega arith in e)
 
     at : (t : Bool) → (k == root) ≡ t → (suc k ≤ root → links_of (map f (from_to (suc k) n)) + b ≡ a + n * b) →
         links_of (map f (from_to k (suc n))) + b ≡ a + suc n * b
@@ -151,6 +151,6 @@ bytes-one f k (suc n) root a h l x y = at (k == root) refl (λ g. bytes-one f (s
 pub first-bytes : (s : StepContext) (root : ℕ) → root < count s → bytes_in (map (first_cell s root) (places s)) ≡ s.length
 first-bytes s root h =
     bytes-one (first_cell s root) 0 (count s) root s.length (let z : 0 ≤ root = omega arith in z) (let z : root < 0 + count s =
-                                                                                                         omega arith in z)
+    omega arith in z)
     (ap (λ t. (cond t (full_entry s root) (bare_entry s root)).length) (eq-eqb root root refl))
     (λ i n. ap (λ t. (cond t (full_entry s i) (bare_entry s i)).length) (ne_eqb _ _ n))

@@ -1,6 +1,6 @@
 -- A tree has one link less than places: each place but the root is the child of one place.
-use Rattle.std.proofs.Common.{ℕ, zero, suc, Bool, true, false, cond, ◌+◌, ◌-◌, ◌≡◌, ◌<◌, ◌≤◌, ◌==◌, [], ◌∷◌, refl, length, map, filter, ap,
-    ap₂, ◌∙◌, sym, arith, eq-eqb, length-append}
+use Rattle.std.proofs.Common.{ℕ, zero, suc, Bool, true, false, cond, ◌+◌, ◌-◌, ◌≡◌, ◌<◌, ◌≤◌, ◌==◌, [], ◌∷◌, refl, length, map, filter, ap}
+use Rattle.std.proofs.Common.{ap₂, ◌∙◌, sym, arith, eq-eqb, length-append}
 use Rattle.std.proofs.lemmas.Bool.{ne_eqb}
 use Rattle.std.proofs.lemmas.List.Elements.{filter-append}
 use Rattle.std.proofs.lemmas.List.Sums.{sum_by-cons, sum_by-append}
@@ -38,7 +38,7 @@ upto-turned f (suc n) =
     ∙ ap₂ (λ a b. a + b)
     (ap f (let e : suc n - 1 - 0 ≡ n = omega arith in e))
     (upto-same (λ i. f (suc n - 1 - suc i)) (λ j. f (n - 1 - j)) n
-        (λ i l. ap f (let e : suc n - 1 - suc i ≡ n - 1 - i = omega arith in e)) ∙ upto-turned f n)
+    (λ i l. ap f (let e : suc n - 1 - suc i ≡ n - 1 - i = omega arith in e)) ∙ upto-turned f n)
     ∙ (let e : f n + upto f n ≡ upto f n + f n = omega arith in e)
 
 -- one of the numbers below n is p
@@ -83,7 +83,7 @@ child-more n v h =
     ∙ ap (λ xs. length (filter (λ w. parent w == v) xs)) (from_to-more (suc v) (n - suc v))
     ∙ ap length (filter-append (λ w. parent w == v) (from_to (suc v) (n - suc v)) ((suc v + (n - suc v)) ∷ []))
     ∙ length-append (filter (λ w. parent w == v) (from_to (suc v) (n - suc v)))
-        (cond (parent (suc v + (n - suc v)) == v) ((suc v + (n - suc v)) ∷ []) [])
+    (cond (parent (suc v + (n - suc v)) == v) ((suc v + (n - suc v)) ∷ []) [])
     ∙ ap (λ k. child_count n v + length (cond (parent k == v) (k ∷ []) [])) (let e : suc v + (n - suc v) ≡ n = omega arith in e)
     ∙ ap (λ k. child_count n v + k) (at (parent n == v))
   where
@@ -112,8 +112,8 @@ links-upto g (suc n) =
     ∙ ap links_of (Rattle.std.proofs.lemmas.List.map-append g (from_to 0 n) ((0 + n) ∷ []))
     ∙ sum_by-append (λ (k : NewCell). length k.into) (map g (from_to 0 n)) (g (0 + n) ∷ [])
     ∙ ap₂ (λ a b. a + b) (links-upto g n) (sum_by-cons (λ (k : NewCell). length k.into) (g (0 + n)) []
-        ∙ ap (λ v. length (g v).into + 0) (let e : 0 + n ≡ n = omega arith in e)
-        ∙ (let e : length (g n).into + 0 ≡ length (g n).into = omega arith in e))
+    ∙ ap (λ v. length (g v).into + 0) (let e : 0 + n ≡ n = omega arith in e)
+    ∙ (let e : length (g n).into + 0 ≡ length (g n).into = omega arith in e))
 
 ones : (n : ℕ) → upto (λ i. 1) n ≡ n
 ones zero = refl
@@ -125,8 +125,8 @@ up-links s root o pos =
     links-upto (up_at s root o) (count s)
     ∙ upto-same (λ j. length (up_at s root o j).into) (λ j. 1 + child_count (count s) (count s - 1 - j)) (count s)
     (λ j h. length-map' (atomic s.length) (up_sources s root (count s - 1 - j))
-        ∙ ap suc (length-map' (up_number s) (children (count s - 1 - j) (suc (count s - 1 - j)) (count s - suc (count s - 1 - j))))
-        ∙ (let e : suc (child_count (count s) (count s - 1 - j)) ≡ 1 + child_count (count s) (count s - 1 - j) = omega arith in e))
+    ∙ ap suc (length-map' (up_number s) (children (count s - 1 - j) (suc (count s - 1 - j)) (count s - suc (count s - 1 - j))))
+    ∙ (let e : suc (child_count (count s) (count s - 1 - j)) ≡ 1 + child_count (count s) (count s - 1 - j) = omega arith in e))
     ∙ upto-turned (λ v. 1 + child_count (count s) v) (count s)
     ∙ upto-plus (λ v. 1) (child_count (count s)) (count s)
     ∙ ap₂ (λ a b. a + b) (ones (count s))

@@ -1,6 +1,6 @@
 -- Places turned round, and the ways down and up a tree: sound, and what they hold.
-use Rattle.std.proofs.Common.{ℕ, zero, suc, Bool, true, false, cond, ◌+◌, ◌-◌, ◌%◌, ◌^◌, ◌≡◌, ◌≤◌, ◌<◌, ◌==◌, List, ◌∷◌, ◌++◌, refl, length,
-    map, filter, ap, ◌∙◌, sym, subst, inl, inr, arith, nat_le, mod-lt, pow_pos}
+use Rattle.std.proofs.Common.{ℕ, zero, suc, Bool, true, false, cond, ◌+◌, ◌-◌, ◌%◌, ◌^◌, ◌≡◌, ◌≤◌, ◌<◌, ◌==◌, List, ◌∷◌, ◌++◌, refl, length}
+use Rattle.std.proofs.Common.{map, filter, ap, ◌∙◌, sym, subst, inl, inr, arith, nat_le, mod-lt, pow_pos}
 use Rattle.coll_shape.specs.Folding.{folded}
 use Rattle.plan_core.proofs.Links.{from_to-In}
 use Rattle.plan_core.proofs.Lists.{In-filter_cases, In-map_cases}
@@ -84,7 +84,7 @@ module _ (k : ℕ → Cell) (s : StepContext) (root base top : ℕ) (below : ℕ
           let u = under (suc v) h in
           let l = parent-lower (suc v) (omega arith) in
           copying-sound ranks k (base + suc v) s.ty s.length (rank_at s (turned s root (suc v))) (below (suc v)) (base + parent (suc v))
-              (known _ (turned-lt s root (suc v) pos)) whole
+          (known _ (turned-lt s root (suc v) pos)) whole
           (let a = u.0 in omega arith) u.1 (omega arith)
           (ap (λ (c : Cell). c.length) (of_places (IsCell k) s base down_node cells (parent (suc v)) (omega arith)).is_cell)
 
@@ -92,21 +92,21 @@ module _ (k : ℕ → Cell) (s : StepContext) (root base top : ℕ) (below : ℕ
   down-cell cells v h = (of_places (IsCell k) s base down_node cells v h).is_cell
 
   module _ (val : ℕ → List ℕ) (known : EachAt (Known k val) base (down s root base top below)) (top_long : length (val top) ≡ s.length)
-      where
-    down_below : (n v : ℕ) → v < n → v < count s → val (base + v) ≡ val top
-    down_below zero v h l = absurd (omega arith)
-    down_below (suc n) zero h l = (of_places (Known k val) s base down_node known 0 l).is_value
-        ∙ taking-value s.ty s.length (rank_at s (turned s root 0)) top val top_long
-    down_below (suc n) (suc v) h l =
-        let p = parent-lower (suc v) (omega arith) in
-        (of_places (Known k val) s base down_node known (suc v) l).is_value
-        ∙ copying-value s.ty s.length (rank_at s (turned s root (suc v))) (below (suc v)) (base + parent (suc v)) val
-            (of_places (Known k val) s base down_node known (parent (suc v)) (omega arith)).is_long
-        ∙ down_below n (parent (suc v)) (omega arith) (omega arith)
+    where
+      down_below : (n v : ℕ) → v < n → v < count s → val (base + v) ≡ val top
+      down_below zero v h l = absurd (omega arith)
+      down_below (suc n) zero h l = (of_places (Known k val) s base down_node known 0 l).is_value
+          ∙ taking-value s.ty s.length (rank_at s (turned s root 0)) top val top_long
+      down_below (suc n) (suc v) h l =
+          let p = parent-lower (suc v) (omega arith) in
+          (of_places (Known k val) s base down_node known (suc v) l).is_value
+          ∙ copying-value s.ty s.length (rank_at s (turned s root (suc v))) (below (suc v)) (base + parent (suc v)) val
+          (of_places (Known k val) s base down_node known (parent (suc v)) (omega arith)).is_long
+          ∙ down_below n (parent (suc v)) (omega arith) (omega arith)
 
-    -- each place has what the top has
-    pub down-value : (v : ℕ) → v < count s → val (base + v) ≡ val top
-    down-value v h = down_below (suc v) v (omega arith) h
+      -- each place has what the top has
+      pub down-value : (v : ℕ) → v < count s → val (base + v) ≡ val top
+      down-value v h = down_below (suc v) v (omega arith) h
 
 -- ---- up a tree
 module _ (k : ℕ → Cell) (s : StepContext) (root : ℕ) (o : AtomicOp) where
@@ -118,9 +118,9 @@ module _ (k : ℕ → Cell) (s : StepContext) (root : ℕ) (o : AtomicOp) where
   up-at P h v l =
       let r = of_places P s (s.first + count s) falling h (count s - 1 - v) (omega arith) in
       subst (λ c. P c (up_cell s root o v)) (let e : s.first + count s + (count s - 1 - v) ≡ s.first + (count s + (count s - 1 - v)) =
-                                                   omega arith in e)
+      omega arith in e)
       (subst (λ w. P (s.first + count s + (count s - 1 - v)) (up_cell s root o w)) (let e : count s - 1 - (count s - 1 - v) ≡ v =
-                                                                                          omega arith in e) r)
+      omega arith in e) r)
 
   pub up-sound : (ranks : ℕ) → 0 < count s → ((i : ℕ) → i < count s → rank_at s i < ranks) → s.length % bytes_of s.ty ≡ 0 →
       ((i : ℕ) → i < count s → k (entry s i) ≡ cell_of (full_entry s i))
@@ -128,7 +128,7 @@ module _ (k : ℕ → Cell) (s : StepContext) (root : ℕ) (o : AtomicOp) where
   up-sound ranks pos known whole ent cells = each_places (SoundNewCell ranks k) s (s.first + count s) falling
       (λ j h. let v = count s - 1 - j in
       combining-sound ranks k (s.first + count s + j) o s.ty s.length (rank_at s (turned s root v)) (entry s (turned s root v))
-          (map (up_number s) (children v (suc v) (count s - suc v))) (known _ (turned-lt s root v pos)) whole
+      (map (up_number s) (children v (suc v) (count s - suc v))) (known _ (turned-lt s root v pos)) whole
       (λ c i. source j h c i))
     where
       source : (j : ℕ) → j < count s → (c : ℕ) → In c (entry s (turned s root (count s - 1 - j)) ∷ map (up_number s)
@@ -138,28 +138,28 @@ module _ (k : ℕ → Cell) (s : StepContext) (root : ℕ) (o : AtomicOp) where
           let l = turned-lt s root (count s - 1 - j) pos in
           let q = ent (turned s root (count s - 1 - j)) l in
           subst (λ c. (c < s.first + count s + j) × ((k c).ty ≡ s.ty) × ((k c).length ≡ s.length)) e
-              (omega arith, ap (λ (x : Cell). x.ty) q, ap (λ (x : Cell). x.length) q)
+          (omega arith, ap (λ (x : Cell). x.ty) q, ap (λ (x : Cell). x.length) q)
       source j h c (inr i) =
           let r = In-map_cases (up_number s) c (children (count s - 1 - j) (suc (count s - 1 - j)) (count s - suc (count s - 1 - j))) i in
           let w = In-filter_cases _ r.0 (from_to (suc (count s - 1 - j)) (count s - suc (count s - 1 - j))) r.1 in
           let b = from_to-In (suc (count s - 1 - j)) (count s - suc (count s - 1 - j)) r.0 w.0 in
           let q = (up-at (IsCell k) cells r.0 (omega arith)).is_cell in
           subst (λ c. (c < s.first + count s + j) × ((k c).ty ≡ s.ty) × ((k c).length ≡ s.length)) r.2
-              (omega arith, ap (λ (x : Cell). x.ty) q, ap (λ (x : Cell). x.length) q)
+          (omega arith, ap (λ (x : Cell). x.ty) q, ap (λ (x : Cell). x.length) q)
 
   -- C(0) has the fold of all places, in order
   pub up-value : (val x : ℕ → List ℕ) → root < count s → s.length % bytes_of s.ty ≡ 0 →
       ((i : ℕ) → i < count s → (val (entry s i) ≡ x i) × (length (val (entry s i)) ≡ s.length))
       → EachAt (Known k val) (s.first + count s) (up s root o) → val (up_number s 0) ≡ folded o s.ty (map x (from_to 0 (count s)))
-          (starting o s.ty s.length)
+      (starting o s.ty s.length)
   up-value val x root_in whole ent known =
       let pos : 0 < count s = omega arith in
       tree_sum o s.ty s.length (count s) whole parent parent-lower (λ v. val (entry s (turned s root v))) (λ v. val (up_number s v)) sums
-          pos
+      pos
       ∙ folded-same o s.ty (λ v. val (entry s (turned s root v))) (λ v. x (turned s root v)) (from_to 0 (count s))
-          (starting o s.ty s.length) (λ v i. (ent (turned s root v) (turned-lt s root v pos)).0)
+      (starting o s.ty s.length) (λ v i. (ent (turned s root v) (turned-lt s root v pos)).0)
       ∙ folded-turned o s.ty x (turned s root) (count s) (starting o s.ty s.length) (λ v h. turned-lt s root v pos)
-          (turned-one s root root_in)
+      (turned-one s root root_in)
     where
       sums : (v : ℕ) → v < count s → val (up_number s v) ≡ folded o s.ty
           (val (entry s (turned s root v)) ∷ map (λ v. val (up_number s v))
@@ -167,9 +167,9 @@ module _ (k : ℕ → Cell) (s : StepContext) (root : ℕ) (o : AtomicOp) where
       sums v h =
           (up-at (Known k val) known v h).is_value
           ∙ combining-value o s.ty s.length (rank_at s (turned s root v))
-              (entry s (turned s root v) ∷ map (up_number s) (children v (suc v) (count s - suc v))) val whole (λ c i. long v h c i)
+          (entry s (turned s root v) ∷ map (up_number s) (children v (suc v) (count s - suc v))) val whole (λ c i. long v h c i)
           ∙ ap (λ xs. folded o s.ty (val (entry s (turned s root v)) ∷ xs) (starting o s.ty s.length))
-              (sym (map-map o s.ty val (up_number s) (children v (suc v) (count s - suc v))))
+          (sym (map-map o s.ty val (up_number s) (children v (suc v) (count s - suc v))))
         where
           long : (v : ℕ) → v < count s → (c : ℕ) → In c (entry s (turned s root v) ∷ map (up_number s)
               (children v (suc v) (count s - suc v))) → length (val c) ≡ s.length

@@ -48,7 +48,13 @@ impl Rows for Turns {
 
     ghost cell = { λ turns s. ring_node s };
 
-    fn draw(&self, plan: &mut Plan, site: &StepContext, number: u32, place: u32) -> Result<(), NoMemory> {
+    fn draw(
+        &self,
+        plan: &mut Plan,
+        site: &StepContext,
+        number: u32,
+        place: u32,
+    ) -> Result<(), NoMemory> {
         let copy = put_whole(site.length(), ring_source(site, number, place));
         plan.draw(site.holding(site.length(), place), &[copy])
     }
@@ -80,7 +86,13 @@ struct Collected;
 impl Rows for Collected {
     ghost cell = { λ row s k. collected s };
 
-    fn draw(&self, plan: &mut Plan, site: &StepContext, _number: u32, place: u32) -> Result<(), NoMemory> {
+    fn draw(
+        &self,
+        plan: &mut Plan,
+        site: &StepContext,
+        _number: u32,
+        place: u32,
+    ) -> Result<(), NoMemory> {
         let length = u64::from(site.count()) * site.length();
         let part = site.holding(length, place);
         draw_wide(plan, site, part, &Passed { place })?;

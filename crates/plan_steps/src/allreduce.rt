@@ -19,7 +19,13 @@ struct Results;
 impl Rows for Results {
     ghost cell = { λ results s k. result_cell s };
 
-    fn draw(&self, plan: &mut Plan, site: &StepContext, _number: u32, place: u32) -> Result<(), NoMemory> {
+    fn draw(
+        &self,
+        plan: &mut Plan,
+        site: &StepContext,
+        _number: u32,
+        place: u32,
+    ) -> Result<(), NoMemory> {
         let base = site.further(site.count());
         let below = up_number(site, place);
         draw_down_cell(plan, site, 0, base, up_number(site, 0), below, place)

@@ -44,7 +44,13 @@ struct Exchanged;
 impl Rows for Exchanged {
     ghost cell = { λ row s k. exchanged s };
 
-    fn draw(&self, plan: &mut Plan, site: &StepContext, _number: u32, place: u32) -> Result<(), NoMemory> {
+    fn draw(
+        &self,
+        plan: &mut Plan,
+        site: &StepContext,
+        _number: u32,
+        place: u32,
+    ) -> Result<(), NoMemory> {
         let part = site.holding(site.length(), place);
         draw_wide(plan, site, part, &Blocks { place })?;
         Ok(())

@@ -23,7 +23,13 @@ impl Rows for Told {
 
     ghost cell = { λ told s. round_cell s };
 
-    fn draw(&self, plan: &mut Plan, site: &StepContext, number: u32, place: u32) -> Result<(), NoMemory> {
+    fn draw(
+        &self,
+        plan: &mut Plan,
+        site: &StepContext,
+        number: u32,
+        place: u32,
+    ) -> Result<(), NoMemory> {
         let count = site.count();
         let from = (place + count.saturating_sub(2u32.pow(number))) % count;
         let told = put(0, site.in_row(number, from), 0, 0);

@@ -7,7 +7,7 @@ ghost use Rattle.plan_steps.specs.Beginning.{source_in};
 ghost use Rattle.coll_shape.specs.Collectives.{holding_places, is_in};
 
 use coll_shape::{Shape, is_in};
-use plan_core::{Frontier, BufferCells};
+use plan_core::{BufferCells, Frontier};
 use ptl_types::{ElemType, Rank};
 use std::alloc::{AllocError, Global};
 

@@ -25,7 +25,13 @@ impl Rows for Copies {
 
     ghost cell = { λ copies s k. copy_cell s copies.root };
 
-    fn draw(&self, plan: &mut Plan, site: &StepContext, _number: u32, place: u32) -> Result<(), NoMemory> {
+    fn draw(
+        &self,
+        plan: &mut Plan,
+        site: &StepContext,
+        _number: u32,
+        place: u32,
+    ) -> Result<(), NoMemory> {
         let _ = site.count();
         let top = site.entry(self.root);
         let below = site.entry(turned(site, self.root, place));

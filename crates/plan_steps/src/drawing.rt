@@ -1,6 +1,6 @@
 //! A plan that is drawn step by step.
 
-use plan_core::{Frontier, BufferCells, Plan};
+use plan_core::{BufferCells, Frontier, Plan};
 
 /// A plan, with the cell of each buffer at each rank and the exit of each rank. After a call that answers that there was no memory it is
 /// of no use any more.

@@ -26,7 +26,13 @@ impl Rows for Shifted {
 
     ghost cell = { λ row s k. shifted s };
 
-    fn draw(&self, plan: &mut Plan, site: &StepContext, _number: u32, place: u32) -> Result<(), NoMemory> {
+    fn draw(
+        &self,
+        plan: &mut Plan,
+        site: &StepContext,
+        _number: u32,
+        place: u32,
+    ) -> Result<(), NoMemory> {
         let last = rounds(site.count());
         let own = bump(scan_number(site, last, place + 1));
         let before = put_whole(site.length(), scan_number(site, last, place));

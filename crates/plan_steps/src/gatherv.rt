@@ -24,7 +24,13 @@ struct HeldEntries;
 impl Rows for HeldEntries {
     ghost cell = { λ entries s k. held_entry s };
 
-    fn draw(&self, plan: &mut Plan, site: &StepContext, _number: u32, place: u32) -> Result<(), NoMemory> {
+    fn draw(
+        &self,
+        plan: &mut Plan,
+        site: &StepContext,
+        _number: u32,
+        place: u32,
+    ) -> Result<(), NoMemory> {
         if is_in(place, site.holders()) {
             draw_full(plan, site, place)
         } else {
@@ -49,7 +55,11 @@ fn holder_put(site: &StepContext, i: u32) -> Incoming
 }
 
 /// What comes to the root's last cell: an increment, and the lists of the holders.
-fn concatenated_links(alloc: Global, site: &StepContext, root: u32) -> Result<Vec<Incoming>, AllocError>
+fn concatenated_links(
+    alloc: Global,
+    site: &StepContext,
+    root: u32,
+) -> Result<Vec<Incoming>, AllocError>
     requires { root < count site.now }
     ensures { IfOk result (λ links.
         links.items ≡ bump (entry site.now root) ∷ map (holder_put site.now) (from_to 0 (length site.now.holding))) }
@@ -65,7 +75,12 @@ fn concatenated_links(alloc: Global, site: &StepContext, root: u32) -> Result<Ve
 }
 
 /// The cell in which the root has the lists.
-fn draw_concatenated(alloc: Global, plan: &mut Plan, site: &StepContext, root: u32) -> Result<(), NoMemory>
+fn draw_concatenated(
+    alloc: Global,
+    plan: &mut Plan,
+    site: &StepContext,
+    root: u32,
+) -> Result<(), NoMemory>
     requires root { root < count site.now }
     requires room { HasRoom plan.old (concatenated site.now root ∷ []) }
     ensures { IfOk result (λ u. plan.new ≡ add plan.old (concatenated site.now root)) }

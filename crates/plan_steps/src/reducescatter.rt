@@ -20,7 +20,13 @@ struct ResultBlocks;
 impl Rows for ResultBlocks {
     ghost cell = { λ row s k. result_block s };
 
-    fn draw(&self, plan: &mut Plan, site: &StepContext, _number: u32, place: u32) -> Result<(), NoMemory> {
+    fn draw(
+        &self,
+        plan: &mut Plan,
+        site: &StepContext,
+        _number: u32,
+        place: u32,
+    ) -> Result<(), NoMemory> {
         let block = site.length() / u64::from(site.count());
         let part = site.holding(block, place);
         let own = put(block, up_number(site, 0), u64::from(place) * block, 0);

@@ -25,7 +25,13 @@ pub(crate) trait Rows {
     /// # Errors
     ///
     /// There was no memory for them.
-    fn draw(&self, plan: &mut Plan, site: &StepContext, number: u32, place: u32) -> Result<(), NoMemory>
+    fn draw(
+        &self,
+        plan: &mut Plan,
+        site: &StepContext,
+        number: u32,
+        place: u32,
+    ) -> Result<(), NoMemory>
         requires fits { fits self.now site.now number }
         requires place { place < size self.now site.now }
         requires room { HasRoom plan.old (cell self.now site.now number place ∷ []) }

@@ -35,7 +35,13 @@ impl Rows for ScanRounds {
 
     ghost cell = { λ rounds s. scan_cell s rounds.op };
 
-    fn draw(&self, plan: &mut Plan, site: &StepContext, number: u32, place: u32) -> Result<(), NoMemory> {
+    fn draw(
+        &self,
+        plan: &mut Plan,
+        site: &StepContext,
+        number: u32,
+        place: u32,
+    ) -> Result<(), NoMemory> {
         let _ = site.count();
         let part = site.summing(self.op, place);
         let length = site.length();

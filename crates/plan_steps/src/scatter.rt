@@ -25,7 +25,13 @@ impl Rows for Scattered {
 
     ghost cell = { λ row s k. scattered s row.root };
 
-    fn draw(&self, plan: &mut Plan, site: &StepContext, _number: u32, place: u32) -> Result<(), NoMemory> {
+    fn draw(
+        &self,
+        plan: &mut Plan,
+        site: &StepContext,
+        _number: u32,
+        place: u32,
+    ) -> Result<(), NoMemory> {
         let block = site.length() / u64::from(site.count());
         let part = site.holding(block, place);
         let own = put(block, site.entry(self.root), u64::from(place) * block, 0);

@@ -3,7 +3,8 @@
 ghost use Rattle.std.specs.Prelude.{ℕ, get_or, ◌≡◌, ◌≤◌, ◌<◌, ◌^◌, ◌*◌, IfOk, length};
 ghost use Rattle.coll_shape.specs.WellFormed.{AreMembers, IsNumber};
 ghost use Rattle.plan_steps.specs.Beginning.{site_of};
-ghost use Rattle.plan_steps.specs.StepContext.{IsSite, count, entry, exit_at, further, holding_part, in_row, rank_at, source_at, summing_part};
+ghost use Rattle.plan_steps.specs.StepContext.{IsSite, count, entry, exit_at, further, holding_part, in_row, rank_at, source_at};
+ghost use Rattle.plan_steps.specs.StepContext.{summing_part};
 
 use crate::beginning::{exits_of, holding_of, read_data, sources_of};
 use crate::drawing::Drawing;
@@ -31,7 +32,16 @@ impl Model for StepContext {
 
     ghost Value = { StepContext };
 
-    ghost view = { λ s. record { members = s.members.items; first = s.first; exits = s.exits.items; sources = s.sources.items; ty = s.ty; length = s.length; holding = s.holding.items } };
+    ghost view = { λ s. record {
+      members = s.members.items;
+      first = s.first;
+      exits = s.exits.items;
+      sources = s.sources.items;
+      ty =
+          s.ty;
+      length = s.length;
+      holding = s.holding.items;
+    } };
 
     ghost invariant = { λ s. IsSite (record { members = s.members.items; first = s.first; exits = s.exits.items; sources = s.sources.items; ty = s.ty; length = s.length; holding = s.holding.items }) };
 }

@@ -1,6 +1,6 @@
 -- The calls of a rank, joined from their parts.
-use Rattle.std.proofs.Common.{ℕ, ◌+◌, ◌*◌, ◌≡◌, ◌≤◌, List, [], ◌∷◌, ◌++◌, refl, length, map, max, ap, ap₂, ◌∙◌, sym, arith, length-append,
-    append_assoc}
+use Rattle.std.proofs.Common.{ℕ, ◌+◌, ◌*◌, ◌≡◌, ◌≤◌, List, [], ◌∷◌, ◌++◌, refl, length, map, max, ap, ap₂, ◌∙◌, sym, arith, length-append}
+use Rattle.std.proofs.Common.{append_assoc}
 use Rattle.std.proofs.lemmas.List.{length-map, map-append}
 use Rattle.ptl_types.specs.declared.steps.Call.{Call}
 use Rattle.ptl_types.specs.declared.steps.Call.TheVariants.{PtAlloc, CtDone, CtCell, MdBind}
@@ -36,9 +36,9 @@ pub prepared : (p : Plan) (r : ℕ) → ((((((([] ++ PtAlloc ∷ []) ++ map (are
     (λ c. trigger p (ForDone c)) (own p r)) ≡ prepare_calls p r
 prepared p r =
     joined PtAlloc CtDone (MdBind (region_length p r + areas_length p r) p.remote) (map (area_call p r) (classes p r))
-        (map CtCell (own p r)) (map (λ l. trigger p (ForLink l)) (out_links p r)) (map (λ c. trigger p (ForDone c)) (own p r))
+    (map CtCell (own p r)) (map (λ l. trigger p (ForLink l)) (out_links p r)) (map (λ c. trigger p (ForDone c)) (own p r))
     ∙ ap (λ v. PtAlloc ∷ (map (area_call p r) (classes p r) ++
-        (CtDone ∷ (map CtCell (own p r) ++ (MdBind (region_length p r + areas_length p r) p.remote ∷ v))))) (sym (rank_ops-apart p r))
+    (CtDone ∷ (map CtCell (own p r) ++ (MdBind (region_length p r + areas_length p r) p.remote ∷ v))))) (sym (rank_ops-apart p r))
 
 -- how many calls there are
 pub calls-count : (p : Plan) (r : ℕ) → length (prepare_calls p r) ≡ 3 + length (classes p r) + 2 * length (own p r) + length (out_links p r)

@@ -1,6 +1,7 @@
 -- The table of areas by key is that of the classes of the messages that come to a rank.
-use Rattle.std.proofs.Common.{ℕ, zero, suc, Bool, true, false, cond, nat_lt, subst, ◌||◌, ◌&&◌, not, ◌==◌, ◌+◌, ◌-◌, ◌*◌, ◌^◌, ◌≡◌, ◌<◌,
-    ◌≤◌, List, [], ◌∷◌, Option, Some, None, refl, length, filter, map, sum_by, ap, ap₂, ◌∙◌, sym, arith, eqb-true, eq-eqb}
+use Rattle.std.proofs.Common.{ℕ, zero, suc, Bool, true, false, cond, nat_lt, subst, ◌||◌, ◌&&◌, not, ◌==◌, ◌+◌, ◌-◌, ◌*◌, ◌^◌, ◌≡◌, ◌<◌}
+use Rattle.std.proofs.Common.{◌≤◌, List, [], ◌∷◌, Option, Some, None, refl, length, filter, map, sum_by, ap, ap₂, ◌∙◌, sym, arith, eqb-true}
+use Rattle.std.proofs.Common.{eq-eqb}
 use Rattle.std.proofs.Math.Nat.{mul-le-mul_right}
 use Rattle.std.proofs.lemmas.Bool.{lt-ltb, ne_eqb}
 use Rattle.std.proofs.lemmas.List.Sums.{sum_by-cons}
@@ -17,8 +18,8 @@ use Rattle.ptl_types.specs.declared.steps.Call.TheVariants.{Overflow}
 use Rattle.plan_calls.specs.Bits.{bits_above, class_of, op_number, type_number}
 use Rattle.plan_calls.specs.Calls.{area_call}
 use Rattle.plan_tables.proofs.PerClass.{counted_call}
-use Rattle.plan_calls.specs.Areas.{area_length, area_start, areas_length, classes, comes_to, has_class, is_class, link_class, links_to,
-    region_length}
+use Rattle.plan_calls.specs.Areas.{area_length, area_start, areas_length, classes, comes_to, has_class, is_class, link_class, links_to}
+use Rattle.plan_calls.specs.Areas.{region_length}
 use Rattle.plan_tables.specs.Tables.{arrival_key, key_of, to_rank}
 use Rattle.plan_tables.specs.AreaTables.{area_bytes, area_links, counted_classes, counted_start, message_key}
 
@@ -90,8 +91,8 @@ area-same p r k h l = sym (filter-both (comes_to p r) (is_class p k) (λ i. mess
     at i Put = keys-same (to_rank p i) (link_class p i) r k (class-at_most (cell p (link p i).target).op (cell p (link p i).target).ty) l
     at i Atomic = keys-same (to_rank p i) (link_class p i) r k (class-at_most (cell p (link p i).target).op (cell p (link p i).target).ty) l
     at i Bump = sym (ne_eqb (p.ranks * 81) (r * 81 + k) (λ z. let m = mul-le-mul_right 81 h in let e : suc r * 81 ≡ r * 81 + 81 =
-                                                                                                     omega arith in absurd
-                                                                                                     (omega (arith, z, m, e, l))))
+        omega arith in absurd
+        (omega (arith, z, m, e, l))))
 
 pub area-length : (p : Plan) (r k : ℕ) → r < p.ranks → k < 81 → area_bytes p r k ≡ area_length p r k
 area-length p r k h l = ap (λ ls. sum_by (λ i. (link p i).length) ls) (area-same p r k h l)
@@ -140,19 +141,19 @@ before-class : (t : ℕ → Bool) (len : ℕ → ℕ) (a n m : ℕ) → m < n �
 before-class t len a zero m h e none = absurd (omega arith)
 before-class t len a (suc n) zero h e none =
     ap (λ b. start_by len (cond b (a ∷ filter t (from_to (suc a) n)) (filter t (from_to (suc a) n))) (a + 0))
-        (ap t (let z : a ≡ a + 0 = omega arith in z) ∙ e)
+    (ap t (let z : a ≡ a + 0 = omega arith in z) ∙ e)
     ∙ ap (λ b. cond b 0 (len a + start_by len (filter t (from_to (suc a) n)) (a + 0))) (eq-eqb a (a + 0) (omega arith))
 before-class t len a (suc n) (suc m) h e none =
     let z : suc a + m ≡ a + suc m = omega arith in
     at (t a) refl (subst (λ v. start_by len (filter t (from_to (suc a) n)) v ≡ sum_by len (from_to (suc a) m)) z
-        (before-class t len (suc a) n m (omega (arith, h)) (ap t z ∙ e) (λ i l f. none i (omega (arith, l)) f)))
+    (before-class t len (suc a) n m (omega (arith, h)) (ap t z ∙ e) (λ i l f. none i (omega (arith, l)) f)))
   where
     at : (b : Bool) → t a ≡ b → start_by len (filter t (from_to (suc a) n)) (a + suc m) ≡ sum_by len (from_to (suc a) m)
         → start_by len (cond b (a ∷ filter t (from_to (suc a) n)) (filter t (from_to (suc a) n))) (a + suc m) ≡ sum_by len
-            (a ∷ from_to (suc a) m)
+        (a ∷ from_to (suc a) m)
     at true f rest =
         ap (λ b. cond b 0 (len a + start_by len (filter t (from_to (suc a) n)) (a + suc m)))
-            (ne_eqb a (a + suc m) (λ w. absurd (omega arith)))
+        (ne_eqb a (a + suc m) (λ w. absurd (omega arith)))
         ∙ ap (λ v. len a + v) rest ∙ sym (sum_by-cons len a (from_to (suc a) m))
     at false f rest = let x = sum_by-cons len a (from_to (suc a) m) in let y = none a (omega arith) f in rest
         ∙ (let w : sum_by len (from_to (suc a) m) ≡ sum_by len (a ∷ from_to (suc a) m) = omega (arith, x, y) in w)
@@ -183,7 +184,7 @@ end-same p r h =
     ap (λ v. region_length p r + v)
     (sums-alike (area_bytes p r) (area_length p r) 0 81 (λ i w. area-length p r i h w)
     ∙ all-of (λ i. has_class p i (links_to p r)) (area_length p r) 0 81
-        (λ i w f. ap (λ ls. sum_by (λ j. (link p j).length) ls) (none-of p i (links_to p r) f)))
+    (λ i w f. ap (λ ls. sum_by (λ j. (link p j).length) ls) (none-of p i (links_to p r) f)))
 
 -- ---- the links that come to a rank
 pub arrivals-same : (p : Plan) (r : ℕ) → r < p.ranks → of_key (arrival_key p) (length p.links) r ≡ links_to p r
@@ -211,4 +212,4 @@ calls-same p r h =
     ap (map (counted_call p r)) (classes-same p r h)
     ∙ map-filter-alike (counted_call p r) (area_call p r) (λ k. has_class p k (links_to p r)) 0 81
     (λ k l e. ap₂ (λ s n. Overflow s n (bits_above k 0 * 2 ^ 16) (2 ^ 40 - 1)) (start-same p r k h (omega (arith, l)) e)
-        (area-length p r k h (omega (arith, l))))
+    (area-length p r k h (omega (arith, l))))

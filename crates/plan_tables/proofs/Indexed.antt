@@ -1,6 +1,6 @@
 -- What stands in the lists of the tables.
-use Rattle.std.proofs.Common.{ℕ, zero, suc, Bool, true, false, cond, ◌+◌, ◌≡◌, ◌≤◌, ◌<◌, List, [], ◌∷◌, refl, length, filter, get_or, ap,
-    ◌∙◌, subst, arith, le_of_suc-le-suc}
+use Rattle.std.proofs.Common.{ℕ, zero, suc, Bool, true, false, cond, ◌+◌, ◌≡◌, ◌≤◌, ◌<◌, List, [], ◌∷◌, refl, length, filter, get_or, ap}
+use Rattle.std.proofs.Common.{◌∙◌, subst, arith, le_of_suc-le-suc}
 use Rattle.plan_core.specs.Plan.{from_to}
 
 -- at place i of the numbers from a on, n of them, that pass a test

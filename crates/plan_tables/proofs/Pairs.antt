@@ -1,6 +1,6 @@
 -- The table of lanes by pair is that of the lanes.
-use Rattle.std.proofs.Common.{ℕ, suc, Bool, true, false, ◌&&◌, not, ◌==◌, nat_lt, ◌+◌, ◌*◌, ◌≡◌, ◌<◌, ◌≤◌, refl, length, get_or, sum_by, ap,
-    ◌∙◌, sym, arith, eqb-true, eq-eqb}
+use Rattle.std.proofs.Common.{ℕ, suc, Bool, true, false, ◌&&◌, not, ◌==◌, nat_lt, ◌+◌, ◌*◌, ◌≡◌, ◌<◌, ◌≤◌, refl, length, get_or, sum_by, ap}
+use Rattle.std.proofs.Common.{◌∙◌, sym, arith, eqb-true, eq-eqb}
 use Rattle.std.proofs.Math.Nat.{mul-le-mul_right}
 use Rattle.std.proofs.lemmas.Bool.{ltb-true, ltb-false, ne_eqb}
 use Rattle.plan_core.specs.declared.LinkKind.{LinkKind}
@@ -20,8 +20,8 @@ row-first w a b r k h l e = at (nat_lt a r) refl (nat_lt r a) refl
     at true f v g = let x : suc a ≤ r = ltb-true _ _ f in let m = mul-le-mul_right w x in let z : suc a * w ≡ a * w + w = omega arith in
         absurd (omega (arith, m, z, e, h, l))
     at false f true g = let x : suc r ≤ a = ltb-true _ _ g in let m = mul-le-mul_right w x in let z : suc r * w ≡ r * w + w =
-                                                                                                    omega arith in absurd
-                                                                                                    (omega (arith, m, z, e, h, l))
+        omega arith in absurd
+        (omega (arith, m, z, e, h, l))
     at false f false g = let x = ltb-false _ _ f in let y = ltb-false _ _ g in omega (arith, x, y)
 
 row-second : (w a b r k : ℕ) → b < w → k < w → a * w + b ≡ r * w + k → b ≡ k

@@ -1,6 +1,6 @@
 -- Tables that one pass makes: a thing more changes the place of its key alone.
-use Rattle.std.proofs.Common.{ℕ, zero, suc, Bool, true, false, cond, ◌+◌, ◌≡◌, ◌<◌, ◌≤◌, ◌==◌, List, [], ◌∷◌, ◌++◌, refl, length, map, set,
-    get_or, filter, ap, ap₂, ◌∙◌, sym, arith, append-nil, le_of_suc-le-suc, eq-eqb}
+use Rattle.std.proofs.Common.{ℕ, zero, suc, Bool, true, false, cond, ◌+◌, ◌≡◌, ◌<◌, ◌≤◌, ◌==◌, List, [], ◌∷◌, ◌++◌, refl, length, map, set}
+use Rattle.std.proofs.Common.{get_or, filter, ap, ap₂, ◌∙◌, sym, arith, append-nil, le_of_suc-le-suc, eq-eqb}
 use Rattle.std.proofs.lemmas.List.Elements.{filter-append}
 use Rattle.std.proofs.lemmas.Bool.{ne_eqb}
 use Rattle.plan_core.specs.Plan.{from_to}
@@ -72,7 +72,7 @@ pub listed-more : (key : ℕ → ℕ) (k n : ℕ) (own : List (List ℕ)) → ke
 listed-more key k n own h e =
     ap (λ v. set v (key k) (get_or v (key k) [] ++ k ∷ [])) e
     ∙ keyed-more key (λ v. v) k n (get_or (map (of_key key k) (from_to 0 n)) (key k) [] ++ k ∷ []) h
-        (ap (λ v. v ++ k ∷ []) (get-row (of_key key k) n (key k) [] h))
+    (ap (λ v. v ++ k ∷ []) (get-row (of_key key k) n (key k) [] h))
 
 pub length-table : {X : Type 0} (f : ℕ → X) (n : ℕ) (own : List X) → own ≡ map f (from_to 0 n) → length own ≡ n
 length-table f n own e = ap length e ∙ length-row f 0 n

@@ -1,6 +1,6 @@
 -- The tables of areas at one rank, class by class.
-use Rattle.std.proofs.Common.{ℕ, suc, Bool, true, false, cond, nat_lt, ◌+◌, ◌-◌, ◌*◌, ◌^◌, ◌≡◌, ◌<◌, ◌≤◌, [], ◌∷◌, ◌++◌, refl, length, map,
-    filter, get_or, sum_by, ap, ◌∙◌, arith}
+use Rattle.std.proofs.Common.{ℕ, suc, Bool, true, false, cond, nat_lt, ◌+◌, ◌-◌, ◌*◌, ◌^◌, ◌≡◌, ◌<◌, ◌≤◌, [], ◌∷◌, ◌++◌, refl, length, map}
+use Rattle.std.proofs.Common.{filter, get_or, sum_by, ap, ◌∙◌, arith}
 use Rattle.std.proofs.Math.Nat.{mul-le-mul_right}
 use Rattle.std.proofs.lemmas.List.{map-append}
 use Rattle.plan_core.specs.Plan.{Plan, from_to}
@@ -30,8 +30,8 @@ start-next p r k =
     let z : k + 1 ≡ suc k = omega arith in
     let w : 0 + k ≡ k = omega arith in
     let e = ap (λ v. sum_by (area_bytes p r) (from_to 0 v)) z
-          ∙ ap (sum_by (area_bytes p r)) (from_to-more 0 k ∙ ap (λ v. from_to 0 k ++ v ∷ []) w)
-          ∙ sum-one (area_bytes p r) (from_to 0 k) k in
+    ∙ ap (sum_by (area_bytes p r)) (from_to-more 0 k ∙ ap (λ v. from_to 0 k ++ v ∷ []) w)
+    ∙ sum-one (area_bytes p r) (from_to 0 k) k in
     omega (arith, e)
 
 pub start-most : (p : Plan) (r k : ℕ) → k < 81 → counted_start p r k + area_bytes p r k ≤ counted_start p r 81

@@ -1,6 +1,6 @@
 -- What a rank needs is small: starts of cells and areas, and the bytes of the messages that come to it.
-use Rattle.std.proofs.Common.{ℕ, zero, suc, Bool, true, false, cond, ◌==◌, ◌+◌, ◌*◌, ◌^◌, ◌≡◌, ◌<◌, ◌≤◌, List, [], ◌∷◌, refl, length,
-    filter, get_or, sum_by, ap, ap₂, ◌∙◌, sym, arith, eqb-true}
+use Rattle.std.proofs.Common.{ℕ, zero, suc, Bool, true, false, cond, ◌==◌, ◌+◌, ◌*◌, ◌^◌, ◌≡◌, ◌<◌, ◌≤◌, List, [], ◌∷◌, refl, length}
+use Rattle.std.proofs.Common.{filter, get_or, sum_by, ap, ap₂, ◌∙◌, sym, arith, eqb-true}
 use Rattle.std.proofs.lemmas.Bool.{ne_eqb}
 use Rattle.std.proofs.lemmas.List.Sums.{sum_by-cons}
 use Rattle.plan_core.specs.declared.Link.{Link}
@@ -66,7 +66,7 @@ one-more base k x g a (suc n) = at (k == base + a) refl (one-more base k x g (su
         let w = ap (λ b. cond b (x + g a) (g a)) e in
         let q = eqb-true _ _ e in
         let s = sums-same (λ i. cond (k == base + i) (x + g i) (g i)) g (suc a) n
-              (λ i l. ap (λ b. cond b (x + g i) (g i)) (ne_eqb k (base + i) (λ z. absurd (omega (arith, q, z, l))))) in
+        (λ i l. ap (λ b. cond b (x + g i) (g i)) (ne_eqb k (base + i) (λ z. absurd (omega (arith, q, z, l))))) in
         omega (arith, u, v, w, s)
     at false e rest =
         let u = sum_by-cons (λ i. cond (k == base + i) (x + g i) (g i)) a (from_to (suc a) n) in
@@ -83,8 +83,8 @@ by-key : (key f : ℕ → ℕ) (base : ℕ) (ls : List ℕ) (a n : ℕ) → sum_
 by-key key f base [] a n = let e = no-sums f a n in omega (arith, e)
 by-key key f base (l ∷ ls) a n =
     let s = sums-same (λ i. sum_by f (cond (key l == base + i) (l ∷ filter (λ l. key l == base + i) ls)
-          (filter (λ l. key l == base + i) ls))) (λ i. cond (key l == base + i) (f l + sum_by f (filter (λ l. key l == base + i) ls))
-          (sum_by f (filter (λ l. key l == base + i) ls))) a n (λ i h. split (key l == base + i) (filter (λ l. key l == base + i) ls)) in
+    (filter (λ l. key l == base + i) ls))) (λ i. cond (key l == base + i) (f l + sum_by f (filter (λ l. key l == base + i) ls))
+    (sum_by f (filter (λ l. key l == base + i) ls))) a n (λ i h. split (key l == base + i) (filter (λ l. key l == base + i) ls)) in
     let m = one-more base (key l) (f l) (λ i. sum_by f (filter (λ l. key l == base + i) ls)) a n in
     let r = by-key key f base ls a n in
     let c = sum_by-cons f l ls in

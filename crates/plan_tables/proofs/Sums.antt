@@ -1,6 +1,6 @@
 -- Sums and counts by key, and where a cell begins in its rank's memory.
-use Rattle.std.proofs.Common.{ℕ, zero, suc, Bool, true, false, cond, ◌+◌, ◌-◌, ◌≡◌, ◌<◌, ◌≤◌, ◌==◌, List, [], ◌∷◌, ◌++◌, refl, length, map,
-    set, get_or, filter, replicate, sum_by, ap, ap₂, ◌∙◌, sym, arith, inl, inr, eq-eqb, length-append, nat_lt}
+use Rattle.std.proofs.Common.{ℕ, zero, suc, Bool, true, false, cond, ◌+◌, ◌-◌, ◌≡◌, ◌<◌, ◌≤◌, ◌==◌, List, [], ◌∷◌, ◌++◌, refl, length, map}
+use Rattle.std.proofs.Common.{set, get_or, filter, replicate, sum_by, ap, ap₂, ◌∙◌, sym, arith, inl, inr, eq-eqb, length-append, nat_lt}
 use Rattle.std.proofs.lemmas.List.Elements.{filter-append}
 use Rattle.std.proofs.lemmas.List.Sums.{sum_by-cons, sum_by-append}
 use Rattle.std.proofs.lemmas.Bool.{ne_eqb, ltb-true, ltb-false}
@@ -104,7 +104,7 @@ sum-filter_le t f (x ∷ xs) = at (t x) (sum-filter_le t f xs)
 pub sum-prefix : (f : ℕ → ℕ) (k n : ℕ) → k ≤ n → sum_by f (from_to 0 k) ≤ sum_by f (from_to 0 n)
 sum-prefix f k n h =
     let e = ap (λ v. sum_by f (from_to 0 v)) (let z : n ≡ k + (n - k) = omega arith in z) ∙ ap (sum_by f) (from_to-append 0 k (n - k))
-          ∙ sum_by-append f (from_to 0 k) (from_to (0 + k) (n - k)) in
+    ∙ sum_by-append f (from_to 0 k) (from_to (0 + k) (n - k)) in
     omega (arith, e)
 
 pub numbered : (xs ys : List Cell) (k : ℕ) → ((i : ℕ) → get_or ys (k + i) no_cell ≡ get_or xs i no_cell) →
@@ -131,12 +131,12 @@ at_most-bytes p c m h l =
 pub bytes-more : (p : Plan) (c n x : ℕ) → rank_of p c < n → x ≡ sum_by (cell_length p) (of_key (rank_of p) c (rank_of p c)) + cell_length
     p c
     → set (map (λ r. sum_by (cell_length p) (of_key (rank_of p) c r)) (from_to 0 n)) (rank_of p c) x ≡ map
-        (λ r. sum_by (cell_length p) (of_key (rank_of p) (c + 1) r)) (from_to 0 n)
+    (λ r. sum_by (cell_length p) (of_key (rank_of p) (c + 1) r)) (from_to 0 n)
 bytes-more p c n x h e =
     keyed-more (rank_of p) (sum_by (cell_length p)) c n x h
     (e ∙ sym (sum_by-append (cell_length p) (of_key (rank_of p) c (rank_of p c)) (c ∷ [])
-        ∙ ap (λ v. sum_by (cell_length p) (of_key (rank_of p) c (rank_of p c)) + v) (sum_by-cons (cell_length p) c []
-        ∙ (let z : cell_length p c + 0 ≡ cell_length p c = omega arith in z))))
+    ∙ ap (λ v. sum_by (cell_length p) (of_key (rank_of p) c (rank_of p c)) + v) (sum_by-cons (cell_length p) c []
+    ∙ (let z : cell_length p c + 0 ≡ cell_length p c = omega arith in z))))
 
 -- ---- sums by any key
 abbrev pub sums : (ℕ → ℕ) → (ℕ → ℕ) → ℕ → ℕ → List ℕ

@@ -24,7 +24,8 @@ fn push_area(
     length: u64,
 ) -> Result<(), NoMemory>
     requires { class < 256 }
-    ensures { IfOk result (λ u. calls.new.items ≡ calls.old.items ++ (if nat_lt 0 count then Overflow start length (bits_above class 0 * 2 ^ 16) (2 ^ 40 - 1) ∷ [] else [])) }
+    ensures { IfOk result (λ u. calls.new.items ≡ calls.old.items ++
+        (if nat_lt 0 count then Overflow start length (bits_above class 0 * 2 ^ 16) (2 ^ 40 - 1) ∷ [] else [])) }
 {
     if 0 < count {
         let area = Call::Overflow {

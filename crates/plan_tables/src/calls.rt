@@ -9,7 +9,7 @@ ghost use Rattle.plan_tables.specs.Tables.{IsTabled};
 
 use crate::reading::{cell_at, from_rank, link_at, to_rank};
 use plan_core::{LinkKind, Plan};
-use ptl_types::{AckRequest, PlannedOp, AtomicOp, Call, ElemType, NoMemory, Rank};
+use ptl_types::{AckRequest, AtomicOp, Call, ElemType, NoMemory, PlannedOp, Rank};
 
 /// The number of an operation in the match bits.
 fn op_number(op: AtomicOp) -> u64

@@ -48,7 +48,8 @@ fn add_message(into: &mut ByRank, plan: &Plan, l: u32) -> Result<(), NoMemory>
     requires tabled { IsTabled plan.now }
     requires link { l < length plan.now.links }
     requires ranks { length into.old ≡ plan.now.ranks }
-    ensures { IfOk result (λ u. into.new ≡ (if nat_lt (arrival_key plan.now l) plan.now.ranks then set into.old (arrival_key plan.now l) (get_or into.old (arrival_key plan.now l) [] ++ l ∷ []) else into.old)) }
+    ensures { IfOk result (λ u. into.new ≡ (if nat_lt (arrival_key plan.now l) plan.now.ranks then set into.old (arrival_key plan.now l)
+        (get_or into.old (arrival_key plan.now l) [] ++ l ∷ []) else into.old)) }
 {
     match link_at(plan, l).kind {
         LinkKind::Bump => Ok(()),

@@ -38,7 +38,16 @@ impl Model for RankTable {
 
     ghost Value = { Installed };
 
-    ghost view = { λ t. record { cells = t.cells.items; calls = t.calls.items; late = t.late.items; limits = t.limits; done = t.done; region = t.region; longest = t.longest } };
+    ghost view = { λ t. record {
+      cells = t.cells.items;
+      calls = t.calls.items;
+      late = t.late.items;
+      limits = t.limits;
+      done =
+          t.done;
+      region = t.region;
+      longest = t.longest;
+    } };
 }
 
 /// Whether a link sends a message.

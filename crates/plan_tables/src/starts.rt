@@ -28,7 +28,8 @@ fn place(starts: &mut Vec<u64>, lengths: &mut Tallies, plan: &Plan, c: u32) -> R
     requires ranks { length lengths.old ≡ plan.now.ranks }
     requires fits { get_or lengths.old (rank_of plan.now c) 0 + (cell plan.now c).length < 2 ^ 64 }
     ensures starts { IfOk result (λ u. starts.new.items ≡ starts.old.items ++ get_or lengths.old (rank_of plan.now c) 0 ∷ []) }
-    ensures lengths { IfOk result (λ u. lengths.new ≡ set lengths.old (rank_of plan.now c) (get_or lengths.old (rank_of plan.now c) 0 + (cell plan.now c).length)) }
+    ensures lengths { IfOk result (λ u. lengths.new ≡ set lengths.old (rank_of plan.now c)
+        (get_or lengths.old (rank_of plan.now c) 0 + (cell plan.now c).length)) }
 {
     let rank = rank_of(plan, c) as usize;
     let start = lengths.at(rank);

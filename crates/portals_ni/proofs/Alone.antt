@@ -28,9 +28,10 @@ entries-alone : (ct : Handle) (cts : Table Count) → HasOwnSlot ct cts → (o :
     EntriesAlone ct o
 entries-alone ct cts own None live = tt
 entries-alone ct cts own (Some i) live =
-    let each = λ (x : Linked) (is : EntryIsLive cts x). named-alone ct x.entry.ct cts own is in
-    (All-weaker (EntryIsLive cts) (λ (x : Linked). IsAlone ct x.entry.ct) each i.priority live.0,
-        All-weaker (EntryIsLive cts) (λ (x : Linked). IsAlone ct x.entry.ct) each i.overflow live.1)
+    let each = λ (x : Linked) (is : EntryIsLive cts x). named-alone ct x.entry.ct cts own is in (
+      All-weaker (EntryIsLive cts) (λ (x : Linked). IsAlone ct x.entry.ct) each i.priority live.0,
+      All-weaker (EntryIsLive cts) (λ (x : Linked). IsAlone ct x.entry.ct) each i.overflow live.1,
+    )
 
 pub indices-alone : (ct : Handle) (cts : Table Count) (is : List (Option Index)) → HasOwnSlot ct cts →
     All (HasEntries (EntryIsLive cts)) is → All (EntriesAlone ct) is
@@ -105,5 +106,7 @@ pub operation-mds-alone : (md : Handle) (mds : Table Bound) (ranks : ℕ) (limit
     HasOwnSlot md mds → All (λ (w : Operation PostedOp). IsArmed mds ranks limits w.deed) ws → All (MdsAlone md) ws
 operation-mds-alone md mds ranks limits ws own all =
     All-weaker (λ (w : Operation PostedOp). IsArmed mds ranks limits w.deed) (MdsAlone md)
-    (λ w armed. (named-alone md (get_md w.deed.deed) mds own (get-live w.deed.deed mds armed.fits),
-        named-alone md (put_md w.deed.deed) mds own (put-live w.deed.deed mds armed.fits))) ws all
+    (λ w armed. (
+      named-alone md (get_md w.deed.deed) mds own (get-live w.deed.deed mds armed.fits),
+      named-alone md (put_md w.deed.deed) mds own (put-live w.deed.deed mds armed.fits),
+    )) ws all

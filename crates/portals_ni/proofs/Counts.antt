@@ -1,6 +1,6 @@
 -- Which counting events a change leaves as they are.
-use Rattle.std.proofs.Common.{◌≡◌, ℕ, true, false, List, [], ◌∷◌, ◌++◌, Option, Some, None, Result, Ok, Err, is_some, not, filter,
-    if◌then◌else◌, refl, ◌∙◌, arith}
+use Rattle.std.proofs.Common.{◌≡◌, ℕ, true, false, List, [], ◌∷◌, ◌++◌, Option, Some, None, Result, Ok, Err, is_some, not, filter}
+use Rattle.std.proofs.Common.{if◌then◌else◌, refl, ◌∙◌, arith}
 use Rattle.std.specs.Prelude.{OnOk, OnErr, option_map}
 use Rattle.std.proofs.lemmas.Bool.Decides.{nat_tests}
 use Rattle.ptl_types.specs.declared.handles.Handle.{Handle}
@@ -33,7 +33,7 @@ module _ {A : Type 0} where
   live-change k h f [] = refl
   live-change k h f (x ∷ xs) =
       elim (same_handle x.handle k) as (λ b. is_some (if b then Some (if same_handle x.handle h then f x.value else x.value) else lookup k
-          (change h f xs)) ≡ is_some (if b then Some x.value else lookup k xs)) [
+      (change h f xs)) ≡ is_some (if b then Some x.value else lookup k xs)) [
         | true ↦ refl
         | false ↦ live-change k h f xs
       ]
@@ -46,7 +46,7 @@ module _ {A : Type 0} where
   lookup-changed h f [] = refl
   lookup-changed h f (x ∷ xs) =
       elim (same_handle x.handle h) as (λ b. (if b then Some (if b then f x.value else x.value) else lookup h (change h f xs))
-          ≡ option_map f (if b then Some x.value else lookup h xs)) [
+      ≡ option_map f (if b then Some x.value else lookup h xs)) [
         | true ↦ refl
         | false ↦ lookup-changed h f xs
       ]
@@ -55,7 +55,7 @@ module _ {A : Type 0} where
   lookup-push k x [] live = cc
   lookup-push k x (y ∷ ys) live =
       elim (same_handle y.handle k) as (λ b. is_some (if b then Some y.value else lookup k ys) ≡ true →
-          (if b then Some y.value else lookup k (ys ++ x ∷ [])) ≡ (if b then Some y.value else lookup k ys)) [
+      (if b then Some y.value else lookup k (ys ++ x ∷ [])) ≡ (if b then Some y.value else lookup k ys)) [
         | true ↦ λ is. refl
         | false ↦ λ is. lookup-push k x ys is
       ] live
@@ -79,7 +79,7 @@ module _ {A : Type 0} where
   change-same h (x ∷ xs) =
       rw (change-same h xs)
       (elim (same_handle x.handle h) as (λ b. (record { handle = x.handle; value = if b then x.value else x.value }) ∷ xs ≡ x ∷ xs)
-          [ true ↦ refl | false ↦ refl ])
+      [ true ↦ refl | false ↦ refl ])
 
 -- a counting event holds what it is set to, where the sum fits
 dead : (o : Option Count) (fault : NiFault) → Err fault ≡ by_fault (need (is_some o) Stale (need true CountFull None)) → o ≡ None

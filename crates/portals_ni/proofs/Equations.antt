@@ -1,6 +1,6 @@
 -- How each call ends, from what its parts did.
-use Rattle.std.proofs.Common.{◌≡◌, ℕ, Bool, true, false, List, [], Option, Some, None, Result, Ok, Err, IsSome, IsTrue, ◌↔◌, is_some,
-    length, refl, sym, subst, ap, ◌∙◌}
+use Rattle.std.proofs.Common.{◌≡◌, ℕ, Bool, true, false, List, [], Option, Some, None, Result, Ok, Err, IsSome, IsTrue, ◌↔◌, is_some}
+use Rattle.std.proofs.Common.{length, refl, sym, subst, ap, ◌∙◌}
 use Rattle.std.specs.Prelude.{All, IfOk, IfErr, OnErr, OnOk, IfSome, IfNone, option_map, map}
 use Rattle.ptl_types.specs.declared.handles.Handle.{Handle}
 use Rattle.ptl_types.specs.declared.handles.Count.{Count}
@@ -25,24 +25,25 @@ use Rattle.ni_model.specs.Starts.{started}
 use Rattle.ni_model.specs.Append.{append_fault, is_allocated, search}
 use Rattle.ni_model.specs.State.{State, parts_of, home_of, with_home, drops_after, violations_after, after_request, after_answer}
 use Rattle.ni_model.specs.Ready.{Fires, fires, fired}
-use Rattle.ni_model.specs.Refusals.{pt_alloc_fault, ct_set_fault, ct_inc_fault, alloc_fault, unlink_fault, bind_fault, deed_fault,
-    deed_passes, triggered_fault, md_names_ct, md_names_eq, index_names_ct, index_names_eq, operation_names_ct}
-use Rattle.ni_model.specs.Calls.{ends, Makes, MayLackMemory, enough, lacking, AnswersReady, new_index, bound, ct_alloc, ct_free, eq_free,
-    ct_set, ct_inc, ct_cancel, eq_alloc, eq_get, md_bind, entry_slot, unlinked_in, me_append, me_unlink, me_search, pt_alloc, start,
-    triggered}
+use Rattle.ni_model.specs.Refusals.{pt_alloc_fault, ct_set_fault, ct_inc_fault, alloc_fault, unlink_fault, bind_fault, deed_fault}
+use Rattle.ni_model.specs.Refusals.{deed_passes, triggered_fault, md_names_ct, md_names_eq, index_names_ct, index_names_eq}
+use Rattle.ni_model.specs.Refusals.{operation_names_ct}
+use Rattle.ni_model.specs.Calls.{ends, Makes, MayLackMemory, enough, lacking, AnswersReady, new_index, bound, ct_alloc, ct_free, eq_free}
+use Rattle.ni_model.specs.Calls.{ct_set, ct_inc, ct_cancel, eq_alloc, eq_get, md_bind, entry_slot, unlinked_in, me_append, me_unlink}
+use Rattle.ni_model.specs.Calls.{me_search, pt_alloc, start, triggered}
 use Rattle.ni_objects.proofs.handles.StoreLemmas.{change-absent}
 use Rattle.initiator_engine.specs.Initiators.{Initiating, with_mds, is_start, has_started, has_returned}
 use Rattle.target_engine.specs.Sides.{has_searched, has_appended, AppendsSome}
-use Rattle.triggered_ops.specs.Operations.{Operations, deed_of, operation_at, is_ready, told, with_posted, without_number, waiting_on,
-    cancelled, posted_all}
+use Rattle.triggered_ops.specs.Operations.{Operations, deed_of, operation_at, is_ready, told, with_posted, without_number, waiting_on}
+use Rattle.triggered_ops.specs.Operations.{cancelled, posted_all}
 use Rattle.std.specs.Prelude.{slice_set}
 use Rattle.portals_ni.specs.declared.armed.PostedOp.{PostedOp}
 use Rattle.portals_ni.specs.Answers.{MakesIfMemory, event_taken, deed_counts}
 use Rattle.portals_ni.specs.Pendings.{deed_in, told_by}
 use Rattle.portals_ni.specs.Sound.{IsTold, Stands, state_of}
 use Rattle.portals_ni.proofs.Ends.{ends-done, ends-refused, free_slot, is-free, free_entry_slot, entry-is-free}
-use Rattle.portals_ni.proofs.Firing.{posted-new, posted-cancelled, length-waiting, posted-without, ready-is, fired-is, done-start,
-    done-count}
+use Rattle.portals_ni.proofs.Firing.{posted-new, posted-cancelled, length-waiting, posted-without, ready-is, fired-is, done-start}
+use Rattle.portals_ni.proofs.Firing.{done-count}
 use Rattle.portals_ni.proofs.Stands.{fewer-stands, done-stands}
 use Rattle.portals_ni.proofs.Told.{posted-tells, posted-told_by}
 
@@ -217,7 +218,7 @@ module _ (t : Side) (r : List ℕ) (c : Table Count) (e : Table Waiting) (i : In
       deed before
   start-ends deed j k f left m ct none rank is rest told =
       let same : has_started (home j.mds r k f) m ct ≡ started t.rank (home i.mds r c e) deed = is
-            ∙ ap (λ n. started n (home i.mds r c e) deed) rank in
+      ∙ ap (λ n. started n (home i.mds r c e) deed) rank in
       rw (none, ← same, home-state j r k f left ct rest told) refl
 
   pub post-ends : (deed : TriggeredOp) (ct : Handle) (threshold sum n : ℕ) (a : PostedOp) (left : Operations PostedOp) →
@@ -273,8 +274,13 @@ module _ (t : Side) (r : List ℕ) (c : Table Count) (e : Table Waiting) (i : In
       k ≡ deed_counts a.deed c → left ≡ told_by ct k between → fires (state_of t r k e i left d v) None ≡ fired before n
   fire-counts n a k between left ct is counts gone made told =
       let done_of = fired-is before n ops a refl is in
-      rw (done_of, done-count (state_of t r c e i (without_number n ops) d v) a.deed counts, told-forgotten ct k between left told, gone,
-          made) refl
+      rw (
+        done_of,
+        done-count (state_of t r c e i (without_number n ops) d v) a.deed counts,
+        told-forgotten ct k between left told,
+        gone,
+        made,
+      ) refl
 
   pub fire-starts : (n : ℕ) (a : PostedOp) (j : Initiating) (k : Table Count) (f : Table Waiting) (between left : Operations PostedOp)
       (m : Sent) (ct : Option Handle) → option_map deed_of (operation_at n ops) ≡ Some a → is_start a.deed ≡ true →
@@ -283,11 +289,18 @@ module _ (t : Side) (r : List ℕ) (c : Table Count) (e : Table Waiting) (i : In
   fire-starts n a j k f between left m ct is starts gone rank sent rest told =
       let done_of = fired-is before n ops a refl is in
       let same : has_started (home j.mds r k f) m ct ≡ started t.rank (home i.mds r c e) a.deed = sent
-            ∙ ap (λ x. started x (home i.mds r c e) a.deed) rank in
+      ∙ ap (λ x. started x (home i.mds r c e) a.deed) rank in
       let ranks : j.ranks ≡ i.ranks = ap (λ (x : Initiating). x.ranks) rest in
       let limits : j.limits ≡ i.limits = ap (λ (x : Initiating). x.limits) rest in
-      rw (done_of, done-start (state_of t r c e i (without_number n ops) d v) a.deed starts, ← same,
-          told-forgotten ct k between left told, gone, ranks, limits) refl
+      rw (
+        done_of,
+        done-start (state_of t r c e i (without_number n ops) d v) a.deed starts,
+        ← same,
+        told-forgotten ct k between left told,
+        gone,
+        ranks,
+        limits,
+      ) refl
 
   -- ---- what a firing leaves of the limits, the sums and the live names
 
@@ -296,4 +309,4 @@ module _ (t : Side) (r : List ℕ) (c : Table Count) (e : Table Waiting) (i : In
   fired-stands n a is fits stands =
       let left : Stands (state_of t r c e i (without_number n ops) d v) = rw (posted-without n ops) (fewer-stands n before stands) in
       subst (λ (f : Fires). Stands f.state) (sym (fired-is before n ops a refl is))
-          (done-stands (state_of t r c e i (without_number n ops) d v) a.deed fits left)
+      (done-stands (state_of t r c e i (without_number n ops) d v) a.deed fits left)

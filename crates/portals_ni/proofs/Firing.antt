@@ -1,6 +1,6 @@
 -- The pending operations as the model has them: which are ready, and what firing one does.
-use Rattle.std.proofs.Common.{◌≡◌, ℕ, ◌==◌, Bool, true, false, not, List, [], ◌∷◌, ◌++◌, Option, Some, None, nat_le, length, find, filter,
-    if◌then◌else◌, refl, sym, subst, ap, ◌∙◌, arith}
+use Rattle.std.proofs.Common.{◌≡◌, ℕ, ◌==◌, Bool, true, false, not, List, [], ◌∷◌, ◌++◌, Option, Some, None, nat_le, length, find, filter}
+use Rattle.std.proofs.Common.{if◌then◌else◌, refl, sym, subst, ap, ◌∙◌, arith}
 use Rattle.std.specs.Prelude.{All, map, option_map}
 use Rattle.std.proofs.lemmas.Bool.Decides.{nat_tests}
 use Rattle.std.proofs.lemmas.List.Elements.{All-push}
@@ -18,8 +18,8 @@ use Rattle.ni_model.specs.Ready.{is_reached, is_ready_op, fires, done, fired_op,
 use Rattle.ni_model.specs.Starts.{started}
 use Rattle.target_engine.proofs.Within.{find_has}
 use Rattle.initiator_engine.specs.Initiators.{is_start}
-use Rattle.triggered_ops.specs.Operations.{Operation, Operations, is_number, waits_on, deed_of, operation_at, is_due_op, is_ready,
-    with_posted, told, without_number, waiting_on, cancelled, posted, posted_all}
+use Rattle.triggered_ops.specs.Operations.{Operation, Operations, is_number, waits_on, deed_of, operation_at, is_due_op, is_ready}
+use Rattle.triggered_ops.specs.Operations.{with_posted, told, without_number, waiting_on, cancelled, posted, posted_all}
 use Rattle.portals_ni.specs.declared.armed.PostedOp.{PostedOp}
 use Rattle.portals_ni.specs.Answers.{deed_counts}
 use Rattle.portals_ni.specs.Pendings.{deed_in}
@@ -39,7 +39,7 @@ pub find-posted : (t : ℕ) (ws : List Op) → find (model.is_number t) (map (po
 find-posted t [] = refl
 find-posted t (w ∷ ws) =
     elim (w.number == t) as (λ b. (if b then Some (posted deed_in w) else find (model.is_number t) (map (posted deed_in) ws)) ≡ option_map
-        (posted deed_in) (if b then Some w else find (is_number t) ws)) [
+    (posted deed_in) (if b then Some w else find (is_number t) ws)) [
       | true ↦ refl
       | false ↦ find-posted t ws
     ]
@@ -50,7 +50,7 @@ filter-posted p q [] same = refl
 filter-posted p q (w ∷ ws) same =
     rw (same w)
     (elim (p w) as (λ b. (if b then posted deed_in w ∷ filter q (map (posted deed_in) ws) else filter q (map (posted deed_in) ws)) ≡ map
-        (posted deed_in) (if b then w ∷ filter p ws else filter p ws)) [
+    (posted deed_in) (if b then w ∷ filter p ws else filter p ws)) [
       | true ↦ ap (λ xs. posted deed_in w ∷ xs) (filter-posted p q ws same)
       | false ↦ filter-posted p q ws same
     ])
@@ -131,7 +131,7 @@ fired-at s t ops a w is at same =
     let found : model.posted_at t s.pending ≡ Some (posted deed_in w) = rw (is, find-posted t ops.waiting, at) refl in
     let number : w.number ≡ t = find-number t ops.waiting w at in
     let rest : model.without_number w.number s.pending ≡ posted_all deed_in (without_number t ops) =
-          rw (number, is) (sym (posted-without t ops)) in
+    rw (number, is) (sym (posted-without t ops)) in
     rw (found, rest, same) refl
 
 pub fired-is : (s : State) (t : ℕ) (ops : Ops) (a : PostedOp) → s.pending ≡ posted_all deed_in ops →
@@ -168,7 +168,7 @@ pub post-told : (ct : Handle) (c : Count) (cts : Table Count) (ops : Ops) (a : P
     All (IsTold cts) ops.waiting → All (IsTold cts) (with_posted a ct threshold (total c) (told ct (total c) ops)).waiting
 post-told ct c cts ops a threshold now all =
     All-push (IsTold cts) (told ct (total c) ops).waiting _ (told-again ct c cts ops now all)
-        (ap (option_map (λ x. nat_le threshold (total x))) now)
+    (ap (option_map (λ x. nat_le threshold (total x))) now)
 
 -- whether it is due is forgotten
 pub posted-new : (a : PostedOp) (ct : Handle) (threshold sum : ℕ) (ops left : Ops) →

@@ -13,8 +13,8 @@ use Rattle.ni_model.specs.Tables.{Live, Table, is_live, is_live_or_none, names, 
 use Rattle.ni_model.specs.Queues.{Waiting}
 use Rattle.ni_model.specs.Lists.{Index}
 use Rattle.ni_model.specs.State.{State, Posted}
-use Rattle.ni_model.specs.Refusals.{entry_names_ct, index_names_ct, index_names_eq, md_names_ct, md_names_eq, deed_names_ct,
-    operation_names_ct, counts_on_live, ct_free_fault, eq_free_fault}
+use Rattle.ni_model.specs.Refusals.{entry_names_ct, index_names_ct, index_names_eq, md_names_ct, md_names_eq, deed_names_ct}
+use Rattle.ni_model.specs.Refusals.{operation_names_ct, counts_on_live, ct_free_fault, eq_free_fault}
 use Rattle.ni_model.specs.Calls.{ct_free, eq_free}
 use Rattle.portals_ni.specs.Lasting.{HasEntries, EntryIsLive, QueueIsLive, BoundIsLive, OperationIsLive}
 use Rattle.portals_ni.specs.Sound.{Stands}
@@ -42,14 +42,14 @@ entries-without ct cts [] apart all = All-nil (EntryIsLive (without ct cts))
 entries-without ct cts (x ∷ xs) apart all =
     let other = neither (names x.entry.ct ct) (entry_names_ct ct xs) apart in
     All-cons (EntryIsLive (without ct cts)) x xs (none-without x.entry.ct ct cts other.0 (All-head (EntryIsLive cts) x xs all))
-        (entries-without ct cts xs other.1 (All-tail (EntryIsLive cts) x xs all))
+    (entries-without ct cts xs other.1 (All-tail (EntryIsLive cts) x xs all))
 
 indices-without : (ct : Handle) (cts : Table Count) (is : List (Option Index)) → index_names_ct ct is ≡ false →
     All (HasEntries (EntryIsLive cts)) is → All (HasEntries (EntryIsLive (without ct cts))) is
 indices-without ct cts [] apart all = All-nil (HasEntries (EntryIsLive (without ct cts)))
 indices-without ct cts (None ∷ is) apart all =
     All-cons (HasEntries (EntryIsLive (without ct cts))) None is tt
-        (indices-without ct cts is apart (All-tail (HasEntries (EntryIsLive cts)) None is all))
+    (indices-without ct cts is apart (All-tail (HasEntries (EntryIsLive cts)) None is all))
 indices-without ct cts (Some i ∷ is) apart all =
     let other = neither (entry_names_ct ct i.priority || entry_names_ct ct i.overflow) (index_names_ct ct is) apart in
     let lists = neither (entry_names_ct ct i.priority) (entry_names_ct ct i.overflow) other.0 in
@@ -65,7 +65,7 @@ bounds-without ct cts eqs (x ∷ xs) apart all =
     let other = neither (names x.value.md.ct ct) (md_names_ct ct xs) apart in
     let live = All-head (BoundIsLive cts eqs) x xs all in
     All-cons (BoundIsLive (without ct cts) eqs) x xs (none-without x.value.md.ct ct cts other.0 live.0, live.1)
-        (bounds-without ct cts eqs xs other.1 (All-tail (BoundIsLive cts eqs) x xs all))
+    (bounds-without ct cts eqs xs other.1 (All-tail (BoundIsLive cts eqs) x xs all))
 
 deed-without : (d : TriggeredOp) (ct : Handle) (cts : Table Count) → deed_names_ct ct d ≡ false → counts_on_live d cts ≡ true →
     counts_on_live d (without ct cts) ≡ true
@@ -85,13 +85,13 @@ operations-without ct cts (p ∷ ps) apart all =
     let both = neither (same_handle p.ct ct) (deed_names_ct ct p.deed) other.0 in
     let live = All-head (OperationIsLive cts) p ps all in
     All-cons (OperationIsLive (without ct cts)) p ps (live-without p.ct ct cts both.0 live.0, deed-without p.deed ct cts both.1 live.1)
-        (operations-without ct cts ps other.1 (All-tail (OperationIsLive cts) p ps all))
+    (operations-without ct cts ps other.1 (All-tail (OperationIsLive cts) p ps all))
 
 ct-freed : (ct : Handle) (s : State) → ct_free_fault ct s.cts s.indices s.mds s.pending ≡ None → Stands s →
     Stands (record s { cts = without ct s.cts })
 ct-freed ct s none is =
     let named = not-false (md_names_ct ct s.mds.live || (index_names_ct ct s.indices || operation_names_ct ct s.pending.waiting))
-          (need-test _ _ _ (need-later _ _ _ none)) in
+    (need-test _ _ _ (need-later _ _ _ none)) in
     let apart = neither (md_names_ct ct s.mds.live) (index_names_ct ct s.indices || operation_names_ct ct s.pending.waiting) named in
     let others = neither (index_names_ct ct s.indices) (operation_names_ct ct s.pending.waiting) apart.1 in
     record {
@@ -126,7 +126,7 @@ queues-without eq eqs (None ∷ is) apart all = All-cons (QueueIsLive (without e
 queues-without eq eqs (Some i ∷ is) apart all =
     let other = neither (names i.eq eq) (index_names_eq eq is) apart in
     All-cons (QueueIsLive (without eq eqs)) (Some i) is (none-without i.eq eq eqs other.0 (All-head (QueueIsLive eqs) (Some i) is all))
-        (queues-without eq eqs is other.1 (All-tail (QueueIsLive eqs) (Some i) is all))
+    (queues-without eq eqs is other.1 (All-tail (QueueIsLive eqs) (Some i) is all))
 
 queued-without : (eq : Handle) (cts : Table Count) (eqs : Table Waiting) (xs : List (Live Bound)) → md_names_eq eq xs ≡ false →
     All (BoundIsLive cts eqs) xs → All (BoundIsLive cts (without eq eqs)) xs
@@ -135,7 +135,7 @@ queued-without eq cts eqs (x ∷ xs) apart all =
     let other = neither (names x.value.md.eq eq) (md_names_eq eq xs) apart in
     let live = All-head (BoundIsLive cts eqs) x xs all in
     All-cons (BoundIsLive cts (without eq eqs)) x xs (live.0, none-without x.value.md.eq eq eqs other.0 live.1)
-        (queued-without eq cts eqs xs other.1 (All-tail (BoundIsLive cts eqs) x xs all))
+    (queued-without eq cts eqs xs other.1 (All-tail (BoundIsLive cts eqs) x xs all))
 
 eq-freed : (eq : Handle) (s : State) → eq_free_fault eq s.eqs s.indices s.mds ≡ None → Stands s →
     Stands (record s { eqs = without eq s.eqs })

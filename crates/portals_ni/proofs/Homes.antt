@@ -1,6 +1,6 @@
 -- What a start, an answer, a binding and a release leave of what an interface keeps.
-use Rattle.std.proofs.Common.{◌≡◌, ℕ, ◌+◌, ◌≤◌, Bool, true, false, not, ◌&&◌, ◌||◌, List, [], ◌∷◌, Option, Some, None, nat_le, nat_lt,
-    length, is_some, if◌then◌else◌, refl, subst, ◌∙◌, arith}
+use Rattle.std.proofs.Common.{◌≡◌, ℕ, ◌+◌, ◌≤◌, Bool, true, false, not, ◌&&◌, ◌||◌, List, [], ◌∷◌, Option, Some, None, nat_le, nat_lt}
+use Rattle.std.proofs.Common.{length, is_some, if◌then◌else◌, refl, subst, ◌∙◌, arith}
 use Rattle.std.specs.Prelude.{All}
 use Rattle.std.proofs.lemmas.Bool.Decides.{nat_tests}
 use Rattle.std.proofs.lemmas.List.Elements.{All-head, All-tail, All-cons, All-push, All-filter}
@@ -20,8 +20,8 @@ use Rattle.ni_model.specs.declared.Bound.{Bound}
 use Rattle.ni_model.specs.Tables.{Live, Table, lookup, change, change_one, changed, is_live, with_new, without}
 use Rattle.ni_model.specs.Counts.{successes}
 use Rattle.ni_model.specs.Events.{is_reply}
-use Rattle.ni_model.specs.Answers.{Home, bound_at, is_due, memory_home, one_answer, counter_home, one_less, awaits_less, came_home,
-    lost_answer, answered_at, answered}
+use Rattle.ni_model.specs.Answers.{Home, bound_at, is_due, memory_home, one_answer, counter_home, one_less, awaits_less, came_home}
+use Rattle.ni_model.specs.Answers.{lost_answer, answered_at, answered}
 use Rattle.ni_model.specs.Starts.{header_of, one_awaited, awaits_more, send_counter, counted_on, started_by, started}
 use Rattle.ni_model.specs.Conditions.{IsBoundIn, IsKept}
 use Rattle.ni_model.specs.Refusals.{holds_part, deed_is_live, put_fits, get_fits, deed_fits, deed_fault, deed_names_md}
@@ -55,8 +55,8 @@ all-bound : (n : ℕ) (h : Handle) (f : Bound → Bound) (xs : List (Live Bound)
 all-bound n h f [] keeps all = all
 all-bound n h f (x ∷ xs) keeps all =
     All-cons (λ (y : Live Bound). IsBoundIn n y.value) (change_one h f x) (change h f xs)
-        (one-bound n h f x keeps (All-head (λ (y : Live Bound). IsBoundIn n y.value) x xs all))
-        (all-bound n h f xs keeps (All-tail (λ (y : Live Bound). IsBoundIn n y.value) x xs all))
+    (one-bound n h f x keeps (All-head (λ (y : Live Bound). IsBoundIn n y.value) x xs all))
+    (all-bound n h f xs keeps (All-tail (λ (y : Live Bound). IsBoundIn n y.value) x xs all))
 
 -- ---- what a descriptor holds
 
@@ -80,7 +80,7 @@ holds-change : (k h : Handle) (f : Bound → Bound) (at n : ℕ) (xs : List (Liv
 holds-change k h f at n [] keeps holds = holds
 holds-change k h f at n (x ∷ xs) keeps holds =
     elim (same_handle x.handle k) as (λ b. holds_part (if b then Some x.value else lookup k xs) at n ≡ true →
-        holds_part (if b then Some (change_one h f x).value else lookup k (change h f xs)) at n ≡ true) [
+    holds_part (if b then Some (change_one h f x).value else lookup k (change h f xs)) at n ≡ true) [
       | true ↦ λ is. elim (same_handle x.handle h) as (λ b. holds_part (Some (if b then f x.value else x.value)) at n ≡ true) [
         | true ↦ rw (keeps x.value) is
         | false ↦ is
@@ -141,7 +141,7 @@ fetch-on skips old new g a holds apart fits =
     let apart_of = neither (skips g.md) (skips a.md) apart in
     let fits_of = both (get_fits g old) (put_fits a old) fits in
     and-both (get_fits g new) (put_fits a new) (holds g.md g.local_offset g.length apart_of.0 fits_of.0)
-        (holds a.md a.local_offset a.length apart_of.1 fits_of.1)
+    (holds a.md a.local_offset a.length apart_of.1 fits_of.1)
 
 pub fits-on : (skips : Handle → Bool) (old new : Table Bound) (d : TriggeredOp) → HoldsOn skips old new → deed_skips skips d ≡ false →
     deed_fits d old ≡ true → deed_fits d new ≡ true
@@ -250,7 +250,7 @@ length-home : (b : Bound) (m : Sent) (r : List ℕ) → IsKept m → IsBoundIn (
     length (memory_home b m r) ≡ length r
 length-home b m r kept part due =
     elim (is_reply m.header.kind && m.header.ok) as (λ t. (is_reply m.header.kind && m.header.ok) ≡ t →
-        length (if t then written (b.md.start + m.header.home_offset) m.bytes r else r) ≡ length r) [
+    length (if t then written (b.md.start + m.header.home_offset) m.bytes r else r) ≡ length r) [
       | true ↦ λ is. home-written (length r) b m r refl kept part due is
       | false ↦ λ is. refl
     ] refl
@@ -260,7 +260,7 @@ at-keeps : (p : Home) (m : Sent) (o : Option Bound) → AreBoundIn (length p.reg
 at-keeps p m None all kept found = same-home p None all
 at-keeps p m (Some b) all kept found =
     elim (is_due m.header b) as (λ t. is_due m.header b ≡ t → KeepsHome p (if t then came_home p m b else lost_answer p).home
-        (if t then came_home p m b else lost_answer p).counted) [
+    (if t then came_home p m b else lost_answer p).counted) [
       | true ↦ λ due. record {
         size = length-home b m p.region kept (bound_has (IsBoundIn (length p.region)) m.header.home p.mds b all found) due;
         bound = less-bound (length p.region) m.header.home p.mds all;

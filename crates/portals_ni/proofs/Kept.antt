@@ -1,6 +1,6 @@
 -- What an interface keeps, through each of its calls.
-use Rattle.std.proofs.Common.{◌≡◌, ℕ, ◌+◌, ◌≤◌, Bool, true, false, not, ◌&&◌, ◌||◌, nat_le, Result, Ok, Err, List, Option, Some, None,
-    length, is_some, refl, sym, subst, ◌∙◌, arith}
+use Rattle.std.proofs.Common.{◌≡◌, ℕ, ◌+◌, ◌≤◌, Bool, true, false, not, ◌&&◌, ◌||◌, nat_le, Result, Ok, Err, List, Option, Some, None}
+use Rattle.std.proofs.Common.{length, is_some, refl, sym, subst, ◌∙◌, arith}
 use Rattle.std.specs.Prelude.{All, map, slice_set, IfOk, OnErr, OnOk}
 use Rattle.std.proofs.lemmas.Bool.Decides.{nat_tests}
 use Rattle.std.proofs.lemmas.List.Elements.{All-weaker, All-filter, All-push, All-set}
@@ -50,8 +50,13 @@ pub still-armed : (old new : Table Bound) (ranks : ℕ) (limits : Limits) (ws : 
     All (λ w. IsArmed old ranks limits w.deed) ws → All (λ w. IsArmed new ranks limits w.deed) ws
 still-armed old new ranks limits ws holds all =
     All-weaker (λ (w : Operation PostedOp). IsArmed old ranks limits w.deed) (λ (w : Operation PostedOp). IsArmed new ranks limits w.deed)
-    (λ w is. record { fits = fits-on skips_none old new w.deed.deed holds (skips-none w.deed.deed) is.fits; may = is.may; room =
-        is.room; counts = is.counts })
+    (λ w is. record {
+      fits = fits-on skips_none old new w.deed.deed holds (skips-none w.deed.deed) is.fits;
+      may = is.may;
+      room =
+          is.room;
+      counts = is.counts;
+    })
     ws all
 
 -- the target changed, and a counting event
@@ -115,8 +120,15 @@ unrefused-bound md size c e mds none = within-le md.start md.length size (need-t
 pub made-sound : (t : Side) (r : List ℕ) (c k : Table Count) (i : Initiating) (ops : Operations PostedOp) (w : Count)
     (res : Result Handle NiFault) → IsSound t r c i ops → OnErr res (k ≡ c) → IfOk res (λ h. k ≡ with_new h.slot w c) → IsSound t r k i ops
 made-sound t r c k i ops w (Ok h) is unchanged made =
-    rw made (record { rank = is.rank; limit = is.limit; parts = is.parts; bound = is.bound; armed = is.armed; told =
-        all-told None c (with_new h.slot w c) ops (changes-new None h.slot w c) is.told })
+    rw made (record {
+      rank = is.rank;
+      limit = is.limit;
+      parts = is.parts;
+      bound = is.bound;
+      armed = is.armed;
+      told =
+          all-told None c (with_new h.slot w c) ops (changes-new None h.slot w c) is.told;
+    })
 made-sound t r c k i ops w (Err fault) is unchanged made = rw unchanged is
 
 -- a descriptor more
@@ -191,9 +203,16 @@ pub searched-sound : (t u : Side) (r : List ℕ) (c : Table Count) (e f : Table 
     IsSound u r c i ops
 searched-sound t u r c e f i ops pt en delete (Ok found) is unchanged searched =
     let keeps : Keeps (parts t r c e) (parts u r c f) None = subst (λ (s : Searched). Keeps (parts t r c e) s.parts None) (sym searched)
-          (search-keeps pt en delete (parts t r c e) is.parts) in
-    record { rank = is.rank ∙ sym keeps.rank; limit = is.limit ∙ sym keeps.limit; parts = keeps.parts; bound = is.bound; armed =
-        is.armed; told = is.told }
+    (search-keeps pt en delete (parts t r c e) is.parts) in
+    record {
+      rank = is.rank ∙ sym keeps.rank;
+      limit = is.limit ∙ sym keeps.limit;
+      parts = keeps.parts;
+      bound = is.bound;
+      armed =
+          is.armed;
+      told = is.told;
+    }
 searched-sound t u r c e f i ops pt en delete (Err fault) is unchanged searched = rw unchanged.0 is
 
 -- the rank and the limit of a target after a search
@@ -203,7 +222,7 @@ pub search-rank : (t u : Side) (r : List ℕ) (c : Table Count) (e f : Table Wai
     OnOk res ((u.rank ≡ t.rank) × (u.limit ≡ t.limit))
 search-rank t u r c e f pt en delete (Ok found) all searched =
     let keeps : Keeps (parts t r c e) (parts u r c f) None = subst (λ (s : Searched). Keeps (parts t r c e) s.parts None) (sym searched)
-          (search-keeps pt en delete (parts t r c e) all) in
+    (search-keeps pt en delete (parts t r c e) all) in
     (keeps.rank, keeps.limit)
 search-rank t u r c e f pt en delete (Err fault) all searched = tt
 
@@ -252,7 +271,7 @@ append-le pt e p none =
     let within : Bool = is_within e.start e.length (length p.region) in
     let full : Bool = nat_le p.side.limit (linked_count p.side) || nat_le top p.side.given in
     let live : need (is_live_or_none e.ct p.cts) Stale (need (not full) NoSpace (need within OutOfRegion None)) ≡ None =
-          need-later (is_allocated pt p.side) Stale _ none in
+    need-later (is_allocated pt p.side) Stale _ none in
     let room : need (not full) NoSpace (need within OutOfRegion None) ≡ None = need-later (is_live_or_none e.ct p.cts) Stale _ live in
     let part : need within OutOfRegion None ≡ None = need-later (not full) NoSpace _ room in
     within-le e.start e.length (length p.region) (need-test within OutOfRegion None part)
@@ -269,8 +288,15 @@ pub indices-sound : (t u : Side) (r : List ℕ) (c : Table Count) (i : Initiatin
     (res : Result (Unit {0}) NiFault) → HasPartsIn (length r) o → IsSound t r c i ops → OnErr res (u ≡ t) →
     OnOk res (u ≡ record t { indices = slice_set t.indices pt o }) → IsSound u r c i ops
 indices-sound t u r c i ops pt o (Ok x) has is unchanged made =
-    rw made (record { rank = is.rank; limit = is.limit; parts = All-set (HasPartsIn (length r)) t.indices pt o has is.parts; bound =
-        is.bound; armed = is.armed; told = is.told })
+    rw made (record {
+      rank = is.rank;
+      limit = is.limit;
+      parts = All-set (HasPartsIn (length r)) t.indices pt o has is.parts;
+      bound =
+          is.bound;
+      armed = is.armed;
+      told = is.told;
+    })
 indices-sound t u r c i ops pt o (Err fault) has is unchanged made = rw unchanged is
 
 -- one entry fewer
@@ -278,6 +304,13 @@ pub unlinked-sound : (t u : Side) (r : List ℕ) (c : Table Count) (i : Initiati
     (res : Result (Unit {0}) NiFault) → IsSound t r c i ops → OnErr res (u ≡ t) →
     OnOk res (u ≡ record t { indices = map (unlinked_in me) t.indices }) → IsSound u r c i ops
 unlinked-sound t u r c i ops me (Ok x) is unchanged made =
-    rw made (record { rank = is.rank; limit = is.limit; parts = unlink-parts (length r) me t.indices is.parts; bound = is.bound; armed =
-        is.armed; told = is.told })
+    rw made (record {
+      rank = is.rank;
+      limit = is.limit;
+      parts = unlink-parts (length r) me t.indices is.parts;
+      bound = is.bound;
+      armed =
+          is.armed;
+      told = is.told;
+    })
 unlinked-sound t u r c i ops me (Err fault) is unchanged made = rw unchanged is

@@ -32,8 +32,12 @@ lasts t r c e i ops d v is kept =
       at_most = rw (length-posted ops.waiting) kept.limited;
       firing = All-map (CanFire s) (posted deed_in) ops.waiting
           (All-weaker (λ (w : Op). IsArmed i.mds i.ranks i.limits w.deed) (λ (w : Op). CanFire s (posted deed_in w))
-              (λ w armed. record { may_start = may-start w.deed.deed i.ranks t.limit i.limits is.sound.limit armed.may; fits =
-              armed.fits; counts = armed.counts }) ops.waiting is.sound.armed);
+          (λ w armed. record {
+            may_start = may-start w.deed.deed i.ranks t.limit i.limits is.sound.limit armed.may;
+            fits =
+                armed.fits;
+            counts = armed.counts;
+          }) ops.waiting is.sound.armed);
       bound = is.sound.bound;
       linked = is.sound.parts;
       sums = is.stands.sums;

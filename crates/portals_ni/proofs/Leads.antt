@@ -1,6 +1,6 @@
 -- What one state leads to another by: limits stay, what is live stays live, sums fit, and what is named anew is live.
-use Rattle.std.proofs.Common.{◌≡◌, ℕ, ◌&&◌, ◌||◌, Bool, true, false, List, [], Option, Some, None, length, if◌then◌else◌, refl, sym, ap,
-    ◌∙◌}
+use Rattle.std.proofs.Common.{◌≡◌, ℕ, ◌&&◌, ◌||◌, Bool, true, false, List, [], Option, Some, None, length, if◌then◌else◌, refl, sym, ap}
+use Rattle.std.proofs.Common.{◌∙◌}
 use Rattle.std.specs.Prelude.{All, slice_set}
 use Rattle.std.proofs.lemmas.List.{length-set}
 use Rattle.std.proofs.lemmas.List.Elements.{All-map, All-set, All-weaker}
@@ -25,23 +25,23 @@ use Rattle.ni_model.specs.Counts.{successes}
 use Rattle.ni_model.specs.Queues.{Waiting, raised}
 use Rattle.ni_model.specs.Lists.{Index, index_at, queue_of}
 use Rattle.ni_model.specs.Headers.{UnexpectedList, allows, no_room, oldest, found_in, left_in, without_oldest}
-use Rattle.ni_model.specs.Events.{message_event, unlink_event, kind_delivered, link_event, header_event, kind_taken, missed_event, is_reply,
-    asks_event, answer_event, send_event}
-use Rattle.ni_model.specs.Arrive.{Parts, Received, received, refused, request, judged, accepted, chosen, is_overflow, is_over, counter_of,
-    delivered, place, settled_at, settled, headers_after, delivery_raised, events_after}
-use Rattle.ni_model.specs.Answers.{Home, Returned, answered, answered_at, bound_at, came_home, lost_answer, is_due, counter_home,
-    one_answer, awaits_less, one_less, events_home}
+use Rattle.ni_model.specs.Events.{message_event, unlink_event, kind_delivered, link_event, header_event, kind_taken, missed_event, is_reply}
+use Rattle.ni_model.specs.Events.{asks_event, answer_event, send_event}
+use Rattle.ni_model.specs.Arrive.{Parts, Received, received, refused, request, judged, accepted, chosen, is_overflow, is_over, counter_of}
+use Rattle.ni_model.specs.Arrive.{delivered, place, settled_at, settled, headers_after, delivery_raised, events_after}
+use Rattle.ni_model.specs.Answers.{Home, Returned, answered, answered_at, bound_at, came_home, lost_answer, is_due, counter_home}
+use Rattle.ni_model.specs.Answers.{one_answer, awaits_less, one_less, events_home}
 use Rattle.ni_model.specs.Starts.{started, started_by, header_of, awaits_more, one_awaited, send_counter, send_queue, counted_on}
-use Rattle.ni_model.specs.Append.{Appends, append, append_once, linked_as, linked_at, fresh, next_handle, queue_at, take_all,
-    overflow_counter, search, searched_at, found_header}
+use Rattle.ni_model.specs.Append.{Appends, append, append_once, linked_as, linked_at, fresh, next_handle, queue_at, take_all}
+use Rattle.ni_model.specs.Append.{overflow_counter, search, searched_at, found_header}
 use Rattle.ni_model.specs.State.{State, parts_of, with_parts, home_of, with_home}
 use Rattle.target_engine.proofs.Within.{at_has}
 use Rattle.portals_ni.specs.Lasting.{HasEntries, EntryIsLive, QueueIsLive, BoundIsLive, OperationIsLive}
 use Rattle.portals_ni.specs.Sound.{Stands}
 use Rattle.portals_ni.proofs.Parts.{indices-entries, append-entries}
 use Rattle.portals_ni.proofs.Homes.{KeepsMd, keeps-awaited, keeps-less}
-use Rattle.portals_ni.proofs.Steady.{Grows, grows-same, grows-twice, grows-or-none, grows-raised, grows-gone, grows-each_gone, CountsOn,
-    counts-same, counts-counted, counts-each, entries-on, queues-on, bounds-on, operations-on}
+use Rattle.portals_ni.proofs.Steady.{Grows, grows-same, grows-twice, grows-or-none, grows-raised, grows-gone, grows-each_gone, CountsOn}
+use Rattle.portals_ni.proofs.Steady.{counts-same, counts-counted, counts-each, entries-on, queues-on, bounds-on, operations-on}
 
 pub record Leads (s q : State) : Type 0 where
   pub limits : q.limits ≡ s.limits
@@ -101,8 +101,15 @@ parts-lead s q is = record {
 }
 
 same-parts : (p : Parts) → PartsLead p p
-same-parts p = record { indices = refl; headers = refl; counts = counts-same p.cts; queues = grows-same p.eqs; entries_live =
-    λ all. all; indices_live = λ all. all }
+same-parts p = record {
+  indices = refl;
+  headers = refl;
+  counts = counts-same p.cts;
+  queues = grows-same p.eqs;
+  entries_live =
+      λ all. all;
+  indices_live = λ all. all;
+}
 
 -- an index that changed and has its queue still
 queue-set : (eqs : Table Waiting) (is : List (Option Index)) (pt : ℕ) (o : Option Index) → queue_of o ≡ queue_of (index_at pt is) →
@@ -162,7 +169,7 @@ judged-lead p m (Some f) =
     (if is_overflow f.list && no_room p.side.headers then received p (refused Dropped m.header) else accepted p m f)
     (received p (refused Violation m.header))
     (either (ReceivedLead p) (is_overflow f.list && no_room p.side.headers) (received p (refused Dropped m.header)) (accepted p m f)
-        (same-parts p) (accepted-lead p m f))
+    (same-parts p) (accepted-lead p m f))
     (same-parts p)
 
 pub request-lead : (p : Parts) (m : Sent) → PartsLead p (request p m).parts
@@ -195,9 +202,9 @@ taken-lead slot pt e p found live =
     let q : Parts = take_all pt e p in
     let counts : CountsOn p.cts q.cts = counts-each (overflow_counter e) (found_in pt e p.side.headers.unexpected) p.cts in
     let gone : Grows p.eqs q.eqs = grows-each_gone p.side (left_in pt e p.side.headers.unexpected)
-          (found_in pt e p.side.headers.unexpected) p.eqs in
+    (found_in pt e p.side.headers.unexpected) p.eqs in
     let linked : PartsLead q (linked_as slot pt Priority e found q).parts =
-          linked-lead slot pt Priority e q found (grows-or-none e.ct p.cts q.cts counts.grows live) in
+    linked-lead slot pt Priority e q found (grows-or-none e.ct p.cts q.cts counts.grows live) in
     record {
       indices = linked.indices;
       headers = refl;
@@ -307,7 +314,7 @@ changed-bounds : (cts : Table Count) (eqs : Table Waiting) (h : Handle) (f : Bou
     All (BoundIsLive cts eqs) mds.live → All (BoundIsLive cts eqs) (changed h f mds).live
 changed-bounds cts eqs h f mds keeps all =
     All-map (BoundIsLive cts eqs) (change_one h f) mds.live (All-weaker (BoundIsLive cts eqs)
-        (λ x. BoundIsLive cts eqs (change_one h f x)) (λ x live. one-bound cts eqs h f x keeps live) mds.live all)
+    (λ x. BoundIsLive cts eqs (change_one h f x)) (λ x live. one-bound cts eqs h f x keeps live) mds.live all)
 
 more-bounds : (cts : Table Count) (eqs : Table Waiting) (h : Option Handle) (mds : Table Bound) → All (BoundIsLive cts eqs) mds.live →
     All (BoundIsLive cts eqs) (awaits_more h mds).live

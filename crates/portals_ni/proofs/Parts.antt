@@ -1,6 +1,6 @@
 -- What holds of each linked entry through each change of the entries, as that its part lies in the region; the region keeps its length.
-use Rattle.std.proofs.Common.{◌≡◌, ℕ, ◌+◌, ◌/◌, ◌≤◌, true, false, not, List, Option, Some, None, take, length, if◌then◌else◌, refl, arith,
-    div-add-mod'}
+use Rattle.std.proofs.Common.{◌≡◌, ℕ, ◌+◌, ◌/◌, ◌≤◌, true, false, not, List, Option, Some, None, take, length, if◌then◌else◌, refl, arith}
+use Rattle.std.proofs.Common.{div-add-mod'}
 use Rattle.std.specs.Prelude.{All, map, slice_set}
 use Rattle.std.proofs.lemmas.List.{length-take}
 use Rattle.std.proofs.lemmas.List.Elements.{All-push, All-nil, All-filter, All-map, All-set, All-weaker}
@@ -21,8 +21,8 @@ use Rattle.ptl_types.specs.Messages.{Sent}
 use Rattle.ni_model.specs.declared.Linked.{Linked}
 use Rattle.ni_model.specs.declared.Found.{Found}
 use Rattle.ni_model.specs.Lists.{Index, index_at, unlinked, advanced, advance_one}
-use Rattle.ni_model.specs.Arrive.{writes, combined_by, swapped_by, new_bytes, old_bytes, memory_after, delivered, place, entries_after,
-    is_over, running_after, settled, settled_at, indices_after}
+use Rattle.ni_model.specs.Arrive.{writes, combined_by, swapped_by, new_bytes, old_bytes, memory_after, delivered, place, entries_after}
+use Rattle.ni_model.specs.Arrive.{is_over, running_after, settled, settled_at, indices_after}
 use Rattle.ni_model.specs.Append.{linked_at}
 use Rattle.ni_model.specs.Calls.{new_index, unlinked_in}
 use Rattle.ni_model.specs.Conditions.{IsPartIn, HasPartsIn}
@@ -62,14 +62,14 @@ written-within : (x : Linked) (m : Sent) (r : List ℕ) → IsPartIn (length r) 
 written-within x m r part =
     let within : place x m.header + delivered x m.header ≤ length r = place-within (length r) x m.header part in
     let at_most : length (new_bytes m.header.kind m.header (old_bytes x m.header r) (take (delivered x m.header) m.bytes)) ≤ delivered x
-          m.header = new-le m.header.kind m.header (delivered x m.header) (old_bytes x m.header r) (take (delivered x m.header) m.bytes)
-          (part-le (place x m.header) (delivered x m.header) r) (first-le (delivered x m.header) m.bytes) in
+    m.header = new-le m.header.kind m.header (delivered x m.header) (old_bytes x m.header r) (take (delivered x m.header) m.bytes)
+    (part-le (place x m.header) (delivered x m.header) r) (first-le (delivered x m.header) m.bytes) in
     length-written (place x m.header) _ r (omega arith)
 
 pub length-memory : (x : Linked) (m : Sent) (r : List ℕ) → IsPartIn (length r) x → length (memory_after x m r) ≡ length r
 length-memory x m r part =
     elim (writes m.header.kind) as (λ b. length (if b then written (place x m.header)
-        (new_bytes m.header.kind m.header (old_bytes x m.header r) (take (delivered x m.header) m.bytes)) r else r) ≡ length r) [
+    (new_bytes m.header.kind m.header (old_bytes x m.header r) (take (delivered x m.header) m.bytes)) r else r) ≡ length r) [
       | true ↦ written-within x m r part
       | false ↦ refl
     ]
@@ -91,7 +91,7 @@ advanced-all P stays me to xs all = All-map P (advance_one me to) xs
 entries-all : (P : Linked → Type 0) → StaysAt P → (x : Linked) (h : Header) (xs : List Linked) → All P xs → All P (entries_after x h xs)
 entries-all P stays x h xs all =
     elim (is_over x h) as (λ b. All P (if b then unlinked x.handle xs else
-        (if x.entry.manage_local then advanced x.handle (running_after x h) xs else xs))) [
+    (if x.entry.manage_local then advanced x.handle (running_after x h) xs else xs))) [
       | true ↦ All-filter (λ y. not (same_handle y.handle x.handle)) P xs all
       | false ↦ elim x.entry.manage_local as (λ b. All P (if b then advanced x.handle (running_after x h) xs else xs)) [
         | true ↦ advanced-all P stays x.handle (running_after x h) xs all
@@ -118,8 +118,10 @@ linked-entries P Overflow x (Some i) is has = (has.0, All-push P i.overflow x ha
 
 unlinked-entries : (P : Linked → Type 0) (me : Handle) (o : Option Index) → HasEntries P o → HasEntries P (unlinked_in me o)
 unlinked-entries P me None has = tt
-unlinked-entries P me (Some i) has = (All-filter (λ y. not (same_handle y.handle me)) P i.priority has.0,
-    All-filter (λ y. not (same_handle y.handle me)) P i.overflow has.1)
+unlinked-entries P me (Some i) has = (
+  All-filter (λ y. not (same_handle y.handle me)) P i.priority has.0,
+  All-filter (λ y. not (same_handle y.handle me)) P i.overflow has.1,
+)
 
 -- ---- those of all indices
 

@@ -1,6 +1,6 @@
 -- The ready operations by their numbers, as the model has them and as the pending ones do.
-use Rattle.std.proofs.Common.{◌≡◌, ℕ, zero, suc, ◌+◌, ◌==◌, ◌<◌, Bool, true, false, List, [], ◌∷◌, Option, Some, None, find, filter, drop,
-    length, if◌then◌else◌, refl, ap, ◌∙◌, arith}
+use Rattle.std.proofs.Common.{◌≡◌, ℕ, zero, suc, ◌+◌, ◌==◌, ◌<◌, Bool, true, false, List, [], ◌∷◌, Option, Some, None, find, filter, drop}
+use Rattle.std.proofs.Common.{length, if◌then◌else◌, refl, ap, ◌∙◌, arith}
 use Rattle.std.specs.Prelude.{All, AllPairs, map, option_map}
 use Rattle.std.specs.List.{slice_get}
 use Rattle.std.proofs.lemmas.Bool.{eq-eqb}
@@ -29,7 +29,7 @@ later w ws (v ∷ vs) above all =
     All-cons (λ (v : Op). find (is_number v.number) (w ∷ ws) ≡ Some v) v vs
     (rw other (All-head (λ (v : Op). find (is_number v.number) ws ≡ Some v) v vs all))
     (later w ws vs (All-tail (λ (v : Op). w.number < v.number) v vs above)
-        (All-tail (λ (v : Op). find (is_number v.number) ws ≡ Some v) v vs all))
+    (All-tail (λ (v : Op). find (is_number v.number) ws ≡ Some v) v vs all))
 
 -- each is found by its number
 pub self-found : (ws : List Op) → AllPairs Rises ws → All (λ (v : Op). find (is_number v.number) ws ≡ Some v) ws
@@ -48,7 +48,7 @@ by-number f p (w ∷ ws) all =
     let rest = by-number f p ws (All-tail (λ (w : Op). f w.number ≡ p w) w ws all) in
     rw (All-head (λ (w : Op). f w.number ≡ p w) w ws all)
     (elim (p w) as (λ b. (if b then w.number ∷ filter f (map (λ (w : Op). w.number) ws) else filter f (map (λ (w : Op). w.number) ws))
-        ≡ map (λ (w : Op). w.number) (if b then w ∷ filter p ws else filter p ws)) [
+    ≡ map (λ (w : Op). w.number) (if b then w ∷ filter p ws else filter p ws)) [
       | true ↦ ap (λ xs. w.number ∷ xs) rest
       | false ↦ rest
     ])
@@ -72,7 +72,7 @@ pub due-are : (cts : Table Count) (ops : Ops) → AllPairs Rises ops.waiting →
 due-are cts ops rising told =
     ap (filter (λ t. is_ready_op cts (model.posted_at t (posted_all deed_in ops)))) (numbers-posted ops.waiting)
     ∙ by-number (λ t. is_ready_op cts (model.posted_at t (posted_all deed_in ops))) is_due ops.waiting
-        (ready-found cts ops ops.waiting told (self-found ops.waiting rising))
+    (ready-found cts ops ops.waiting told (self-found ops.waiting rising))
 
 -- ---- those whose message is for one rank
 
@@ -99,7 +99,7 @@ target-found t ops a ct threshold is = rw (find-posted t ops.waiting) (split (fi
         a.deed
     split None e = cc
     split (Some w) e = let all : shown w ≡ (a, ct, threshold) = cc in let same : w.deed ≡ a =
-                                                                            ap (λ (p : PostedOp × Handle × ℕ). p.0) all in rw same refl
+        ap (λ (p : PostedOp × Handle × ℕ). p.0) all in rw same refl
 
 pub target-none : (t : ℕ) (ops : Ops) → find (is_number t) ops.waiting ≡ None → target_of (model.posted_at t (posted_all deed_in ops))
     ≡ None

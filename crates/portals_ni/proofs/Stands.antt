@@ -1,6 +1,6 @@
 -- What each call leaves of the limits, the sums and the live names of a state, as the model has the call.
-use Rattle.std.proofs.Common.{◌≡◌, ℕ, ◌≤◌, ◌&&◌, Bool, true, false, not, List, [], Option, Some, None, Result, Ok, Err, length, refl, sym,
-    ap, subst, ◌∙◌, arith}
+use Rattle.std.proofs.Common.{◌≡◌, ℕ, ◌≤◌, ◌&&◌, Bool, true, false, not, List, [], Option, Some, None, Result, Ok, Err, length, refl, sym}
+use Rattle.std.proofs.Common.{ap, subst, ◌∙◌, arith}
 use Rattle.std.specs.Prelude.{All, OnErr, OnOk, IfOk, map, slice_set}
 use Rattle.std.proofs.lemmas.Bool.Decides.{nat_tests}
 use Rattle.std.proofs.lemmas.List.{length-set, length-map}
@@ -26,14 +26,14 @@ use Rattle.ni_model.specs.Arrive.{Side, request}
 use Rattle.ni_model.specs.Answers.{answered}
 use Rattle.ni_model.specs.Starts.{started}
 use Rattle.ni_model.specs.Append.{append}
-use Rattle.ni_model.specs.State.{State, Operations, Delivers, parts_of, with_parts, home_of, with_home, with_outcome, after_request,
-    after_answer}
+use Rattle.ni_model.specs.State.{State, Operations, Delivers, parts_of, with_parts, home_of, with_home, with_outcome, after_request}
+use Rattle.ni_model.specs.State.{after_answer}
 use Rattle.ni_model.specs.Ready.{Fires, fires, with_posted, without_number, is_number, cancelled, waits_on, done}
 use Rattle.ni_model.specs.Refusals.{inc_passes, counts_on_live, deed_is_live, deed_passes}
 use Rattle.ni_model.specs.Append.{search}
-use Rattle.ni_model.specs.Calls.{Done, ends, ends_by, Makes, MayLackMemory, enough, lacking, with_index, new_index, with_counter,
-    with_bound, with_operation, bound, unlinked_in, pt_alloc, ct_alloc, ct_set, ct_inc, ct_cancel, eq_alloc, eq_get, eq_get_at, md_bind,
-    me_append, me_unlink, me_search, start, triggered}
+use Rattle.ni_model.specs.Calls.{Done, ends, ends_by, Makes, MayLackMemory, enough, lacking, with_index, new_index, with_counter}
+use Rattle.ni_model.specs.Calls.{with_bound, with_operation, bound, unlinked_in, pt_alloc, ct_alloc, ct_set, ct_inc, ct_cancel, eq_alloc}
+use Rattle.ni_model.specs.Calls.{eq_get, eq_get_at, md_bind, me_append, me_unlink, me_search, start, triggered}
 use Rattle.initiator_engine.specs.Initiators.{Initiating, with_mds}
 use Rattle.portals_ni.specs.Answers.{MakesIfMemory}
 use Rattle.portals_ni.specs.Lasting.{HasEntries, EntryIsLive, QueueIsLive, BoundIsLive, OperationIsLive}
@@ -42,10 +42,10 @@ use Rattle.portals_ni.proofs.Firing.{Ops}
 use Rattle.initiator_engine.proofs.Starting.{need-test, need-later}
 use Rattle.portals_ni.proofs.Kept.{and-left, and-right, not-false}
 use Rattle.portals_ni.proofs.Parts.{new-entries, freed-entries, unlink-entries}
-use Rattle.portals_ni.proofs.Steady.{Grows, grows-same, grows-changed, grows-new, CountsOn, counts-same, counts-changed, counts-counted,
-    counts-new}
-use Rattle.portals_ni.proofs.Leads.{Leads, leads-stands, parts-lead, home-lead, request-lead, append-lead, search-lead, started-lead,
-    answered-lead}
+use Rattle.portals_ni.proofs.Steady.{Grows, grows-same, grows-changed, grows-new, CountsOn, counts-same, counts-changed, counts-counted}
+use Rattle.portals_ni.proofs.Steady.{counts-new}
+use Rattle.portals_ni.proofs.Leads.{Leads, leads-stands, parts-lead, home-lead, request-lead, append-lead, search-lead, started-lead}
+use Rattle.portals_ni.proofs.Leads.{answered-lead}
 
 -- ---- how a call ends
 
@@ -189,7 +189,7 @@ with_outcome-lead s q o leads = record {
 pub pt_alloc-stands : (pt : ℕ) (eq : Option Handle) (s : State) → Stands s → Stands (pt_alloc pt eq s).state
 pt_alloc-stands pt eq s is =
     call-stands _ s (with_index pt eq s) tt is (λ none. indices-lead s (with_index pt eq s).indices
-        (length-set s.indices pt (Some (new_index eq)))
+    (length-set s.indices pt (Some (new_index eq)))
     (new-entries (EntryIsLive s.cts) pt eq s.indices)
     (All-set (QueueIsLive s.eqs) s.indices pt (Some (new_index eq)) (need-test _ _ _ none)))
 
@@ -200,7 +200,7 @@ pub freed-stands : (t : Side) (r : List ℕ) (c : Table Count) (e : Table Waitin
 freed-stands t r c e i ops d v u pt (Ok x) is unchanged freed =
     let s = state_of t r c e i ops d v in
     rw freed (leads-stands s (record s { indices = slice_set t.indices pt None })
-        (indices-lead s (slice_set t.indices pt None) (length-set t.indices pt None)
+    (indices-lead s (slice_set t.indices pt None) (length-set t.indices pt None)
     (freed-entries (EntryIsLive c) pt t.indices)
     (All-set (QueueIsLive e) t.indices pt None refl)) is)
 freed-stands t r c e i ops d v u pt (Err fault) is unchanged freed = rw unchanged is
@@ -211,7 +211,7 @@ pub me_append-stands : (slot pt : ℕ) (list : EntryList) (e : Entry) (s : State
 me_append-stands slot pt list e s is =
     call-stands _ s (with_parts (append slot pt list e (parts_of s)).parts s) (append slot pt list e (parts_of s)).appended is
     (λ none. parts-lead s (append slot pt list e (parts_of s)).parts
-        (append-lead slot pt list e (parts_of s) (need-test _ _ _ (need-later _ _ _ none))))
+    (append-lead slot pt list e (parts_of s) (need-test _ _ _ (need-later _ _ _ none))))
 
 unlinked-queue : (me : Handle) (o : Option Index) → queue_of (unlinked_in me o) ≡ queue_of o
 unlinked-queue me None = refl
@@ -220,11 +220,11 @@ unlinked-queue me (Some i) = refl
 pub me_unlink-stands : (me : Handle) (s : State) → Stands s → Stands (me_unlink me s).state
 me_unlink-stands me s is =
     call-stands _ s (record s { indices = map (unlinked_in me) s.indices }) tt is
-        (λ none. indices-lead s (map (unlinked_in me) s.indices) (length-map s.indices (unlinked_in me))
+    (λ none. indices-lead s (map (unlinked_in me) s.indices) (length-map s.indices (unlinked_in me))
     (unlink-entries (EntryIsLive s.cts) me s.indices)
     (λ all. All-map (QueueIsLive s.eqs) (unlinked_in me) s.indices
-        (All-weaker (QueueIsLive s.eqs) (λ o. QueueIsLive s.eqs (unlinked_in me o))
-        (λ o live. ap (λ h. is_live_or_none h s.eqs) (unlinked-queue me o) ∙ live) s.indices all)))
+    (All-weaker (QueueIsLive s.eqs) (λ o. QueueIsLive s.eqs (unlinked_in me o))
+    (λ o live. ap (λ h. is_live_or_none h s.eqs) (unlinked-queue me o) ∙ live) s.indices all)))
 
 pub me_search-stands : (pt : ℕ) (e : Entry) (delete : Bool) (s : State) → Stands s → Stands (me_search pt e delete s).state
 me_search-stands pt e delete s is =
@@ -237,9 +237,10 @@ pub md_bind-stands : (slot : ℕ) (md : Descriptor) (s : State) → Stands s →
 md_bind-stands slot md s is =
     call-stands _ s (with_bound slot md s) _ is (λ none.
     let live = need-test _ _ _ none in
-    bounds-lead s (with_new slot (bound md) s.mds) refl (λ all. All-push (BoundIsLive s.cts s.eqs) s.mds.live _ all
-        (and-right (is_live_or_none md.eq s.eqs) (is_live_or_none md.ct s.cts) live,
-        and-left (is_live_or_none md.eq s.eqs) (is_live_or_none md.ct s.cts) live)))
+    bounds-lead s (with_new slot (bound md) s.mds) refl (λ all. All-push (BoundIsLive s.cts s.eqs) s.mds.live _ all (
+      and-right (is_live_or_none md.eq s.eqs) (is_live_or_none md.ct s.cts) live,
+      and-left (is_live_or_none md.eq s.eqs) (is_live_or_none md.ct s.cts) live,
+    )))
 
 -- by the answer of a release
 pub released-stands : (t : Side) (r : List ℕ) (c : Table Count) (e : Table Waiting) (i : Initiating) (ops : Ops) (d v : ℕ)
@@ -249,7 +250,7 @@ released-stands t r c e i ops d v j md (Ok x) is unchanged released =
     let s = state_of t r c e i ops d v in
     rw released (leads-stands s (record s { mds = without md i.mds })
     (bounds-lead s (without md i.mds) refl (λ all. All-filter (λ (x : Live Bound). not (same_handle x.handle md)) (BoundIsLive c e)
-        i.mds.live all)) is)
+    i.mds.live all)) is)
 released-stands t r c e i ops d v j md (Err fault) is unchanged released = rw unchanged is
 
 -- ---- counting events
@@ -265,8 +266,8 @@ pub ct_set-stands : (ct : Handle) (to : Count) (s : State) → Stands s → Stan
 ct_set-stands ct to s is =
     call-stands _ s (record s { cts = changed ct (λ (c : Count). to) s.cts }) tt is
     (λ none. counts-lead s (changed ct (λ (c : Count). to) s.cts)
-        (counts-changed ct (λ (c : Count). to) s.cts (λ c found fits. passes-not to
-        (not-false (passes_end to) (need-test _ _ _ (need-later _ _ _ none))))))
+    (counts-changed ct (λ (c : Count). to) s.cts (λ c found fits. passes-not to
+    (not-false (passes_end to) (need-test _ _ _ (need-later _ _ _ none))))))
 
 inc-fits : (o : Option Count) (by c : Count) → inc_passes o by ≡ false → o ≡ Some c → total (plus by c) ≤ top
 inc-fits None by c e found = cc
@@ -276,14 +277,14 @@ pub ct_inc-stands : (ct : Handle) (by : Count) (s : State) → Stands s → Stan
 ct_inc-stands ct by s is =
     call-stands _ s (record s { cts = changed ct (plus by) s.cts }) tt is
     (λ none. counts-lead s (changed ct (plus by) s.cts) (counts-changed ct (plus by) s.cts
-        (λ c found fits. inc-fits (lookup ct s.cts.live) by c
-        (not-false (inc_passes (lookup ct s.cts.live) by) (need-test _ _ _ (need-later _ _ _ none))) found)))
+    (λ c found fits. inc-fits (lookup ct s.cts.live) by c
+    (not-false (inc_passes (lookup ct s.cts.live) by) (need-test _ _ _ (need-later _ _ _ none))) found)))
 
 pub ct_cancel-stands : (ct : Handle) (s : State) → Stands s → Stands (ct_cancel ct s).state
 ct_cancel-stands ct s is =
     call-stands _ s (record s { pending = cancelled ct s.pending }) _ is
     (λ none. operations-lead s (cancelled ct s.pending) refl
-        (λ all. All-filter (λ p. not (waits_on ct p)) (OperationIsLive s.cts) s.pending.waiting all))
+    (λ all. All-filter (λ p. not (waits_on ct p)) (OperationIsLive s.cts) s.pending.waiting all))
 
 -- ---- event queues
 
@@ -313,14 +314,16 @@ triggered-stands d ct threshold s is =
     let counts : Bool = counts_on_live d s.cts && deed_is_live d s.mds in
     let live : is_live ct s.cts && counts ≡ true = need-test _ _ _ none in
     operations-lead s (with_posted d ct threshold s.pending) refl
-        (λ all. All-push (OperationIsLive s.cts) s.pending.waiting _ all (and-left (is_live ct s.cts) counts live,
-        and-left (counts_on_live d s.cts) (deed_is_live d s.mds) (and-right (is_live ct s.cts) counts live))))
+    (λ all. All-push (OperationIsLive s.cts) s.pending.waiting _ all (
+      and-left (is_live ct s.cts) counts live,
+      and-left (counts_on_live d s.cts) (deed_is_live d s.mds) (and-right (is_live ct s.cts) counts live),
+    )))
 
 pub fewer-stands : (t : ℕ) (s : State) → Stands s → Stands (record s { pending = without_number t s.pending })
 fewer-stands t s is =
     leads-stands s (record s { pending = without_number t s.pending })
     (operations-lead s (without_number t s.pending) refl (λ all. All-filter (λ p. not (is_number t p)) (OperationIsLive s.cts)
-        s.pending.waiting all))
+    s.pending.waiting all))
     is
 
 sends-stands : (s : State) (d : TriggeredOp) → Stands s → Stands (with_home (started s.rank (home_of s) d).home s)
@@ -346,12 +349,12 @@ pub request-stands : (s : State) (m : Sent) → Stands s → Stands (after_reque
 request-stands s m is =
     let q = with_parts (request (parts_of s) m).parts s in
     leads-stands s (with_outcome (request (parts_of s) m).arrived.outcome q)
-        (with_outcome-lead s q (request (parts_of s) m).arrived.outcome
-        (parts-lead s (request (parts_of s) m).parts (request-lead (parts_of s) m))) is
+    (with_outcome-lead s q (request (parts_of s) m).arrived.outcome
+    (parts-lead s (request (parts_of s) m).parts (request-lead (parts_of s) m))) is
 
 pub answer-stands : (s : State) (m : Sent) → Stands s → Stands (after_answer s (answered (home_of s) m)).state
 answer-stands s m is =
     let q = with_home (answered (home_of s) m).home s in
     leads-stands s (with_outcome (answered (home_of s) m).outcome q)
-        (with_outcome-lead s q (answered (home_of s) m).outcome (home-lead s (answered (home_of s) m).home (answered-lead (home_of s) m)))
-        is
+    (with_outcome-lead s q (answered (home_of s) m).outcome (home-lead s (answered (home_of s) m).home (answered-lead (home_of s) m)))
+    is

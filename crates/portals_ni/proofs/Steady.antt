@@ -1,6 +1,6 @@
 -- What a change of the counting events and of the event queues leaves: the limit, what is live, and sums within the range.
-use Rattle.std.proofs.Common.{◌≡◌, ℕ, ◌+◌, ◌-◌, ◌≤◌, true, false, List, [], ◌∷◌, ◌++◌, Option, Some, None, min, if◌then◌else◌, refl, sym,
-    subst, arith, ◌∙◌}
+use Rattle.std.proofs.Common.{◌≡◌, ℕ, ◌+◌, ◌-◌, ◌≤◌, true, false, List, [], ◌∷◌, ◌++◌, Option, Some, None, min, if◌then◌else◌, refl, sym}
+use Rattle.std.proofs.Common.{subst, arith, ◌∙◌}
 use Rattle.std.specs.Prelude.{All, option_map}
 use Rattle.std.proofs.Math.Nat.{min-le_right}
 use Rattle.std.proofs.lemmas.List.Elements.{All-weaker}
@@ -70,7 +70,7 @@ grows-each_gone s stay [] t = grows-same t
 grows-each_gone s stay (a ∷ found) t =
     let next : Table Waiting = gone_raised (kind_taken a.header.header.kind) s (stay ++ found) a t in
     grows-twice t next (each_gone s stay found next) (grows-gone (kind_taken a.header.header.kind) s (stay ++ found) a t)
-        (grows-each_gone s stay found next)
+    (grows-each_gone s stay found next)
 
 -- ---- counting events
 
@@ -102,7 +102,7 @@ sum-changed h k f xs fits all = λ c e.
           let is : h ≡ k = same-is h k same in
           let here : lookup h (change h f xs) ≡ Some c = subst (λ (x : Handle). lookup x (change h f xs) ≡ Some c) (sym is) e in
           sum-mapped f (lookup h xs) c (λ b found. fits b found (all b (subst (λ (x : Handle). lookup x xs ≡ Some b) is found)))
-              (sym (lookup-changed h f xs) ∙ here)
+          (sym (lookup-changed h f xs) ∙ here)
       | false ↦ λ apart. all c (sym (lookup-change k h f xs apart) ∙ e)
     ] refl
 
@@ -118,7 +118,7 @@ sum-pushed k x [] new old = λ c e.
     ] e
 sum-pushed k x (y ∷ ys) new old = λ c e.
     elim (same_handle y.handle k) as (λ b. ((d : Count) → (if b then Some y.value else lookup k ys) ≡ Some d → total d ≤ top) →
-        (if b then Some y.value else lookup k (ys ++ x ∷ [])) ≡ Some c → total c ≤ top) [
+    (if b then Some y.value else lookup k (ys ++ x ∷ [])) ≡ Some c → total c ≤ top) [
       | true ↦ λ all is. all c is
       | false ↦ λ all is. sum-pushed k x ys new all c is
     ] old e
@@ -135,7 +135,7 @@ bump-fits by c fits =
     let s : ℕ = min by.success (top - (c.success + c.failure)) in
     let first : s ≤ top - (c.success + c.failure) = min-le_right by.success (top - (c.success + c.failure)) in
     let second : min by.failure (top - (c.success + s + c.failure)) ≤ top - (c.success + s + c.failure) =
-          min-le_right by.failure (top - (c.success + s + c.failure)) in
+    min-le_right by.failure (top - (c.success + s + c.failure)) in
     omega (arith, first, second, fits)
 
 pub counts-counted : (ct : Option Handle) (by : Count) (t : Table Count) → CountsOn t (counted ct by t)
@@ -156,7 +156,7 @@ pub entries-on : (old new : Table Count) (is : List (Option Index)) → Grows ol
     All (HasEntries (EntryIsLive new)) is
 entries-on old new is grows all =
     All-weaker (HasEntries (EntryIsLive old)) (HasEntries (EntryIsLive new))
-        (weaker-entries (EntryIsLive old) (EntryIsLive new) (λ x live. grows-or-none x.entry.ct old new grows live)) is all
+    (weaker-entries (EntryIsLive old) (EntryIsLive new) (λ x live. grows-or-none x.entry.ct old new grows live)) is all
 
 pub queues-on : (old new : Table Waiting) (is : List (Option Index)) → Grows old new → All (QueueIsLive old) is → All (QueueIsLive new) is
 queues-on old new is grows all = All-weaker (QueueIsLive old) (QueueIsLive new) (λ o live. grows-or-none (queue_of o) old new grows live)

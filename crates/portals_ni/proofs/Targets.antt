@@ -12,8 +12,8 @@ use Rattle.ni_model.specs.declared.IndexedHeader.{IndexedHeader}
 use Rattle.ni_model.specs.Counts.{successes}
 use Rattle.ni_model.specs.Headers.{allows, no_room, oldest, found_in}
 use Rattle.ni_model.specs.Arrive.{Parts, Received, received, refused, request, judged, accepted, chosen, is_overflow, counter_of}
-use Rattle.ni_model.specs.Append.{Appends, append, append_once, linked_as, take_all, overflow_counter, counted_by, fresh, next_handle,
-    search, searched_at, found_header}
+use Rattle.ni_model.specs.Append.{Appends, append, append_once, linked_as, take_all, overflow_counter, counted_by, fresh, next_handle}
+use Rattle.ni_model.specs.Append.{search, searched_at, found_header}
 use Rattle.ni_model.specs.Conditions.{IsPartIn, HasPartsIn}
 use Rattle.target_engine.proofs.Within.{chosen-within}
 use Rattle.portals_ni.proofs.Counts.{ChangesAt, changes-none, changes-counted, changes-each}
@@ -58,7 +58,7 @@ judged-keeps p m (Some f) all part =
     (if is_overflow f.list && no_room p.side.headers then received p (refused Dropped m.header) else accepted p m f)
     (received p (refused Violation m.header))
     (either (RequestKeeps p) (is_overflow f.list && no_room p.side.headers) (received p (refused Dropped m.header)) (accepted p m f)
-        (keeps-same p None all) (accepted-keeps p m f all (part f refl)))
+    (keeps-same p None all) (accepted-keeps p m f all (part f refl)))
     (keeps-same p None all)
 
 pub request-keeps : (p : Parts) (m : Sent) → All (HasPartsIn (length p.region)) p.side.indices → RequestKeeps p (request p m)
@@ -116,7 +116,7 @@ pub append-keeps : (slot pt : ℕ) (list : EntryList) (e : Entry) (p : Parts) �
 unfolding append
 append-keeps slot pt Priority e p all part =
     either (AppendKeeps p) e.use_once (append_once slot pt e p (oldest pt e p.side.headers.unexpected))
-        (linked_as slot pt Priority e (found_in pt e p.side.headers.unexpected) (take_all pt e p))
+    (linked_as slot pt Priority e (found_in pt e p.side.headers.unexpected) (take_all pt e p))
     (once-keeps slot pt e p (oldest pt e p.side.headers.unexpected) all part)
     (taken-keeps slot pt e p (found_in pt e p.side.headers.unexpected) refl all part)
 append-keeps slot pt Overflow e p all part = linked-keeps slot pt Overflow e p [] all part

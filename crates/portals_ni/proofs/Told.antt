@@ -1,6 +1,6 @@
 -- The pending operations are due by how far their counting events are.
-use Rattle.std.proofs.Common.{◌≡◌, ℕ, nat_le, Bool, true, false, List, [], ◌∷◌, Option, Some, None, is_some, if◌then◌else◌, refl, sym, ap,
-    ◌∙◌, arith}
+use Rattle.std.proofs.Common.{◌≡◌, ℕ, nat_le, Bool, true, false, List, [], ◌∷◌, Option, Some, None, is_some, if◌then◌else◌, refl, sym, ap}
+use Rattle.std.proofs.Common.{◌∙◌, arith}
 use Rattle.std.specs.Prelude.{All, map, option_map}
 use Rattle.std.proofs.lemmas.Bool.Decides.{nat_tests}
 use Rattle.std.proofs.lemmas.List.Elements.{All-head, All-tail, All-cons, All-nil}
@@ -38,7 +38,7 @@ anew : (h : Handle) (c : Count) (old new : Table Count) (w : Operation PostedOp)
     lookup h new.live ≡ Some c → IsTold old w → IsTold new (told_if (waits_on h) (total c) w)
 anew h c old new w changes now is =
     elim (same_handle w.ct h) as (λ b. same_handle w.ct h ≡ b →
-        IsTold new (record w { due = if b then nat_le w.threshold (total c) else w.due })) [
+    IsTold new (record w { due = if b then nat_le w.threshold (total c) else w.due })) [
       | true ↦ λ same. let e : w.ct ≡ h = same-is w.ct h same in ap (λ k. option_map (reaches w) (lookup k new.live)) e
           ∙ ap (option_map (reaches w)) now
       | false ↦ λ apart. stays (Some h) old new w changes is (same-sym h w.ct ∙ apart)
@@ -72,8 +72,8 @@ each-anew : (h : Handle) (c : Count) (old new : Table Count) (ws : List (Operati
 each-anew h c old new [] changes now all = All-nil (IsTold new)
 each-anew h c old new (w ∷ ws) changes now all =
     All-cons (IsTold new) (told_if (waits_on h) (total c) w) (map (told_if (waits_on h) (total c)) ws)
-        (anew h c old new w changes now (All-head (IsTold old) w ws all))
-        (each-anew h c old new ws changes now (All-tail (IsTold old) w ws all))
+    (anew h c old new w changes now (All-head (IsTold old) w ws all))
+    (each-anew h c old new ws changes now (All-tail (IsTold old) w ws all))
 
 at-told : (h : Handle) (o : Option Count) (old new : Table Count) (ops : Operations PostedOp) → ChangesAt (Some h) old new →
     lookup h new.live ≡ o → All (IsTold old) ops.waiting → All (IsTold new) (tell_at h o ops).waiting

@@ -1,6 +1,6 @@
 -- What pending operations name, as they come, go and are told.
-use Rattle.std.proofs.Common.{◌≡◌, ℕ, ◌+◌, ◌*◌, ◌<◌, ◌≤◌, ◌^◌, ◌-◌, ◌==◌, Bool, true, false, not, ◌||◌, nat_lt, List, [], ◌∷◌, ◌++◌, Option,
-    Some, None, map, filter, find, length, replicate, if◌then◌else◌, refl, ap, sym, subst, ◌∙◌, arith}
+use Rattle.std.proofs.Common.{◌≡◌, ℕ, ◌+◌, ◌*◌, ◌<◌, ◌≤◌, ◌^◌, ◌-◌, ◌==◌, Bool, true, false, not, ◌||◌, nat_lt, List, [], ◌∷◌, ◌++◌, Option}
+use Rattle.std.proofs.Common.{Some, None, map, filter, find, length, replicate, if◌then◌else◌, refl, ap, sym, subst, ◌∙◌, arith}
 use Rattle.std.specs.Prelude.{All, AllPairs, IfSome, sum_by, slice_get, option_map}
 use Rattle.std.proofs.lemmas.Bool.Decides.{nat_tests}
 use Rattle.std.proofs.lemmas.Option.{get_or_from_slice_get, slice_get_within}
@@ -14,18 +14,18 @@ use Rattle.ptl_types.specs.declared.calls.TriggeredOp.TheVariants.{Put, Get, Ato
 use Rattle.ptl_types.specs.Handles.{same_handle}
 use Rattle.ni_model.specs.Tables.{names}
 use Rattle.ni_model.specs.Refusals.{deed_names_ct, deed_names_md, operation_names_ct, operation_names_md}
-use Rattle.triggered_ops.specs.Operations.{Operation, Operations, is_number, waits_on, waiting_on, cancelled, shown, deed_of, told_if,
-    told_where, without_number, operation_at, no_operations, posted, posted_all}
+use Rattle.triggered_ops.specs.Operations.{Operation, Operations, is_number, waits_on, waiting_on, cancelled, shown, deed_of, told_if}
+use Rattle.triggered_ops.specs.Operations.{told_where, without_number, operation_at, no_operations, posted, posted_all}
 use Rattle.triggered_ops.proofs.Rising.{Rises, pairs-head, pairs-tail, length-filter_le}
 use Rattle.triggered_ops.proofs.Found.{find-behind}
 use Rattle.ni_objects.specs.users.Rows.{one_if_slot, one_at, count_at, incremented, decremented, more, fewer, Counts}
-use Rattle.ni_objects.proofs.users.RowLemmas.{counts-same, counts-none, counts-incremented, counts-decremented, counts-more, counts-fewer,
-    counts-at_most, add-room, one-at_most, names-step}
+use Rattle.ni_objects.proofs.users.RowLemmas.{counts-same, counts-none, counts-incremented, counts-decremented, counts-more, counts-fewer}
+use Rattle.ni_objects.proofs.users.RowLemmas.{counts-at_most, add-room, one-at_most, names-step}
 use Rattle.portals_ni.specs.declared.armed.PostedOp.{PostedOp}
 use Rattle.portals_ni.specs.Answers.{deed_counter}
 use Rattle.portals_ni.specs.Pendings.{deed_in}
-use Rattle.portals_ni.specs.Uses.{put_md, get_md, ct_uses, md_uses, AreUsed, cts_with, mds_with, cts_without, mds_without, CtsAlone,
-    MdsAlone}
+use Rattle.portals_ni.specs.Uses.{put_md, get_md, ct_uses, md_uses, AreUsed, cts_with, mds_with, cts_without, mds_without, CtsAlone}
+use Rattle.portals_ni.specs.Uses.{MdsAlone}
 
 abbrev Op : Type 0
 Op = Operation PostedOp
@@ -44,7 +44,7 @@ none-without : (t : ℕ) (ws : List Op) → find (is_number t) ws ≡ None → f
 none-without t [] e = refl
 none-without t (w ∷ ws) e =
     elim (w.number == t) as (λ b. (if b then Some w else find (is_number t) ws) ≡ None →
-        (if not b then w ∷ filter (λ p. not (is_number t p)) ws else filter (λ p. not (is_number t p)) ws) ≡ w ∷ ws) [
+    (if not b then w ∷ filter (λ p. not (is_number t p)) ws else filter (λ p. not (is_number t p)) ws) ≡ w ∷ ws) [
       | true ↦ λ f. cc
       | false ↦ λ f. ap (λ (xs : List Op). w ∷ xs) (none-without t ws f)
     ] e
@@ -58,7 +58,7 @@ uses-without f t [] w all e = cc
 uses-without f t (x ∷ xs) w all e =
     let rest : List Op = filter (λ p. not (is_number t p)) xs in
     elim (x.number == t) as (λ b. (x.number == t) ≡ b → (if b then Some x else find (is_number t) xs) ≡ Some w →
-        sum_by f (x ∷ xs) ≡ sum_by f (if not b then x ∷ rest else rest) + f w) [
+    sum_by f (x ∷ xs) ≡ sum_by f (if not b then x ∷ rest else rest) + f w) [
       | true ↦ λ is g.
           let same : x ≡ w = cc in
           let gone : rest ≡ xs = none-without t xs (find-behind t x xs (same-number x.number t is) (pairs-head Rises x xs all)) in
@@ -93,14 +93,14 @@ module _ (f g : ℕ → ℕ) (row : List ℕ) (c : Counts f row) where
   cts-come ct d up =
       let first = λ (k : ℕ). f k + one_if_slot ct.slot k in
       counts-more first g (incremented ct.slot row) (counts-incremented f first row c ct.slot (λ k. refl)) (deed_counter d)
-          (λ k. omega (arith, up k))
+      (λ k. omega (arith, up k))
 
   cts-go : (ct : Handle) (d : TriggeredOp) → ((k : ℕ) → f k ≡ g k + (one_if_slot ct.slot k + one_at (deed_counter d) k)) →
       Counts g (cts_without ct d row)
   cts-go ct d down =
       let first = λ (k : ℕ). g k + one_at (deed_counter d) k in
       counts-fewer first g (decremented ct.slot row) (counts-decremented f first row c ct.slot (λ k. omega (arith, down k)))
-          (deed_counter d) (λ k. refl)
+      (deed_counter d) (λ k. refl)
 
   mds-come : (d : TriggeredOp) → ((k : ℕ) → g k ≡ f k + (one_at (get_md d) k + one_at (put_md d) k)) → Counts g (mds_with d row)
   mds-come d up =
@@ -111,7 +111,7 @@ module _ (f g : ℕ → ℕ) (row : List ℕ) (c : Counts f row) where
   mds-go d down =
       let first = λ (k : ℕ). g k + one_at (put_md d) k in
       counts-fewer first g (fewer (get_md d) row) (counts-fewer f first row c (get_md d) (λ k. omega (arith, down k))) (put_md d)
-          (λ k. refl)
+      (λ k. refl)
 
 pub used-posted : (ops new : Operations PostedOp) (w : Op) (cts mds : List ℕ) → AreUsed ops cts mds →
     new.waiting ≡ ops.waiting ++ w ∷ [] → AreUsed new (cts_with w.ct w.deed.deed cts) (mds_with w.deed.deed mds)
@@ -162,7 +162,7 @@ less-left t [] w e = cc
 less-left t (x ∷ xs) w e =
     let rest : List Op = filter (λ p. not (is_number t p)) xs in
     elim (x.number == t) as (λ b. (if b then Some x else find (is_number t) xs) ≡ Some w →
-        length (if not b then x ∷ rest else rest) < length (x ∷ xs)) [
+    length (if not b then x ∷ rest else rest) < length (x ∷ xs)) [
       | true ↦ λ f. omega (arith, length-filter_le (λ (p : Op). not (is_number t p)) xs)
       | false ↦ λ f. omega (arith, less-left t xs w f)
     ] e
@@ -184,7 +184,7 @@ others-same ct t [] all e = refl
 others-same ct t (x ∷ xs) all e =
     let rest : List Op = filter (λ p. not (is_number t p)) xs in
     elim (x.number == t) as (λ b. (x.number == t) ≡ b → option_map (waits_on ct) (if b then Some x else find (is_number t) xs) ≡ Some true
-        → others ct (if not b then x ∷ rest else rest) ≡ others ct (x ∷ xs)) [
+    → others ct (if not b then x ∷ rest else rest) ≡ others ct (x ∷ xs)) [
       | true ↦ λ is f.
           let waits : waits_on ct x ≡ true = cc in
           let gone : rest ≡ xs = none-without t xs (find-behind t x xs (same-number x.number t is) (pairs-head Rises x xs all)) in
@@ -205,7 +205,7 @@ others-all : (ct : Handle) (ws : List Op) → filter (waits_on ct) ws ≡ [] →
 others-all ct [] e = refl
 others-all ct (x ∷ xs) e =
     elim (waits_on ct x) as (λ b. (if b then x ∷ filter (waits_on ct) xs else filter (waits_on ct) xs) ≡ [] →
-        (if not b then x ∷ others ct xs else others ct xs) ≡ x ∷ xs) [
+    (if not b then x ∷ others ct xs else others ct xs) ≡ x ∷ xs) [
       | true ↦ λ f. cc
       | false ↦ λ f. ap (λ (ws : List Op). x ∷ ws) (others-all ct xs f)
     ] e
@@ -228,29 +228,32 @@ md-at_most k w = omega (arith, one-at_most (get_md w.deed.deed) k, one-at_most (
 pub room-raise : (ops : Operations PostedOp) (cts mds : List ℕ) (ct : Handle) → AreUsed ops cts mds → length ops.waiting < 2 ^ 32 →
     count_at ct.slot cts < 2 ^ 64 - 1
 room-raise ops cts mds ct u small =
-    omega (arith, counts-at_most (λ k. sum_by (ct_uses k) ops.waiting) (2 * length ops.waiting) ct.slot cts u.counters
-        (uses-at_most (ct_uses ct.slot) ops.waiting (ct-at_most ct.slot)))
+    omega (
+      arith,
+      counts-at_most (λ k. sum_by (ct_uses k) ops.waiting) (2 * length ops.waiting) ct.slot cts u.counters
+          (uses-at_most (ct_uses ct.slot) ops.waiting (ct-at_most ct.slot)),
+    )
 
 pub room-counter : (ops : Operations PostedOp) (cts mds : List ℕ) (ct : Handle) (o : Option Handle) → AreUsed ops cts mds →
     length ops.waiting < 2 ^ 32 → IfSome o (λ h. count_at h.slot (incremented ct.slot cts) < 2 ^ 64 - 1)
 room-counter ops cts mds ct o u small =
     let first = λ (k : ℕ). sum_by (ct_uses k) ops.waiting + one_if_slot ct.slot k in
     add-room first (2 * length ops.waiting + 1) (incremented ct.slot cts) o
-        (counts-incremented (λ k. sum_by (ct_uses k) ops.waiting) first cts u.counters ct.slot (λ k. refl))
+    (counts-incremented (λ k. sum_by (ct_uses k) ops.waiting) first cts u.counters ct.slot (λ k. refl))
     (λ k. omega (arith, uses-at_most (ct_uses k) ops.waiting (ct-at_most k), one-at_most (Some ct) k)) (omega arith)
 
 pub room-get : (ops : Operations PostedOp) (cts mds : List ℕ) (o : Option Handle) → AreUsed ops cts mds → length ops.waiting < 2 ^ 32 →
     IfSome o (λ h. count_at h.slot mds < 2 ^ 64 - 1)
 room-get ops cts mds o u small =
     add-room (λ k. sum_by (md_uses k) ops.waiting) (2 * length ops.waiting) mds o u.descriptors
-        (λ k. uses-at_most (md_uses k) ops.waiting (md-at_most k)) (omega arith)
+    (λ k. uses-at_most (md_uses k) ops.waiting (md-at_most k)) (omega arith)
 
 pub room-put : (ops : Operations PostedOp) (cts mds : List ℕ) (p o : Option Handle) → AreUsed ops cts mds → length ops.waiting < 2 ^ 32 →
     IfSome o (λ h. count_at h.slot (more p mds) < 2 ^ 64 - 1)
 room-put ops cts mds p o u small =
     let first = λ (k : ℕ). sum_by (md_uses k) ops.waiting + one_at p k in
     add-room first (2 * length ops.waiting + 1) (more p mds) o (counts-more (λ k. sum_by (md_uses k) ops.waiting) first mds u.descriptors
-        p (λ k. refl))
+    p (λ k. refl))
     (λ k. omega (arith, uses-at_most (md_uses k) ops.waiting (md-at_most k), one-at_most p k)) (omega arith)
 
 -- ---- what is named is what is counted
@@ -289,7 +292,7 @@ ops-name-ct ct (w ∷ ws) all =
     let rest : Bool = operation_names_ct ct (map (posted deed_in) ws) in
     let n : ℕ = sum_by (ct_uses ct.slot) ws in
     let whole : one_at (Some w.ct) ct.slot + (one_at (deed_counter w.deed.deed) ct.slot + n) ≡ sum_by (ct_uses ct.slot) (w ∷ ws) =
-          omega (arith, sum_by-cons (ct_uses ct.slot) w ws) in
+    omega (arith, sum_by-cons (ct_uses ct.slot) w ws) in
     ap (λ b. (same_handle w.ct ct || b) || rest) (counter-named ct w.deed.deed)
     ∙ or-both (same_handle w.ct ct) (names (deed_counter w.deed.deed) ct) rest
     ∙ names-step ct (Some w.ct) (names (deed_counter w.deed.deed) ct || rest) (one_at (deed_counter w.deed.deed) ct.slot + n) alone.0
@@ -304,7 +307,7 @@ ops-name-md md (w ∷ ws) all =
     let rest : Bool = operation_names_md md (map (posted deed_in) ws) in
     let n : ℕ = sum_by (md_uses md.slot) ws in
     let whole : one_at (get_md w.deed.deed) md.slot + (one_at (put_md w.deed.deed) md.slot + n) ≡ sum_by (md_uses md.slot) (w ∷ ws) =
-          omega (arith, sum_by-cons (md_uses md.slot) w ws) in
+    omega (arith, sum_by-cons (md_uses md.slot) w ws) in
     ap (λ b. b || rest) (mds-named md w.deed.deed)
     ∙ or-both (names (get_md w.deed.deed) md) (names (put_md w.deed.deed) md) rest
     ∙ names-step md (get_md w.deed.deed) (names (put_md w.deed.deed) md || rest) (one_at (put_md w.deed.deed) md.slot + n) alone.0
@@ -315,12 +318,12 @@ pub used-ct : (ct : Handle) (n : ℕ) (ops : Operations PostedOp) (cts mds : Lis
     slice_get cts ct.slot ≡ Some n → All (CtsAlone ct) ops.waiting → nat_lt 0 n ≡ operation_names_ct ct (posted_all deed_in ops).waiting
 used-ct ct n ops cts mds u at all =
     let uses : n ≡ sum_by (ct_uses ct.slot) ops.waiting = sym (get_or_from_slice_get cts ct.slot n 0 at)
-          ∙ u.counters ct.slot (slice_get_within cts ct.slot n at) in
+    ∙ u.counters ct.slot (slice_get_within cts ct.slot n at) in
     ap (λ m. nat_lt 0 m) uses ∙ sym (ops-name-ct ct ops.waiting all)
 
 pub used-md : (md : Handle) (n : ℕ) (ops : Operations PostedOp) (cts mds : List ℕ) → AreUsed ops cts mds →
     slice_get mds md.slot ≡ Some n → All (MdsAlone md) ops.waiting → nat_lt 0 n ≡ operation_names_md md (posted_all deed_in ops).waiting
 used-md md n ops cts mds u at all =
     let uses : n ≡ sum_by (md_uses md.slot) ops.waiting = sym (get_or_from_slice_get mds md.slot n 0 at)
-          ∙ u.descriptors md.slot (slice_get_within mds md.slot n at) in
+    ∙ u.descriptors md.slot (slice_get_within mds md.slot n at) in
     ap (λ m. nat_lt 0 m) uses ∙ sym (ops-name-md md ops.waiting all)

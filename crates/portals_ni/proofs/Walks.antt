@@ -1,6 +1,6 @@
 -- A walk over the pending operations, and what it tells of what they name.
-use Rattle.std.proofs.Common.{◌≡◌, ℕ, ◌+◌, ◌<◌, ◌≤◌, ◌==◌, nat_lt, Bool, true, false, ◌||◌, List, [], ◌∷◌, Some, Result, Ok, Err, find,
-    length, if◌then◌else◌, refl, sym, ap, subst, ◌∙◌, arith}
+use Rattle.std.proofs.Common.{◌≡◌, ℕ, ◌+◌, ◌<◌, ◌≤◌, ◌==◌, nat_lt, Bool, true, false, ◌||◌, List, [], ◌∷◌, Some, Result, Ok, Err, find}
+use Rattle.std.proofs.Common.{length, if◌then◌else◌, refl, sym, ap, subst, ◌∙◌, arith}
 use Rattle.std.specs.Prelude.{All, map, option_map, OnErr, IfOk}
 use Rattle.std.proofs.lemmas.Bool.Decides.{nat_tests}
 use Rattle.std.proofs.lemmas.List.Elements.{All-head, All-tail, All-cons, All-nil}
@@ -63,18 +63,18 @@ walk-next f from n a h th [] below alone none = All-nil (λ (q : Operation Poste
 walk-next f from n a h th (w ∷ ws) below alone none =
     All-cons (λ (q : Operation PostedOp). q.number < n + 1 → f q.deed q.ct ≡ false) w ws
     (walk-one f from n a h th w (All-head (λ (q : Operation PostedOp). q.number < from → f q.deed q.ct ≡ false) w ws below)
-        (All-head (λ (q : Operation PostedOp). from ≤ q.number → q.number ≤ n → numbered q ≡ (n, a, h, th)) w ws alone) none)
+    (All-head (λ (q : Operation PostedOp). from ≤ q.number → q.number ≤ n → numbered q ≡ (n, a, h, th)) w ws alone) none)
     (walk-next f from n a h th ws (All-tail (λ (q : Operation PostedOp). q.number < from → f q.deed q.ct ≡ false) w ws below)
-        (All-tail (λ (q : Operation PostedOp). from ≤ q.number → q.number ≤ n → numbered q ≡ (n, a, h, th)) w ws alone) none)
+    (All-tail (λ (q : Operation PostedOp). from ≤ q.number → q.number ≤ n → numbered q ≡ (n, a, h, th)) w ws alone) none)
 
 pub walk-end : (f : Test) (from : ℕ) (ws : List (Operation PostedOp)) → NoneBelow f from ws →
     All (λ (q : Operation PostedOp). q.number < from) ws → some_op f ws ≡ false
 walk-end f from [] below all = refl
 walk-end f from (w ∷ ws) below all =
     let first : f w.deed w.ct ≡ false = All-head (λ (q : Operation PostedOp). q.number < from → f q.deed q.ct ≡ false) w ws below
-          (All-head (λ (q : Operation PostedOp). q.number < from) w ws all) in
+    (All-head (λ (q : Operation PostedOp). q.number < from) w ws all) in
     let rest : some_op f ws ≡ false = walk-end f from ws (All-tail (λ (q : Operation PostedOp). q.number < from → f q.deed q.ct ≡ false) w
-          ws below) (All-tail (λ (q : Operation PostedOp). q.number < from) w ws all) in
+    ws below) (All-tail (λ (q : Operation PostedOp). q.number < from) w ws all) in
     rw (first, rest) refl
 
 or-true : (a : Bool) → a || true ≡ true
@@ -86,7 +86,7 @@ pub walk-found : (f : Test) (t : ℕ) (a : PostedOp) (h : Handle) (th : ℕ) (ws
 walk-found f t a h th [] e is = cc
 walk-found f t a h th (w ∷ ws) e is =
     elim (w.number == t) as (λ b. option_map numbered (if b then Some w else find (is_number t) ws) ≡ Some (t, a, h, th) →
-        some_op f (w ∷ ws) ≡ true) [
+    some_op f (w ∷ ws) ≡ true) [
       | true ↦ λ e.
           let same : numbered w ≡ (t, a, h, th) = cc in
           let P : ℕ × PostedOp × Handle × ℕ → Type 0 = λ p. f p.1 p.2 ≡ true in
@@ -123,8 +123,13 @@ armed-without md mds ranks limits (w ∷ ws) none all =
     let apart = neither (deed_names_md md w.deed.deed) (operation_names_md md (map (posted deed_in) ws)) none in
     let is : IsArmed mds ranks limits w.deed = All-head (λ (v : Operation PostedOp). IsArmed mds ranks limits v.deed) w ws all in
     All-cons (λ (v : Operation PostedOp). IsArmed (without md mds) ranks limits v.deed) w ws
-    (record { fits = fits-on (λ k. same_handle k md) mds (without md mds) w.deed.deed (holds-without md mds)
-        (sym (skips-md md w.deed.deed) ∙ apart.0) is.fits; may = is.may; room = is.room; counts = is.counts })
+    (record {
+      fits = fits-on (λ k. same_handle k md) mds (without md mds) w.deed.deed (holds-without md mds)
+          (sym (skips-md md w.deed.deed) ∙ apart.0) is.fits;
+      may = is.may;
+      room = is.room;
+      counts = is.counts;
+    })
     (armed-without md mds ranks limits ws apart.1 (All-tail (λ (v : Operation PostedOp). IsArmed mds ranks limits v.deed) w ws all))
 
 pub released-sound : (t : Side) (r : List ℕ) (c : Table Count) (i : Initiating) (ops : Operations PostedOp) (md : Handle) →

@@ -7,7 +7,7 @@ ghost use Rattle.portals_ni.specs.Pendings.{told_by, sum_at};
 use crate::triggers::Triggers;
 use ni_objects::counters::Counter;
 use ni_objects::handles::Store;
-use ptl_types::{Bytes, TriggeredOp, Handle};
+use ptl_types::{Bytes, Handle, TriggeredOp};
 
 /// A triggered operation's deed, and the room for its bytes.
 #[derive(Drop)]

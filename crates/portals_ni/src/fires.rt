@@ -1,7 +1,8 @@
 //! Which triggered operations are ready, and what firing one does (Portals 4.3, triggered operations).
 
 ghost use Rattle.std.specs.Prelude.{◌≡◌, ◌<◌, IsTrue, Some, false, length, slice_get};
-ghost use Rattle.ni_model.specs.Ready.{is_ready, is_rank, fired, fires, posted_at, ready_numbers, ready_numbers_to, target_at, message_target, target_of};
+ghost use Rattle.ni_model.specs.Ready.{is_ready, is_rank, fired, fires, posted_at, ready_numbers, ready_numbers_to, target_at};
+ghost use Rattle.ni_model.specs.Ready.{message_target, target_of};
 ghost use Rattle.ni_model.specs.Refusals.{deed_passes};
 ghost use Rattle.ni_model.specs.Calls.{AnswersReady};
 ghost use Rattle.triggered_ops.specs.Operations.{posted_all, IsKept};
@@ -16,7 +17,7 @@ use crate::starts::is_start;
 use ni_objects::counters::Counter;
 use ni_objects::delivery::count;
 use ni_objects::handles::Store;
-use ptl_types::{TriggeredOp, Handle, Message, Rank};
+use ptl_types::{Handle, Message, Rank, TriggeredOp};
 use target_engine::SpareBuffers;
 use triggered_ops::Pending;
 

@@ -71,5 +71,7 @@ mod tables;
 mod triggers;
 
 pub use nic::{Nic, fit};
-pub use ptl_types::{Appended, TriggeredOp, Delivered, EqGot, GetArgs, Limits, NiFault, Outcome, PutArgs};
+pub use ptl_types::{
+    Appended, Delivered, EqGot, GetArgs, Limits, NiFault, Outcome, PutArgs, TriggeredOp,
+};
 pub use target_engine::SpareBuffers;

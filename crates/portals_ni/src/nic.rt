@@ -7,11 +7,11 @@ ghost use Rattle.portals_ni.specs.Fit.{FitLimits};
 ghost use Rattle.portals_ni.specs.Lasting.{HasLimits, Lasts};
 
 use crate::triggers::Triggers;
-use ni_objects::counters::Counter;
-use ni_objects::queues::Queue;
-use ni_objects::handles::Store;
 use initiator_engine::Initiator;
+use ni_objects::counters::Counter;
 use ni_objects::descriptors::Region;
+use ni_objects::handles::Store;
+use ni_objects::queues::Queue;
 use ptl_types::{Bytes, Limits, NoMemory, Rank};
 use std::alloc::Global;
 use std::marker::Model;

@@ -4,7 +4,9 @@ ghost use Rattle.std.specs.Prelude.{◌≡◌, IfOk};
 ghost use Rattle.portals_ni.specs.Forms.{form_deed};
 
 use crate::armed::PostedOp;
-use ptl_types::{AtomicOp, Bytes, Count, TriggeredOp, ElemType, GetArgs, Handle, NoMemory, PutArgs};
+use ptl_types::{
+    AtomicOp, Bytes, Count, ElemType, GetArgs, Handle, NoMemory, PutArgs, TriggeredOp,
+};
 use std::alloc::Global;
 use std::marker::Model;
 

@@ -8,8 +8,8 @@ ghost use Rattle.portals_ni.specs.Answers.{MakesIfMemory, event_taken};
 
 use crate::nic::Nic;
 use crate::tables::make;
-use ni_objects::queues::Queue;
 use ni_objects::handles::Store;
+use ni_objects::queues::Queue;
 use ptl_types::{EqGot, Handle, NiFault};
 
 /// The oldest event of a queue, unless one was lost.
@@ -28,7 +28,8 @@ impl Nic {
     /// limit are allocated or all 2^64 - 1 stamps were given, `NoMemory` for its room. Condition: the room is at least 1.
     pub fn eq_alloc(&mut self, room: u32) -> Result<Handle, NiFault>
         requires { 1 ≤ room }
-        ensures makes { MakesIfMemory (λ slot. has_slot slot self.old.eqs.live) (λ slot. eq_alloc slot room self.old) self.old (ends self.new result) }
+        ensures makes { MakesIfMemory (λ slot. has_slot slot self.old.eqs.live) (λ slot. eq_alloc slot room self.old) self.old
+            (ends self.new result) }
         ensures slot { IfOk result (λ h. h.slot < self.old.limits.eqs) }
     {
         if self.eqs.is_full() {

@@ -14,11 +14,12 @@ ghost use Rattle.portals_ni.specs.Answers.{as_started};
 use crate::armed::{PostedOp, sum_of, tell};
 use crate::nic::Nic;
 use crate::packed::Packed;
+use initiator_engine::Initiator;
 use ni_objects::counters::Counter;
 use ni_objects::handles::Store;
-use initiator_engine::Initiator;
 use ptl_types::{
-    AtomicOp, Bytes, Count, TriggeredOp, ElemType, GetArgs, Handle, Message, NiFault, PutArgs, SwapOp,
+    AtomicOp, Bytes, Count, ElemType, GetArgs, Handle, Message, NiFault, PutArgs, SwapOp,
+    TriggeredOp,
 };
 use triggered_ops::Pending;
 
@@ -187,7 +188,12 @@ impl Nic {
     /// on. `Stale` where the counting event or a thing that the deed names isn't live, `NoSpace` where as many as the limit are
     /// pending or all 2^32 - 1 numbers were given, `OutOfRegion` as in a put, `CountFull` where the two numbers of an increment
     /// or a set together pass 2^64 - 1, `NoMemory`. Conditions: those of the plain operation.
-    pub fn triggered(&mut self, deed: TriggeredOp, ct: Handle, threshold: u64) -> Result<u32, NiFault>
+    pub fn triggered(
+        &mut self,
+        deed: TriggeredOp,
+        ct: Handle,
+        threshold: u64,
+    ) -> Result<u32, NiFault>
         requires { MayStart deed self.old.ranks self.old.limits }
         ensures does { MayLackMemory (triggered deed ct threshold self.old) self.old (ends self.new result) }
     {
@@ -203,7 +209,10 @@ impl Nic {
             Err(_) => return Err(NiFault::NoMemory),
         };
         let sum = sum_of(&self.cts, ct);
-        let number = match self.pending.post(PostedOp { deed, room }, ct, threshold, sum) {
+        let number = match self
+            .pending
+            .post(PostedOp { deed, room }, ct, threshold, sum)
+        {
             Ok(number) => number,
             Err(_) => return Err(NiFault::NoMemory),
         };

@@ -3,7 +3,8 @@
 ghost use Rattle.std.specs.Prelude.{◌≡◌, ◌<◌, ◌-◌, ◌^◌, ◌||◌, None, IfNone, IfOk, OnOk, OnErr, All, length, option_map};
 ghost use Rattle.ptl_types.specs.Handles.{same_handle};
 ghost use Rattle.ni_model.specs.Refusals.{deed_names_ct, deed_names_md, operation_names_md, operation_names_ct};
-ghost use Rattle.triggered_ops.specs.Operations.{no_operations, operation_at, deed_of, with_posted, told, without_number, waiting_on, cancelled, posted_all};
+ghost use Rattle.triggered_ops.specs.Operations.{no_operations, operation_at, deed_of, with_posted, told, without_number, waiting_on};
+ghost use Rattle.triggered_ops.specs.Operations.{cancelled, posted_all};
 ghost use Rattle.portals_ni.specs.Answers.{deed_counter};
 ghost use Rattle.portals_ni.specs.Fit.{FitLimits};
 ghost use Rattle.portals_ni.specs.Pendings.{deed_in};
@@ -11,11 +12,11 @@ ghost use Rattle.portals_ni.specs.Uses.{put_md, get_md, AreUsed, CtsAlone, MdsAl
 
 use crate::armed::PostedOp;
 use crate::packed::Packed;
-use ptl_types::{TriggeredOp, Handle, Limits, NoMemory};
+use ni_objects::users::Users;
+use ptl_types::{Handle, Limits, NoMemory, TriggeredOp};
 use std::alloc::Global;
 use std::marker::Model;
 use triggered_ops::Pending;
-use ni_objects::users::Users;
 
 /// The pending operations. `cts` and `mds` count by slot how often they name a counting event and a descriptor.
 #[derive(Drop)]

@@ -33,7 +33,7 @@ done-short : (task : Task) (ran : Ran) (text : List ℕ) → (due_of task.comman
 done-short task ran text done =
     short-text LONGEST_TEXT text (λ long.
     let refused : Refused ≡ Done = subst (λ r. (due_of task.command ran r).status ≡ Done) (read-long task.format text long) done in
-        absurd (cc))
+    absurd (cc))
 
 -- what stays in the source
 pub leaves : (longest : ℕ) (owed status : Status) (text : List ℕ) (source source' : Inflow)
@@ -50,20 +50,20 @@ leaves longest owed NoMemory text source source' told short allowed = tt
 pub answered-read : (task : Task) (text : List ℕ) (source source' : Inflow) (sink sink' : Outflow) (ran : Ran) (status : Status)
     (told : Told LONGEST_TEXT source.left source'.left text)
     → Written (due_of task.command ran (read_as task.format text)) sink sink' status →
-        HandsBack status (due_of task.command ran (read_as task.format text)).status (LeavesOf task.command (read_as task.format text)) ran
+    HandsBack status (due_of task.command ran (read_as task.format text)).status (LeavesOf task.command (read_as task.format text)) ran
     → Answered (Some task) told.bytes source source' sink sink' ran status
 answered-read task text source source' sink sink' ran status told written handed = let same =
-                                                                                         sym (same-read task.format told.bytes text
-                                                                                         told.alike) in record {
-  allowed = subst (λ r. MayAnswer status (due_of task.command ran r).status) same written.allowed;
-  read_fault = λ is. absurd (written.no_read is);
-  write_fault = λ is. (subst (λ s. Stands s sink sink' (due_of task.command ran (read_as task.format text)).text) is written.text).rose;
-  text = subst (λ r. Stands status sink sink' (due_of task.command ran r).text) same written.text;
-  rest = leaves LONGEST_TEXT (due_of task.command ran (read_as task.format text)).status status text source source' told
-      (done-short task ran text) written.allowed;
-  untouched = λ is. absurd (cc);
-  world = subst (λ r. HandsBack status (due_of task.command ran r).status (LeavesOf task.command r) ran) same handed;
-}
+    sym (same-read task.format told.bytes text
+    told.alike) in record {
+      allowed = subst (λ r. MayAnswer status (due_of task.command ran r).status) same written.allowed;
+      read_fault = λ is. absurd (written.no_read is);
+      write_fault = λ is. (subst (λ s. Stands s sink sink' (due_of task.command ran (read_as task.format text)).text) is written.text).rose;
+      text = subst (λ r. Stands status sink sink' (due_of task.command ran r).text) same written.text;
+      rest = leaves LONGEST_TEXT (due_of task.command ran (read_as task.format text)).status status text source source' told
+          (done-short task ran text) written.allowed;
+      untouched = λ is. absurd (cc);
+      world = subst (λ r. HandsBack status (due_of task.command ran r).status (LeavesOf task.command r) ran) same handed;
+    }
 
 compiled-owed : (command : Command) (o : Outline) (inputs : Lists) (ran : Option WorldState) (r : Option Excessive) →
     (due_compiled command o inputs ran r).status ≢ Usage
@@ -171,7 +171,7 @@ no-world leaves NoMemory owed none = refl
 pub no-world-excess : (leaves : Ran → Type 0) (command : Command) (o : Outline) (inputs : Lists) (ran : Option WorldState)
     (r : Option Excessive) (status : Status)
     → MayAnswer status (due_compiled command o inputs ran r).status → (r ≡ None → status ≡ NoMemory) →
-        HandsBack status (due_compiled command o inputs ran r).status leaves nothing_ran
+    HandsBack status (due_compiled command o inputs ran r).status leaves nothing_ran
 no-world-excess leaves command o inputs ran None status allowed memory = subst (λ s. HandsBack s Done leaves nothing_ran)
     (sym (memory refl)) refl
 no-world-excess leaves command o inputs ran (Some r) status allowed memory = no-world-refused leaves status allowed
@@ -180,7 +180,7 @@ no-world-excess leaves command o inputs ran (Some r) status allowed memory = no-
 pub excess-owed : (o : Outline) (k : ℕ) (name : Excess) (r : Option Excessive) → r ≡ Some (record { step = k; name = name }) →
     (command : Command) (inputs : Lists) (ran : Option WorldState)
     (sink sink' : Outflow) (status : Status) → Written (refused (step_line o k) (excess_name name)) sink sink' status →
-        Written (due_compiled command o inputs ran r) sink sink' status
+    Written (due_compiled command o inputs ran r) sink sink' status
 excess-owed o k name r is command inputs ran sink sink' status written =
     subst (λ x. Written (due_compiled command o inputs ran x) sink sink' status) (sym is) written
 
@@ -196,7 +196,7 @@ memory-owed o r is command inputs ran sink = record {
 pub plan-owed : (o : Outline) (r : Option Excessive) (plan : Drawn) → r ≡ None → plan ≡ plan_of o →
     (inputs : Lists) (ran : Option WorldState)
     (sink sink' : Outflow) (status : Status) → Written (done (plan_text plan)) sink sink' status →
-        Written (due_compiled Plan o inputs ran r) sink sink' status
+    Written (due_compiled Plan o inputs ran r) sink sink' status
 plan-owed o r plan is same inputs ran sink sink' status written =
     subst (λ x. Written (due_compiled Plan o inputs ran x) sink sink' status) (sym is)
     (subst (λ p. Written (done (plan_text p)) sink sink' status) same written)

@@ -67,14 +67,14 @@ module _ (crew : Crew) (job : JobOf) (ran : Ran) (sink sink' : Outflow) (status 
   of-job : (mode : Mode) (o : Outline) (inputs : Lists) (j : JobOf) → mode ≡ mode_of crew → job ≡ j →
       j ≡ record { shape = o; inputs = inputs }
       → Written (done (mode_text mode o inputs ran.world)) sink sink' status × HandsBack status Done (LeavesWorld (Execute mode) o inputs)
-          ran
+      ran
   of-job mode o inputs j same is parts =
       subst (λ m. Written (done (mode_text m o inputs ran.world)) sink sink' status ×
-          HandsBack status Done (LeavesWorld (Execute m) o inputs) ran)
+      HandsBack status Done (LeavesWorld (Execute m) o inputs) ran)
       (sym same)
       (subst (λ (x : JobOf). Written (done (mode_text (mode_of crew) x.shape x.inputs ran.world)) sink sink' status
       × HandsBack status Done (LeavesWorld (Execute (mode_of crew)) x.shape x.inputs) ran) (subst (λ x. job ≡ x) parts is)
-          (written, handed))
+      (written, handed))
 
   of-compiled : (c : Command) (o : Outline) (inputs : Lists) (r : Option Excessive) → IsLeft c o inputs r crew job
       → Written (due_compiled c o inputs ran.world r) sink sink' status

@@ -30,7 +30,7 @@ written-verdict : (v : Verdict) (status : Status) (sink sink' : Outflow) → sta
     → Ends sink sink' (due_verdict (Some v)).text → Written (due_verdict (Some v)) sink sink' status
 written-verdict Holds status sink sink' is ends =
     subst (λ s. Written (due_verdict (Some Holds)) sink sink' s) (sym is)
-        (record { allowed = refl; no_read = λ e. absurd (cc); text = ends })
+    (record { allowed = refl; no_read = λ e. absurd (cc); text = ends })
 written-verdict (Fails r place cause) status sink sink' is ends =
     subst (λ s. Written (due_verdict (Some (Fails r place cause))) sink sink' s) (sym is)
     (record { allowed = refl; no_read = λ e. absurd (cc); text = ends })
@@ -90,7 +90,7 @@ judged-refused o inputs orders (Some r) command given ran sink sink' status writ
 pub judged-text : (text : List ℕ) (d : Program) (orders : List (List LocalStep)) (sink sink' : Outflow) (status : Status)
     → read_check text ≡ Ok (d, orders)
     → Judges (λ found. due_judged d.shape found (refusal d.shape)) (λ found. FindsFor d.shape d.inputs orders (refusal d.shape) found)
-        sink sink' status
+    sink sink' status
     → Judges (λ found. due_checked found (read_check text)) (λ found. FindsIn (read_check text) found) sink sink' status
 judged-text text d orders sink sink' status is j =
     subst (λ r. Judges (λ found. due_checked found r) (λ found. FindsIn r found) sink sink' status) (sym is) j
@@ -125,7 +125,7 @@ text-no_memory text sink =
 check-short : (found : Option Verdict) (text : List ℕ) → (due_checked found (read_check text)).status ≡ Done → length text ≤ LONGEST_CHECK
 check-short found text done =
     short-text LONGEST_CHECK text (λ long. let refused : Refused ≡ Done = subst (λ r. (due_checked found r).status ≡ Done)
-                                                 (check-long text long) done in absurd (cc))
+    (check-long text long) done in absurd (cc))
 
 pub checked-read : (text : List ℕ) (source source' : Inflow) (sink sink' : Outflow) (status : Status)
     (told : Told LONGEST_CHECK source.left source'.left text)

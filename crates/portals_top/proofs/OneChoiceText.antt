@@ -1,6 +1,6 @@
 -- What `sim` writes of a choice text is that of each run that the seed's words choose; so of any bytes it is one text.
-use Rattle.std.proofs.Common.{◌≡◌, ◌<◌, ℕ, List, ◌++◌, map, flat_map, Option, Some, None, Result, Ok, Err, refl, sym, ◌∙◌, ap, ap₂, subst,
-    arith}
+use Rattle.std.proofs.Common.{◌≡◌, ◌<◌, ℕ, List, ◌++◌, map, flat_map, Option, Some, None, Result, Ok, Err, refl, sym, ◌∙◌, ap, ap₂, subst}
+use Rattle.std.proofs.Common.{arith}
 use Rattle.std.proofs.lemmas.List.{length-map}
 use Rattle.number_lists.specs.Numbers.{from_to}
 use Rattle.coll_lang.specs.declared.choices.ChoiceKind.{ChoiceKind}

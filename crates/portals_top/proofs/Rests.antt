@@ -38,7 +38,7 @@ pub run-of : (w : WorldState) (o : Outline) (inputs : Lists) → w.shape ≡ o �
     → w.spare ≡ 0 → ((slots : ℕ → Slots) → AreSlots w slots → steps_in w slots ≡ [])
     → ((slots : ℕ → Slots) → AreSlots w slots → IsAtRest (ranks_in w slots) (histories_in w))
     → ((slots : ℕ → Slots) → AreSlots w slots → (r : ℕ) → r < w.shape.ranks → IsComplete (plan_of w.shape) w.inputs slots (histories_in w)
-        r)
+    r)
     → AreMeant w.shape w.inputs (memory_in w) → IsRun o inputs w
 run-of w o inputs shape given standing own none rest complete meant =
     record { shape = shape; inputs = given; standing = standing; own = own; none = none; rest = rest; complete = complete; meant = meant }
@@ -73,9 +73,9 @@ seeded seed k window n z g r first same run =
 pub moved : (seed : ℕ) (w v : WorldState) (g h : Lcg) (slots : ℕ → Slots) (n : ℕ) → IsLater w v → scene_in w ≡ first_scene →
     g ≡ generator seed
     → chosen_run (ranks_in w slots) w.window chosen_number words_left n (record { scene = scene_in w; chooser = g })
-        ≡ record { scene = scene_in v; chooser = h }
+    ≡ record { scene = scene_in v; chooser = h }
     → chosen_run (ranks_in v slots) v.window chosen_number words_left n (record { scene = first_scene; chooser = generator seed })
-        ≡ record { scene = scene_in v; chooser = h }
+    ≡ record { scene = scene_in v; chooser = h }
 unfolding after
 moved seed w v g h slots n later first same run =
     ap (λ (o : Outline). after (system_of (plan_of o) v.inputs slots) v.window n first_scene (generator seed)) later.shape

@@ -1,6 +1,6 @@
 -- What is said beside an answer.
-use Rattle.std.proofs.Common.{◌≡◌, ℕ, List, [], ◌∷◌, ◌++◌, Option, Some, None, Result, Ok, Err, refl, sym, ap, subst, ◌∙◌, append_assoc,
-    append-nil}
+use Rattle.std.proofs.Common.{◌≡◌, ℕ, List, [], ◌∷◌, ◌++◌, Option, Some, None, Result, Ok, Err, refl, sym, ap, subst, ◌∙◌, append_assoc}
+use Rattle.std.proofs.Common.{append-nil}
 use Rattle.std.specs.Prelude.{All, IsErr}
 use Rattle.std.specs.List.{flat_map}
 use Rattle.std.proofs.lemmas.List.Elements.{All-append, All-cons, All-nil}
@@ -26,8 +26,8 @@ use Rattle.portals_top.specs.Checked.{due_verdict}
 use Rattle.portals_top.specs.Due.{Due, done, due, refused}
 use Rattle.portals_top.specs.Left.{nothing_ran}
 use Rattle.portals_top.specs.Written.{Written}
-use Rattle.portals_top.specs.Explained.{Begins, BeginsNotes, Explained, NotesVerdict, Points, Says, SaysAll, SaysNote, TakesNotes, Tells,
-    answer_to}
+use Rattle.portals_top.specs.Explained.{Begins, BeginsNotes, Explained, NotesVerdict, Points, Says, SaysAll, SaysNote, TakesNotes, Tells}
+use Rattle.portals_top.specs.Explained.{answer_to}
 
 -- ---- notes of refusals
 
@@ -144,8 +144,17 @@ says_then a b c (Err failed) x y = begins_then a b c x y
 -- all of them, or a beginning
 pub begins_all : (a b : Outflow) (r : Result (Unit {0}) Failed) → SaysAll a b r → BeginsNotes a b
 begins_all a b (Ok done) x =
-    record { text = x.text; notes = x.notes; begun = record { out = x.text; rest = []; whole = sym (append-nil x.text); appended =
-        x.appended } }
+    record {
+      text = x.text;
+      notes = x.notes;
+      begun = record {
+        out = x.text;
+        rest = [];
+        whole = sym (append-nil x.text);
+        appended =
+            x.appended;
+      };
+    }
 begins_all a b (Err failed) x = x
 
 -- what was said is at its end where a line failed

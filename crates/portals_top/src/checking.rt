@@ -13,15 +13,15 @@ use crate::refusing::{refuse_plan, refuse_with};
 use crate::status::Status;
 use coll_lang::{Description, ParseFault};
 use coll_shape::Inputs;
-use text_notes::notes::Note;
+use cuts::orders::Verdict;
 use order_check::check;
 use order_lines::{Orders, parse_check};
-use cuts::orders::Verdict;
 use port_io::{Failed, Sink};
 use ptl_types::{Cause, NoMemory, Rank};
 use run_text::{Pieces, fails_line, write_short};
 use schedule_compiler::{Job, Schedule, compile};
 use std::alloc::Global;
+use text_notes::notes::Note;
 use text_notes::{explain_fails, explain_text};
 
 const HOLDS: &[u8] = b"holds\n";
@@ -99,7 +99,8 @@ fn judge<K: Sink>(
 ) -> Status
     requires given { AreInputs schedule inputs }
     requires lists { length orders.now ≡ schedule.ranks }
-    ensures judged { Judges (λ found. due_verdict found) (λ found. FindsFor schedule inputs orders.now None found) (K.outflow sink.old) (K.outflow sink.new) result }
+    ensures judged { Judges (λ found. due_verdict found) (λ found. FindsFor schedule inputs orders.now None found) (K.outflow sink.old)
+        (K.outflow sink.new) result }
     ensures told { Tells result (K.outflow sink.old) (K.outflow sink.new) told.new }
 {
     let Ok(mut out) = Pieces::open(alloc) else {

@@ -17,12 +17,12 @@ use crate::words::{Command, Mode};
 use crate::writing::status_of;
 use coll_lang::{Choices, Refusal};
 use coll_shape::Shape;
-use text_notes::notes::{About, Cause, Note};
 use plan_choice::{ChoiceWorld, choices_by_words};
 use port_io::Sink;
 use ptl_types::NoMemory;
 use run_text::Pieces;
 use std::alloc::Global;
+use text_notes::notes::{About, Cause, Note};
 use text_notes::plain_note;
 
 /// Runs a choice text in the program's own order.

@@ -11,10 +11,10 @@ use crate::words::Format;
 use coll_lang::{Description, ParseFault, Refusal, parse_by};
 use json_lang::parse_json;
 use json_notes::explain_json;
-use text_notes::notes::Note;
 use std::alloc::Global;
 use std::thread::Threads;
 use text_notes::explain_text;
+use text_notes::notes::Note;
 
 /// Reads JSON as a description.
 fn parse_in_json(alloc: Global, bytes: &[u8]) -> Result<Description, ParseFault>

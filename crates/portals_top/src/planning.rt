@@ -6,10 +6,10 @@ ghost use Rattle.portals_top.specs.Written.{Written};
 
 use crate::status::Status;
 use plan_core::Plan;
-use schedule_compiler::done::CountedPlan;
 use port_io::Sink;
 use ptl_types::Rank;
 use run_text::{Pieces, PlanTables, write_plan};
+use schedule_compiler::done::CountedPlan;
 use std::alloc::Global;
 
 /// A plan that is written.

@@ -17,12 +17,12 @@ use crate::status::Status;
 use crate::words::Command;
 use coll_lang::Refusal;
 use coll_shape::Shape;
-use text_notes::notes::{About, Cause, Excess, Limit, Note};
 use port_io::{Failed, Sink};
 use run_text::{Pieces, refusal_line};
 use schedule_compiler::CompileFault;
 use shape_plans::{MOST_BYTES, MOST_LINKS};
 use std::alloc::Global;
+use text_notes::notes::{About, Cause, Excess, Limit, Note};
 use text_notes::plain_note;
 
 /// The line on which a step stands, counted from 1.

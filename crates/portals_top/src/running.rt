@@ -126,7 +126,8 @@ fn run_steadily<R: Threads + Wait + Sync, G: Gate>(
 /// Runs a job on one thread in the program's own order, writes its results, and hands back the world.
 fn once<K: Sink>(alloc: Global, job: &Job, sink: &mut K, ran: &mut Ran) -> Status
     requires none { ran.old ≡ nothing_ran }
-    ensures written { Written (done (mode_text Mode.Once job.now.shape job.now.inputs ran.new.world)) (K.outflow sink.old) (K.outflow sink.new) result }
+    ensures written { Written (done (mode_text Mode.Once job.now.shape job.now.inputs ran.new.world)) (K.outflow sink.old)
+        (K.outflow sink.new) result }
     ensures world { HandsBack result Status.Done (LeavesWorld (Command.Execute Mode.Once) job.now.shape job.now.inputs) ran.new }
 {
     let Ok(mut out) = Pieces::open(alloc) else {
@@ -145,7 +146,8 @@ fn once<K: Sink>(alloc: Global, job: &Job, sink: &mut K, ran: &mut Ran) -> Statu
 /// Runs a job on one thread in the order that a seed chooses, writes its results and that order, and hands back the world.
 fn sim<K: Sink>(alloc: Global, job: &Job, seed: u64, sink: &mut K, ran: &mut Ran) -> Status
     requires none { ran.old ≡ nothing_ran }
-    ensures written { Written (done (mode_text (Mode.Sim seed) job.now.shape job.now.inputs ran.new.world)) (K.outflow sink.old) (K.outflow sink.new) result }
+    ensures written { Written (done (mode_text (Mode.Sim seed) job.now.shape job.now.inputs ran.new.world)) (K.outflow sink.old)
+        (K.outflow sink.new) result }
     ensures world { HandsBack result Status.Done (LeavesWorld (Command.Execute (Mode.Sim seed)) job.now.shape job.now.inputs) ran.new }
 {
     let Ok(mut out) = Pieces::open(alloc) else {
@@ -171,7 +173,8 @@ pub(crate) fn run_alone<K: Sink>(
 ) -> Begun
     requires workers { HasWorkers mode }
     requires none { ran.old ≡ nothing_ran }
-    ensures { Begins (λ after. done (mode_text mode job.shape job.inputs after.world)) (LeavesWorld (Command.Execute mode) job.shape job.inputs)
+    ensures { Begins (λ after. done (mode_text mode job.shape job.inputs after.world))
+        (LeavesWorld (Command.Execute mode) job.shape job.inputs)
         (IsLeft (Command.Execute mode) job.shape job.inputs None) (K.outflow sink.old) (K.outflow sink.new) ran.new result }
 {
     match mode {
@@ -227,7 +230,8 @@ pub(crate) fn run<R: Threads + Wait + Sync, G: Gate, K: Sink>(
 ) -> Status
     requires workers { HasWorkers (mode_of crew) }
     requires none { ran.old ≡ nothing_ran }
-    ensures written { Written (done (mode_text (mode_of crew) job.now.shape job.now.inputs ran.new.world)) (K.outflow sink.old) (K.outflow sink.new) result }
+    ensures written { Written (done (mode_text (mode_of crew) job.now.shape job.now.inputs ran.new.world)) (K.outflow sink.old)
+        (K.outflow sink.new) result }
     ensures world { HandsBack result Status.Done (LeavesWorld (Command.Execute (mode_of crew)) job.now.shape job.now.inputs) ran.new }
 {
     let Ok(mut out) = Pieces::open(alloc) else {

@@ -6,9 +6,9 @@ ghost use Rattle.text_notes.specs.notes.Shown.{IsNote};
 ghost use Rattle.portals_top.specs.Explained.{Begins, Says, SaysAll};
 
 use crate::status::Status;
-use text_notes::notes::{FORMS, Note, NoteLine, Printable, note_text, wrong_words};
 use port_io::{Failed, Sink};
 use run_text::write_short;
+use text_notes::notes::{FORMS, Note, NoteLine, Printable, note_text, wrong_words};
 
 /// Writes a line.
 fn say_line<N: Sink>(notes: &mut N, text: Printable) -> Result<(), Failed>

@@ -29,16 +29,16 @@ use crate::status::Status;
 use crate::words::{Command, Mode, Request, Task, request_in};
 use coll_lang::{Description, LONGEST_TEXT, ParseFault};
 use coll_shape::Shape;
-use text_notes::notes::Note;
 use order_lines::LONGEST_CHECK;
-use schedule_compiler::done::counted_shape;
 use port_io::{Sink, Source};
 use rank_threads::{Gate, OpenGate};
 use run_text::write_short;
+use schedule_compiler::done::counted_shape;
 use schedule_compiler::{Job, compile};
 use std::alloc::Global;
 use std::sync::Wait;
 use std::thread::Threads;
+use text_notes::notes::Note;
 use work_sharing::reach_ahead;
 
 const USAGE: &[u8] =
@@ -103,7 +103,8 @@ fn compiled<K: Sink>(
 ) -> Begun
     requires workers { CanDo command }
     requires none { ran.old ≡ nothing_ran }
-    ensures begun { Begins (λ after. due_compiled command d.shape d.inputs after.world (refusal d.shape)) (LeavesWorld command d.shape d.inputs)
+    ensures begun { Begins (λ after. due_compiled command d.shape d.inputs after.world (refusal d.shape))
+        (LeavesWorld command d.shape d.inputs)
         (IsLeft command d.shape d.inputs (refusal d.shape)) (K.outflow sink.old) (K.outflow sink.new) ran.new result }
     ensures told { TellsBegun result (K.outflow sink.old) (K.outflow sink.new) told.new }
 {
@@ -162,7 +163,8 @@ fn answer<R: Threads + Sync, K: Sink>(
 ) -> Begun
     requires workers { CanDo task.command }
     requires none { ran.old ≡ nothing_ran }
-    ensures begun { Begins (λ after. due_of task.command after (read_as task.format text.items)) (LeavesOf task.command (read_as task.format text.items))
+    ensures begun { Begins (λ after. due_of task.command after (read_as task.format text.items))
+        (LeavesOf task.command (read_as task.format text.items))
         (IsLeftOf task.command (read_as task.format text.items)) (K.outflow sink.old) (K.outflow sink.new) ran.new result }
     ensures told { TellsBegun result (K.outflow sink.old) (K.outflow sink.new) told.new }
 {
@@ -189,7 +191,8 @@ fn read_and_answer<R: Threads + Sync, S: Source, K: Sink>(
     requires workers { CanDo task.command }
     requires none { ran.old ≡ nothing_ran }
     ensures begun { (bytes : List ℕ) × IsTold (S.inflow source.old).left bytes
-        × BeginsCall (Some (Request.Do task)) bytes (S.inflow source.old) (S.inflow source.new) (K.outflow sink.old) (K.outflow sink.new) ran.new result }
+        × BeginsCall (Some (Request.Do task)) bytes (S.inflow source.old) (S.inflow source.new) (K.outflow sink.old) (K.outflow sink.new)
+        ran.new result }
     ensures told { TellsBegun result (K.outflow sink.old) (K.outflow sink.new) told.new }
 {
     match read_text(alloc, LONGEST_TEXT, source) {
@@ -228,7 +231,8 @@ fn started<R: Threads + Sync, S: Source, K: Sink>(
     told: &mut Option<Note>,
 ) -> Begun
     ensures begun { (bytes : List ℕ) × IsTold (S.inflow source.old).left bytes
-        × BeginsCall (request (map string_bytes words.now)) bytes (S.inflow source.old) (S.inflow source.new) (K.outflow sink.old) (K.outflow sink.new) ran.new result }
+        × BeginsCall (request (map string_bytes words.now)) bytes (S.inflow source.old) (S.inflow source.new) (K.outflow sink.old)
+        (K.outflow sink.new) ran.new result }
     ensures told { TellsBegun result (K.outflow sink.old) (K.outflow sink.new) told.new }
 {
     ran.world = None;
@@ -264,7 +268,8 @@ pub fn begin<R: Threads + Sync, S: Source, K: Sink>(
     ran: &mut Ran,
 ) -> Begun
     ensures { (bytes : List ℕ) × IsTold (S.inflow source.old).left bytes
-        × BeginsCall (request (map string_bytes words.now)) bytes (S.inflow source.old) (S.inflow source.new) (K.outflow sink.old) (K.outflow sink.new) ran.new result }
+        × BeginsCall (request (map string_bytes words.now)) bytes (S.inflow source.old) (S.inflow source.new) (K.outflow sink.old)
+        (K.outflow sink.new) ran.new result }
 {
     let mut told = None;
     started(rt, alloc, words, source, sink, ran, &mut told)
@@ -282,7 +287,8 @@ fn answered<R: Threads + Wait + Sync, S: Source, K: Sink, G: Gate>(
     told: &mut Option<Note>,
 ) -> Status
     ensures answers { (bytes : List ℕ) × IsTold (S.inflow source.old).left bytes
-        × AnswersTo (request (map string_bytes words.now)) bytes (S.inflow source.old) (S.inflow source.new) (K.outflow sink.old) (K.outflow sink.new) ran.new result }
+        × AnswersTo (request (map string_bytes words.now)) bytes (S.inflow source.old) (S.inflow source.new) (K.outflow sink.old)
+        (K.outflow sink.new) ran.new result }
     ensures told { Tells result (K.outflow sink.old) (K.outflow sink.new) told.new }
 {
     match started(rt, alloc, words, source, sink, ran, told) {
@@ -309,7 +315,8 @@ pub fn run_with_gate<R: Threads + Wait + Sync, S: Source, K: Sink, N: Sink, G: G
     ran: &mut Ran,
 ) -> Status
     ensures answers { (bytes : List ℕ) × IsTold (S.inflow source.old).left bytes
-        × AnswersTo (request (map string_bytes words.now)) bytes (S.inflow source.old) (S.inflow source.new) (K.outflow sink.old) (K.outflow sink.new) ran.new result }
+        × AnswersTo (request (map string_bytes words.now)) bytes (S.inflow source.old) (S.inflow source.new) (K.outflow sink.old)
+        (K.outflow sink.new) ran.new result }
     ensures explained { Explained result (K.outflow sink.old) (K.outflow sink.new) (N.outflow notes.old) (N.outflow notes.new) }
 {
     let mut told = None;
@@ -347,7 +354,8 @@ pub fn portals_main<R: Threads + Wait + Sync, S: Source, K: Sink, N: Sink>(
     ran: &mut Ran,
 ) -> Status
     ensures answers { (bytes : List ℕ) × IsTold (S.inflow source.old).left bytes
-        × AnswersTo (request (map string_bytes words.now)) bytes (S.inflow source.old) (S.inflow source.new) (K.outflow sink.old) (K.outflow sink.new) ran.new result }
+        × AnswersTo (request (map string_bytes words.now)) bytes (S.inflow source.old) (S.inflow source.new) (K.outflow sink.old)
+        (K.outflow sink.new) ran.new result }
     ensures explained { Explained result (K.outflow sink.old) (K.outflow sink.new) (N.outflow notes.old) (N.outflow notes.new) }
 {
     run_with_gate(rt, alloc, words, source, sink, notes, &OpenGate, ran)

@@ -1,7 +1,8 @@
 //! The words of the command line.
 
 ghost use Rattle.std.specs.Prelude.{◌≡◌, map, string_bytes, IfSome};
-ghost use Rattle.portals_top.specs.Words.{CanAnswer, chosen_of, json_of, large_of, request, run_of, seed_of, sim_of, steady_of, text_task, trace_of, workers_of};
+ghost use Rattle.portals_top.specs.Words.{CanAnswer, chosen_of, json_of, large_of, request, run_of, seed_of, sim_of, steady_of, text_task};
+ghost use Rattle.portals_top.specs.Words.{trace_of, workers_of};
 
 use coll_text::{Number, number_at, number_between};
 

@@ -164,7 +164,8 @@ pub(crate) fn write_ordered<K: Sink>(
 ) -> Result<(), Failed>
     requires empty { out.old ≡ [] }
     requires meant { AreMeant rested.now.0.shape rested.now.0.inputs (memory_in rested.now.0) }
-    ensures { EndsWith (K.outflow sink.old) (K.outflow sink.new) (result_text rested.now.0.shape rested.now.0.inputs ++ orders_of (Some rested.now.0)) result }
+    ensures { EndsWith (K.outflow sink.old) (K.outflow sink.new)
+        (result_text rested.now.0.shape rested.now.0.inputs ++ orders_of (Some rested.now.0)) result }
 {
     let shape = shape_of(rested);
     put_result(out, sink, shape, rested)?;
@@ -184,7 +185,8 @@ pub(crate) fn write_run<R: Threads + Sync, K: Sink>(
     requires workers { HasWorkers (mode_of crew) }
     requires empty { out.old ≡ [] }
     requires meant { AreMeant rested.now.0.shape rested.now.0.inputs (memory_in rested.now.0) }
-    ensures { EndsWith (K.outflow sink.old) (K.outflow sink.new) (mode_text (mode_of crew) rested.now.0.shape rested.now.0.inputs (Some rested.now.0)) result }
+    ensures { EndsWith (K.outflow sink.old) (K.outflow sink.new)
+        (mode_text (mode_of crew) rested.now.0.shape rested.now.0.inputs (Some rested.now.0)) result }
 {
     match crew {
         Crew::Run { workers } | Crew::Steady { workers } => {

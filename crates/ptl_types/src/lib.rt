@@ -16,7 +16,9 @@ mod message;
 mod steps;
 
 pub use bytes::Bytes;
-pub use calls::{Appended, TriggeredOp, Delivered, EqGot, GetArgs, Limits, NiFault, Outcome, PutArgs};
+pub use calls::{
+    Appended, Delivered, EqGot, GetArgs, Limits, NiFault, Outcome, PutArgs, TriggeredOp,
+};
 pub use elements::{AtomicOp, ElemType, SwapOp};
 pub use entries::{Descriptor, Entry, List, UnexpectedHeader};
 pub use events::{Event, EventKind};
@@ -24,4 +26,4 @@ pub use handles::{Count, Handle, NoMemory, Rank};
 pub use headers::{AckRequest, Header, Lane, MessageKind};
 pub use matching::matches;
 pub use message::Message;
-pub use steps::{PlannedOp, Call, Cause, LocalStep};
+pub use steps::{Call, Cause, LocalStep, PlannedOp};

@@ -61,11 +61,14 @@ pub linked : (taken : ℕ → Bool) (pt : ℕ) (list : EntryList) (e : Entry) (o
     Got q h old.entries_given (λ slot. with_parts (append slot pt list e (parts_of old)).parts old)
 linked taken pt list e old q h persistent makes =
     let w = went (append_fault pt e (parts_of old)) old (with_parts (append makes.slot pt list e (parts_of old)).parts old) q
-          (append makes.slot pt list e (parts_of old)).appended (Linked h) makes.ended in
+    (append makes.slot pt list e (parts_of old)).appended (Linked h) makes.ended in
     let same : Linked h ≡ Linked (handle makes.slot old.entries_given) = w.answer ∙ linked-persistent makes.slot pt list e old persistent in
     let is : h ≡ handle makes.slot old.entries_given = cc in
-    record { state = w.state ∙ ap (λ (k : Handle). with_parts (append k.slot pt list e (parts_of old)).parts old) (sym is); stamp =
-        ap (λ (k : Handle). k.stamp) is }
+    record {
+      state = w.state ∙ ap (λ (k : Handle). with_parts (append k.slot pt list e (parts_of old)).parts old) (sym is);
+      stamp =
+          ap (λ (k : Handle). k.stamp) is;
+    }
 
 -- a call that answers a fault changed nothing
 pub record Refused (o : Option NiFault) (q old : State) (fault : NiFault) : Type 0 where

@@ -1,6 +1,6 @@
 -- Lists of handles that grow by one.
-use Rattle.std.proofs.Common.{◌≡◌, ◌<◌, ℕ, ◌+◌, List, [], ◌∷◌, ◌++◌, length, refl, ap, ap₂, ◌⊎◌, ◌∙◌, sym, inl, inr, arith, get_or,
-    length-append, nat_lt, true, false}
+use Rattle.std.proofs.Common.{◌≡◌, ◌<◌, ℕ, ◌+◌, List, [], ◌∷◌, ◌++◌, length, refl, ap, ap₂, ◌⊎◌, ◌∙◌, sym, inl, inr, arith, get_or}
+use Rattle.std.proofs.Common.{length-append, nat_lt, true, false}
 use Rattle.std.proofs.lemmas.Bool.Decides.{nat_tests}
 use Rattle.std.proofs.Math.ListN.{get_or-append}
 use Rattle.std.proofs.Math.Seq.{get_or-append_seam}

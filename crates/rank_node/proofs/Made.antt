@@ -1,6 +1,6 @@
 -- What the calls of an installation leave, one kind after the other.
-use Rattle.std.proofs.Common.{◌≡◌, ◌<◌, ℕ, suc, ◌+◌, List, [], ◌∷◌, ◌++◌, length, refl, ap, ap₂, ◌∙◌, sym, subst, arith, add-one, None,
-    Bool, false, map, take, drop, get_or}
+use Rattle.std.proofs.Common.{◌≡◌, ◌<◌, ℕ, suc, ◌+◌, List, [], ◌∷◌, ◌++◌, length, refl, ap, ap₂, ◌∙◌, sym, subst, arith, add-one, None}
+use Rattle.std.proofs.Common.{Bool, false, map, take, drop, get_or}
 use Rattle.std.proofs.lemmas.List.{map-append, take_more, drop_more}
 use Rattle.ptl_types.specs.declared.handles.Handle.{Handle}
 use Rattle.ptl_types.specs.declared.entries.Entry.{Entry}
@@ -14,8 +14,8 @@ use Rattle.ni_model.specs.Calls.{with_index, with_counter, with_bound, with_oper
 use Rattle.cuts.specs.view.Slots.{Slots, counter_at}
 use Rattle.ptl_types.specs.declared.steps.Call.{Call}
 use Rattle.ptl_types.specs.declared.steps.Call.TheVariants.{PtAlloc, CtDone, CtCell, MdBind, Overflow, MeAppend, Trigger}
-use Rattle.rank_node.specs.Handles.{Handles, Agrees, AreAllOf, Counted, Fits, Tells, counted_in, handle_of, with_counter_handle,
-    with_entry_handle, with_descriptor_handle}
+use Rattle.rank_node.specs.Handles.{Handles, Agrees, AreAllOf, Counted, Fits, Tells, counted_in, handle_of, with_counter_handle}
+use Rattle.rank_node.specs.Handles.{with_entry_handle, with_descriptor_handle}
 use Rattle.cuts.specs.view.Calls.{whole_region, deed_at, call_made, calls_made, area_entry, with_entry, cell_entry}
 use Rattle.ptl_types.specs.declared.steps.PlannedOp.{PlannedOp}
 use Rattle.rank_node.specs.Calls.{AreMade, count_call, count_calls, MayCallAll, NewCounter, NewDescriptor, NewEntry}
@@ -24,8 +24,16 @@ use Rattle.rank_node.proofs.Lists.{tells-front, tells-last, length-push}
 
 -- ---- no call at all
 pub made-none : (cells : List ℕ) (s : State) (hs : Handles) → AreAllOf s hs → AreMade cells [] s s hs hs
-made-none cells s hs all = record { state = λ k a. refl; kept = λ k a. a; all = all; counted = refl; room = refl; ranks = refl; limits =
-    refl }
+made-none cells s hs all = record {
+  state = λ k a. refl;
+  kept = λ k a. a;
+  all = all;
+  counted = refl;
+  room = refl;
+  ranks = refl;
+  limits =
+      refl;
+}
 
 -- ---- a list of calls, and one more
 calls-push : (k : Slots) (cells : List ℕ) (front : List Call) (call : Call) (s : State) →
@@ -66,11 +74,11 @@ made-plain cells call s t hs f e is counts all ranks limits = record {
 -- ---- a counting event
 pub made-counter : (cells : List ℕ) (call : Call) (s t : State) (hs left : Handles) → NewCounter s t hs left → AreAllOf s hs
     → ((k : Slots) → call_made k cells call s ≡ with_counter (k.ct s.cts.given) s) →
-        count_call call (counted_in hs) ≡ record (counted_in hs) { counters = suc (length hs.counters) }
+    count_call call (counted_in hs) ≡ record (counted_in hs) { counters = suc (length hs.counters) }
     → AreMade cells (call ∷ []) s t hs left
 made-counter cells call s t hs left made all is counts =
     subst (λ (x : Handles). AreMade cells (call ∷ []) s t hs x) (sym made.left)
-        (subst (λ (x : State). AreMade cells (call ∷ []) s x hs (with_counter_handle made.ct hs)) (sym made.state) there)
+    (subst (λ (x : State). AreMade cells (call ∷ []) s x hs (with_counter_handle made.ct hs)) (sym made.state) there)
   where
     front : (k : Slots) → Agrees k (with_counter_handle made.ct hs) → Agrees k hs
     front k g = record { counters = tells-front k.ct hs.counters made.ct g.counters; entries = g.entries; descriptors = g.descriptors }
@@ -86,8 +94,13 @@ made-counter cells call s t hs left made all is counts =
       state = λ k g. ap (λ n. with_counter n s) (sym (tells-last k.ct hs.counters made.ct g.counters) ∙ ap k.ct (sym all.counters))
           ∙ sym (is k);
       kept = front;
-      all = record { counters = ap (λ n. n + 1) all.counters ∙ sym (length-push hs.counters made.ct); entries = all.entries; descriptors =
-          all.descriptors; live = live };
+      all = record {
+        counters = ap (λ n. n + 1) all.counters ∙ sym (length-push hs.counters made.ct);
+        entries = all.entries;
+        descriptors =
+            all.descriptors;
+        live = live;
+      };
       counted = ap (λ n. record (counted_in hs) { counters = n }) (length-push hs.counters made.ct ∙ add-one (length hs.counters))
           ∙ sym counts;
       room = refl;
@@ -119,17 +132,26 @@ pub made-bound : (cells : List ℕ) (n : ℕ) (remote : Bool) (done : Handle) (s
 unfolding call_made
 made-bound cells n remote done s t hs left new is all =
     subst (λ (x : Handles). AreMade cells (MdBind n remote ∷ []) s t hs x) (sym new.left)
-        (subst (λ (x : State). AreMade cells (MdBind n remote ∷ []) s x hs (with_descriptor_handle new.made hs)) (sym new.state) there)
+    (subst (λ (x : State). AreMade cells (MdBind n remote ∷ []) s x hs (with_descriptor_handle new.made hs)) (sym new.state) there)
   where
     there : AreMade cells (MdBind n remote ∷ []) s (with_bound new.made.slot (whole_region done n remote) s) hs
         (with_descriptor_handle new.made hs)
     there = record {
       state = λ k g. ap₂ (λ slot d. with_bound slot (whole_region d n remote) s)
           (sym (tells-last (λ n. k.md) hs.descriptors new.made g.descriptors)) (is k.ct g.counters);
-      kept = λ k g. record { counters = g.counters; entries = g.entries; descriptors = tells-front (λ n. k.md) hs.descriptors new.made
-          g.descriptors };
-      all = record { counters = all.counters; entries = all.entries; descriptors = ap (λ n. n + 1) all.descriptors
-          ∙ sym (length-push hs.descriptors new.made); live = all.live };
+      kept = λ k g. record {
+        counters = g.counters;
+        entries = g.entries;
+        descriptors = tells-front (λ n. k.md) hs.descriptors new.made
+            g.descriptors;
+      };
+      all = record {
+        counters = all.counters;
+        entries = all.entries;
+        descriptors = ap (λ n. n + 1) all.descriptors
+            ∙ sym (length-push hs.descriptors new.made);
+        live = all.live;
+      };
       counted = ap (λ n. record (counted_in hs) { descriptors = n }) (length-push hs.descriptors new.made
           ∙ add-one (length hs.descriptors));
       room = refl;
@@ -141,11 +163,11 @@ made-bound cells n remote done s t hs left new is all =
 made-linked : (cells : List ℕ) (call : Call) (list : EntryList) (e : Entry) (s t : State) (hs left : Handles) → e.use_once ≡ false →
     NewEntry list e s t hs left → AreAllOf s hs
     → ((k : Slots) → Agrees k hs → call_made k cells call s ≡ with_entry (k.me s.entries_given) list e s) →
-        count_call call (counted_in hs) ≡ record (counted_in hs) { entries = suc (length hs.entries) } →
-        AreMade cells (call ∷ []) s t hs left
+    count_call call (counted_in hs) ≡ record (counted_in hs) { entries = suc (length hs.entries) } →
+    AreMade cells (call ∷ []) s t hs left
 made-linked cells call list e s t hs left persistent new all is counts =
     subst (λ (x : Handles). AreMade cells (call ∷ []) s t hs x) (sym new.left)
-        (subst (λ (x : State). AreMade cells (call ∷ []) s x hs (with_entry_handle new.made hs)) (sym new.state) there)
+    (subst (λ (x : State). AreMade cells (call ∷ []) s x hs (with_entry_handle new.made hs)) (sym new.state) there)
   where
     front : (k : Slots) → Agrees k (with_entry_handle new.made hs) → Agrees k hs
     front k g = record { counters = g.counters; entries = tells-front k.me hs.entries new.made g.entries; descriptors = g.descriptors }
@@ -155,10 +177,15 @@ made-linked cells call list e s t hs left persistent new all is counts =
       state = λ k g. ap (λ slot. with_entry slot list e s) (sym (tells-last k.me hs.entries new.made g.entries)
           ∙ ap k.me (sym all.entries)) ∙ sym (is k (front k g));
       kept = front;
-      all = record { counters = (linked-counters new.made.slot 0 list e (parts_of s) persistent).given ∙ all.counters; entries =
-          linked-given new.made.slot 0 list e (parts_of s) persistent ∙ ap (λ n. n + 1) all.entries
-          ∙ sym (length-push hs.entries new.made); descriptors = all.descriptors; live =
-          (linked-counters new.made.slot 0 list e (parts_of s) persistent).handles ∙ all.live };
+      all = record {
+        counters = (linked-counters new.made.slot 0 list e (parts_of s) persistent).given ∙ all.counters;
+        entries =
+            linked-given new.made.slot 0 list e (parts_of s) persistent ∙ ap (λ n. n + 1) all.entries
+            ∙ sym (length-push hs.entries new.made);
+        descriptors = all.descriptors;
+        live =
+            (linked-counters new.made.slot 0 list e (parts_of s) persistent).handles ∙ all.live;
+      };
       counted = ap (λ n. record (counted_in hs) { entries = n }) (length-push hs.entries new.made ∙ add-one (length hs.entries))
           ∙ sym counts;
       room = refl;
@@ -176,7 +203,7 @@ made-area cells start n bits ignored s t hs left new all = made-linked cells (Ov
 pub made-entry : (cells : List ℕ) (c start n bits ignored : ℕ) (ct : Handle) (s t : State) (hs left : Handles) →
     NewEntry Priority (cell_entry ct start n bits ignored) s t hs left
     → ((k : Slots) → Agrees k hs → ct ≡ counter_at k cells c) → AreAllOf s hs → AreMade cells (MeAppend c start n bits ignored ∷ []) s t
-        hs left
+    hs left
 unfolding call_made
 made-entry cells c start n bits ignored ct s t hs left new is all =
     made-linked cells (MeAppend c start n bits ignored) Priority (cell_entry ct start n bits ignored) s t hs left refl new all
@@ -186,11 +213,11 @@ made-entry cells c start n bits ignored ct s t hs left new is all =
 pub made-operation : (cells : List ℕ) (c threshold : ℕ) (act : PlannedOp) (deed : TriggeredOp) (ct : Handle) (s t : State) (hs : Handles)
     → t ≡ with_operation deed ct threshold s
     → ((k : Slots) → Agrees k hs → ct ≡ counter_at k cells c) → ((k : Slots) → Agrees k hs → deed ≡ deed_at k cells act) → AreAllOf s hs →
-        AreMade cells (Trigger c threshold act ∷ []) s t hs hs
+    AreMade cells (Trigger c threshold act ∷ []) s t hs hs
 unfolding call_made
 made-operation cells c threshold act deed ct s t hs e is does all =
     made-plain cells (Trigger c threshold act) s t hs (with_operation deed ct threshold) e
-        (λ k g. ap₂ (λ d h. with_operation d h threshold s) (sym (does k g)) (sym (is k g))) refl
+    (λ k g. ap₂ (λ d h. with_operation d h threshold s) (sym (does k g)) (sym (is k g))) refl
     (record { counters = all.counters; entries = all.entries; descriptors = all.descriptors; live = all.live }) refl refl
 
 -- ---- a list of calls makes no fewer things than its first call
@@ -220,9 +247,9 @@ pub next-fits : (calls : List Call) (n room : Counted) (i : ℕ) (d : Call) → 
     Fits (count_call (get_or calls i d) n) room
 next-fits calls n room i d lt fits =
     let rest : Fits (count_calls (get_or calls i d ∷ drop (i + 1) calls) n) room =
-          subst (λ cs. Fits (count_calls cs n) room) (drop_more calls i d lt) fits in
+    subst (λ cs. Fits (count_calls cs n) room) (drop_more calls i d lt) fits in
     fits-trans (count_call (get_or calls i d) n) (count_calls (drop (i + 1) calls) (count_call (get_or calls i d) n)) room
-        (calls-grow (drop (i + 1) calls) (count_call (get_or calls i d) n)) rest
+    (calls-grow (drop (i + 1) calls) (count_call (get_or calls i d) n)) rest
 
 -- ---- one turn of the loop over a list of calls
 pub record Turned (cells : List ℕ) (calls : List Call) (ranks : ℕ) (limits : Limits) (s t : State) (a b : Handles) (i : ℕ) : Type 0 where
@@ -233,13 +260,13 @@ pub record Turned (cells : List ℕ) (calls : List Call) (ranks : ℕ) (limits :
 pub turned : (cells : List ℕ) (calls : List Call) (ranks : ℕ) (limits : Limits) (s t u : State) (a b c : Handles) (i : ℕ) (d : Call) →
     i < length calls
     → AreMade cells (take i calls) s t a b → MayCallAll cells ranks limits (counted_in b) (drop i calls) →
-        Fits (count_calls (drop i calls) (counted_in b)) b.room
+    Fits (count_calls (drop i calls) (counted_in b)) b.room
     → AreMade cells (get_or calls i d ∷ []) t u b c → Turned cells calls ranks limits s u a c (i + 1)
 turned cells calls ranks limits s t u a b c i d lt made may fits one =
     let rest : MayCallAll cells ranks limits (counted_in b) (get_or calls i d ∷ drop (i + 1) calls) =
-          subst (MayCallAll cells ranks limits (counted_in b)) (drop_more calls i d lt) may in
+    subst (MayCallAll cells ranks limits (counted_in b)) (drop_more calls i d lt) may in
     let room : Fits (count_calls (drop (i + 1) calls) (count_call (get_or calls i d) (counted_in b))) b.room =
-          subst (λ cs. Fits (count_calls cs (counted_in b)) b.room) (drop_more calls i d lt) fits in
+    subst (λ cs. Fits (count_calls cs (counted_in b)) b.room) (drop_more calls i d lt) fits in
     record {
       made = subst (λ cs. AreMade cells cs s u a c) (sym (take_more calls i d lt))
           (made-next cells (take i calls) (get_or calls i d) s t u a b c made one);

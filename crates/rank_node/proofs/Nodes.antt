@@ -1,6 +1,6 @@
 -- What a node keeps over its steps.
-use Rattle.std.proofs.Common.{◌≡◌, ◌<◌, ◌≤◌, ℕ, suc, ◌+◌, ◌-◌, ◌*◌, Bool, true, false, ◌||◌, List, [], ◌∷◌, ◌++◌, Option, Some, None, Ok,
-    Err, length, map, get_or, count_by, if◌then◌else◌, refl, ap, ap₂, ◌∙◌, sym, subst, arith, IsTrue}
+use Rattle.std.proofs.Common.{◌≡◌, ◌<◌, ◌≤◌, ℕ, suc, ◌+◌, ◌-◌, ◌*◌, Bool, true, false, ◌||◌, List, [], ◌∷◌, ◌++◌, Option, Some, None, Ok}
+use Rattle.std.proofs.Common.{Err, length, map, get_or, count_by, if◌then◌else◌, refl, ap, ap₂, ◌∙◌, sym, subst, arith, IsTrue}
 use Rattle.std.proofs.lemmas.List.{length-set}
 use Rattle.ptl_types.specs.declared.calls.Limits.{Limits}
 use Rattle.ptl_types.specs.declared.calls.NiFault.{NiFault}
@@ -24,8 +24,8 @@ use Rattle.cuts.specs.start.Start.{go_raised}
 use Rattle.rank_node.specs.Calls.{AreMade, count_calls, none_made}
 use Rattle.rank_node.specs.Copies.{Diary, bytes_received, has_start}
 use Rattle.rank_node.specs.Handles.{Handles, Agrees, AreAllOf, Counted, handle_of, no_handles, room_under, slot_at, slots_of}
-use Rattle.rank_node.specs.Node.{IsCompiled, IsNode, IsPrepared, IsStarted, NodeState, Task, entries_due, fired_node, gated_node, prepared,
-    received_node, start_of, start_room, stray_bytes}
+use Rattle.rank_node.specs.Node.{IsCompiled, IsNode, IsPrepared, IsStarted, NodeState, Task, entries_due, fired_node, gated_node, prepared}
+use Rattle.rank_node.specs.Node.{received_node, start_of, start_room, stray_bytes}
 use Rattle.rank_node.specs.Start.{OnlyEntries}
 use Rattle.rank_node.proofs.Copies.{bytes-push, or-false, receipts-push, started-front, started-push}
 use Rattle.rank_node.proofs.Steady.{target-steady, target-pending, fired-steady, fired-fewer, steady-all}
@@ -38,8 +38,11 @@ state-push go s (x ∷ h) e = state-push go (after go s x) h e
 legal-push : (go : Beginning) (b : Bool) (s : State) (h : List Local) (e : Local) → Legal go b s h →
     May (b || has_start h) (state go s h) e → Legal go b s (h ++ e ∷ [])
 legal-push go b s [] e l m = (subst (λ c. May c s e) (or-false b) m, tt)
-legal-push go b s (x ∷ h) e l m = (l.0, legal-push go (b || is_start x) (after go s x) h e l.1
-    (subst (λ c. May c (state go (after go s x) h) e) (sym (started-front b x h)) m))
+legal-push go b s (x ∷ h) e l m = (
+  l.0,
+  legal-push go (b || is_start x) (after go s x) h e l.1
+      (subst (λ c. May c (state go (after go s x) h) e) (sym (started-front b x h)) m),
+)
 
 -- there are slots that agree, where there is one descriptor
 pub agrees : (hs : Handles) → length hs.descriptors ≡ 1 → Agrees (slots_of hs) hs
@@ -69,18 +72,18 @@ pub record Grown (old new : NodeState) (e : Local) : Type 0 where
 pub grown-node : (old new : NodeState) (e : Local) → IsNode old → Grown old new e → IsNode new
 grown-node old new e n g =
     let starts : has_start new.diary.locals ≡ (has_start old.diary.locals || is_start e) = ap has_start g.locals
-          ∙ started-push old.diary.locals e in
+    ∙ started-push old.diary.locals e in
     record {
       compiled = subst IsCompiled (sym g.task) n.compiled;
       state = λ k a.
           g.nic k a ∙ ap (λ v. after (start_of old.task k) v e) (n.state k (g.slots k a))
-              ∙ sym (state-push (start_of old.task k) (prepared old.task k) old.diary.locals e)
+          ∙ sym (state-push (start_of old.task k) (prepared old.task k) old.diary.locals e)
           ∙ ap₂ (λ c h. state (start_of c k) (prepared c k) h) (sym g.task) (sym g.locals);
       legal = λ k a.
           let l = legal-push (start_of old.task k) false (prepared old.task k) old.diary.locals e (n.legal k (g.slots k a))
-                (subst (λ v. May (has_start old.diary.locals) v e) (n.state k (g.slots k a)) g.may) in
+          (subst (λ v. May (has_start old.diary.locals) v e) (n.state k (g.slots k a)) g.may) in
           subst (λ c. Legal (start_of c k) false (prepared c k) new.diary.locals) (sym g.task)
-              (subst (λ h. Legal (start_of old.task k) false (prepared old.task k) h) (sym g.locals) l);
+          (subst (λ h. Legal (start_of old.task k) false (prepared old.task k) h) (sym g.locals) l);
       all = g.all;
       counters = ap length g.counters ∙ n.counters ∙ ap (λ (t : Task). suc (length t.cells)) (sym g.task);
       descriptors = ap length g.descriptors ∙ n.descriptors;
@@ -137,7 +140,7 @@ receipt-node n source lane m may some fits is =
     let had = is.receipts in
     let held = is.bytes in
     let count : length (target n.nic m).state.pending.waiting ≡ length n.nic.pending.waiting =
-          ap (λ (o : Operations). length o.waiting) (target-pending n.nic m) in
+    ap (λ (o : Operations). length o.waiting) (target-pending n.nic m) in
     grown-node n (received_node source lane m n) (Received source lane m) is (record {
       task = refl;
       strays = refl;
@@ -162,12 +165,12 @@ pub start-node : (n new : NodeState) → has_start n.diary.locals ≡ false → 
 start-node n new fresh st all only is =
     let one : length new.kept.descriptors ≡ 1 = ap length only.descriptors ∙ is.descriptors in
     let waits : new.nic.pending ≡ n.nic.pending = ap (λ (v : State). v.pending) (st.nic (slots_of new.kept) (agrees new.kept one))
-          ∙ (start_of n.task (slots_of new.kept)).pending n.nic in
+    ∙ (start_of n.task (slots_of new.kept)).pending n.nic in
     let count : length new.nic.pending.waiting ≡ length n.nic.pending.waiting = ap (λ (o : Operations). length o.waiting) waits in
     let room : 1 + (length n.nic.pending.waiting + n.diary.receipts) ≤ n.diary.room =
-          subst (λ b. start_room b + (length n.nic.pending.waiting + n.diary.receipts) ≤ n.diary.room) fresh is.steps in
+    subst (λ b. start_room b + (length n.nic.pending.waiting + n.diary.receipts) ≤ n.diary.room) fresh is.steps in
     let due : length n.kept.entries + length n.task.own ≤ n.kept.room.entries =
-          subst (λ b. length n.kept.entries + entries_due b n.task.own ≤ n.kept.room.entries) fresh is.entries in
+    subst (λ b. length n.kept.entries + entries_due b n.task.own ≤ n.kept.room.entries) fresh is.entries in
     let at_most = only.at_most in
     let wide : new.kept.room.entries ≡ n.kept.room.entries = ap (λ (c : Counted). c.entries) only.room in
     let left : new.diary.room ≡ n.diary.room - 1 = ap (λ (d : Diary). d.room) st.diary in
@@ -201,7 +204,7 @@ is_prepared t nic hs m = record { state = m.state; all = m.all; made = m.counted
 pub installed-node : (n : NodeState) → IsCompiled n.task → IsPrepared n.task n.nic n.kept → n.diary.locals ≡ [] →
     1 + (length n.nic.pending.waiting + n.diary.receipts) ≤ n.diary.room
     → n.diary.receipts ≡ n.task.receipts + n.strays → n.diary.bytes ≡ n.task.bytes + stray_bytes * n.strays →
-        length n.closed ≡ n.task.ranks → IsNode n
+    length n.closed ≡ n.task.ranks → IsNode n
 installed-node n is p none room receipts bytes gates =
     let enough = is.enough.entries in
     let entries : length n.kept.entries ≡ (count_calls n.task.calls none_made).entries = ap (λ (c : Counted). c.entries) p.made in
@@ -245,9 +248,11 @@ first-live [] [] e some = absurd (omega arith)
 first-live [] (h ∷ hs) e some = absurd cc
 first-live (x ∷ xs) [] e some = absurd (omega arith)
 first-live (x ∷ xs) (h ∷ hs) e some =
-    let same : x.handle ≡ h = cc in
-    (x.value, subst (λ k. (if same_handle x.handle k then Some x.value else lookup k xs) ≡ Some x.value) same
-        (ap (λ b. if b then Some x.value else lookup x.handle xs) (same-self x.handle)))
+    let same : x.handle ≡ h = cc in (
+      x.value,
+      subst (λ k. (if same_handle x.handle k then Some x.value else lookup k xs) ≡ Some x.value) same
+          (ap (λ b. if b then Some x.value else lookup x.handle xs) (same-self x.handle)),
+    )
 
 -- it is live
 pub done-live : (s : State) (hs : Handles) → AreAllOf s hs → 0 < length hs.counters → (c : Count) ×

@@ -1,6 +1,6 @@
 -- What is ready and finds its lane open, lane by lane and one after the other.
-use Rattle.std.proofs.Common.{◌≡◌, ◌<◌, ◌≤◌, ◌==◌, ℕ, zero, suc, ◌+◌, ◌-◌, Bool, true, false, not, ◌&&◌, List, [], ◌∷◌, Option, Some, None,
-    IsSome, length, filter, drop, nat_lt, get_or, if◌then◌else◌, refl, ap, ap₂, ◌∙◌, sym, subst, arith, add-zero}
+use Rattle.std.proofs.Common.{◌≡◌, ◌<◌, ◌≤◌, ◌==◌, ℕ, zero, suc, ◌+◌, ◌-◌, Bool, true, false, not, ◌&&◌, List, [], ◌∷◌, Option, Some, None}
+use Rattle.std.proofs.Common.{IsSome, length, filter, drop, nat_lt, get_or, if◌then◌else◌, refl, ap, ap₂, ◌∙◌, sym, subst, arith, add-zero}
 use Rattle.std.specs.Prelude.{slice_get}
 use Rattle.std.proofs.lemmas.Bool.Decides.{nat_tests}
 use Rattle.std.proofs.lemmas.List.{drop_more}
@@ -55,7 +55,7 @@ below-last : (closed : List Bool) (o : Option ℕ) → open_below closed (length
 below-last closed None = refl
 below-last closed (Some d) =
     elim (nat_lt d (length closed)) as (λ b. nat_lt d (length closed) ≡ b →
-        not (b && get_or closed d false) ≡ not (get_or closed d false)) [
+    not (b && get_or closed d false) ≡ not (get_or closed d false)) [
       | true ↦ λ e. refl
       | false ↦ λ e. ap not (sym (get-past closed d (past d (length closed) e)))
     ] refl
@@ -89,7 +89,7 @@ below-open closed k (Some d) free =
       | true ↦ λ e.
           let here : get_or closed d false ≡ false = ap (λ n. get_or closed n false) (is-equal d k e) ∙ free in
           ap (λ b. not (nat_lt d k && b)) here ∙ ap not (and-false (nat_lt d k)) ∙ sym (ap not (and-false (nat_lt d (k + 1))))
-              ∙ sym (ap (λ b. not (nat_lt d (k + 1) && b)) here)
+          ∙ sym (ap (λ b. not (nat_lt d (k + 1) && b)) here)
       | false ↦ λ e. ap (λ b. not (b && get_or closed d false)) (sym (nat_lt-suc d k e))
     ] refl
 
@@ -126,9 +126,9 @@ turn-closed closed k target [] shut = refl
 turn-closed closed k target (x ∷ xs) shut =
     length-if (open_below closed k (target x)) x (below_of closed k target xs)
     ∙ (below-closed closed k (target x) shut).sum (length (below_of closed k target xs)) (length (below_of closed (k + 1) target xs))
-        (length (filter (λ t. is_rank k (target t)) xs)) (turn-closed closed k target xs shut)
+    (length (filter (λ t. is_rank k (target t)) xs)) (turn-closed closed k target xs shut)
     ∙ ap₂ (λ a b. a + b) (sym (length-if (open_below closed (k + 1) (target x)) x (below_of closed (k + 1) target xs)))
-        (sym (length-if (is_rank k (target x)) x (filter (λ t. is_rank k (target t)) xs)))
+    (sym (length-if (is_rank k (target x)) x (filter (λ t. is_rank k (target t)) xs)))
 
 -- either
 pub turn-lane : (closed : List Bool) (k : ℕ) (target : ℕ → Option ℕ) (xs : List ℕ) →
@@ -136,8 +136,8 @@ pub turn-lane : (closed : List Bool) (k : ℕ) (target : ℕ → Option ℕ) (xs
     + (if get_or closed k false then length (filter (λ t. is_rank k (target t)) xs) else 0)
 turn-lane closed k target xs =
     elim (get_or closed k false) as (λ b. get_or closed k false ≡ b →
-        length (below_of closed k target xs) ≡ length (below_of closed (k + 1) target xs)
-        + (if b then length (filter (λ t. is_rank k (target t)) xs) else 0)) [
+    length (below_of closed k target xs) ≡ length (below_of closed (k + 1) target xs)
+    + (if b then length (filter (λ t. is_rank k (target t)) xs) else 0)) [
       | true ↦ λ shut. turn-closed closed k target xs shut
       | false ↦ λ free. ap length (turn-open closed k target xs free) ∙ sym (add-zero (length (below_of closed (k + 1) target xs)))
     ] refl
@@ -201,26 +201,26 @@ pub ahead-found : (p : ℕ → Bool) (xs : List ℕ) (i position rest t : ℕ) �
     p t ≡ true → rest ≡ 0 → slice_get (filter p xs) i ≡ Some t
 ahead-found p xs i position rest t e a ok none =
     let same : slice_get (filter p (drop position xs)) 0 ≡ slice_get (filter p xs) i =
-          subst (λ n. slice_get (filter p (drop position xs)) n ≡ slice_get (filter p xs) i) none a.same in
+    subst (λ n. slice_get (filter p (drop position xs)) n ≡ slice_get (filter p xs) i) none a.same in
     let there : slice_get (if p t then t ∷ filter p (drop (position + 1) xs) else filter p (drop (position + 1) xs)) 0 ≡ slice_get
-          (filter p xs) i = subst (λ ys. slice_get (filter p ys) 0 ≡ slice_get (filter p xs) i) (front xs position t e) same in
+    (filter p xs) i = subst (λ ys. slice_get (filter p ys) 0 ≡ slice_get (filter p xs) i) (front xs position t e) same in
     sym (subst (λ b. slice_get (if b then t ∷ filter p (drop (position + 1) xs) else filter p (drop (position + 1) xs)) 0 ≡ slice_get
-        (filter p xs) i) ok there)
+    (filter p xs) i) ok there)
 
 pub ahead-next : (p : ℕ → Bool) (xs : List ℕ) (i position rest t : ℕ) → slice_get xs position ≡ Some t → IsAhead p xs i position rest →
     p t ≡ true → (rest ≡ 0 → ⊥) → IsAhead p xs i (position + 1) (rest - 1)
 ahead-next p xs i position zero t e a ok some = absurd (some refl)
 ahead-next p xs i position (suc rest) t e a ok some =
     let same : slice_get (if p t then t ∷ filter p (drop (position + 1) xs) else filter p (drop (position + 1) xs)) (suc rest) ≡ slice_get
-          (filter p xs) i = subst (λ ys. slice_get (filter p ys) (suc rest) ≡ slice_get (filter p xs) i) (front xs position t e) a.same in
+    (filter p xs) i = subst (λ ys. slice_get (filter p ys) (suc rest) ≡ slice_get (filter p xs) i) (front xs position t e) a.same in
     let there : suc rest < length (if p t then t ∷ filter p (drop (position + 1) xs) else filter p (drop (position + 1) xs)) =
-          subst (λ ys. suc rest < length (filter p ys)) (front xs position t e) a.there in
+    subst (λ ys. suc rest < length (filter p ys)) (front xs position t e) a.there in
     let same2 : slice_get (t ∷ filter p (drop (position + 1) xs)) (suc rest) ≡ slice_get (filter p xs) i =
-          subst (λ b. slice_get (if b then t ∷ filter p (drop (position + 1) xs) else filter p (drop (position + 1) xs)) (suc rest)
-          ≡ slice_get (filter p xs) i) ok same in
+    subst (λ b. slice_get (if b then t ∷ filter p (drop (position + 1) xs) else filter p (drop (position + 1) xs)) (suc rest)
+    ≡ slice_get (filter p xs) i) ok same in
     let there2 : suc rest < length (t ∷ filter p (drop (position + 1) xs)) =
-          subst (λ b. suc rest < length (if b then t ∷ filter p (drop (position + 1) xs) else filter p (drop (position + 1) xs))) ok there
-          in
+    subst (λ b. suc rest < length (if b then t ∷ filter p (drop (position + 1) xs) else filter p (drop (position + 1) xs))) ok there
+    in
     let one : suc rest - 1 ≡ rest = omega arith in
     subst (IsAhead p xs i (position + 1)) (sym one) (record { same = same2; there = omega arith })
 
@@ -228,9 +228,9 @@ pub ahead-passed : (p : ℕ → Bool) (xs : List ℕ) (i position rest t : ℕ) 
     p t ≡ false → IsAhead p xs i (position + 1) rest
 ahead-passed p xs i position rest t e a fails =
     let same : slice_get (if p t then t ∷ filter p (drop (position + 1) xs) else filter p (drop (position + 1) xs)) rest ≡ slice_get
-          (filter p xs) i = subst (λ ys. slice_get (filter p ys) rest ≡ slice_get (filter p xs) i) (front xs position t e) a.same in
+    (filter p xs) i = subst (λ ys. slice_get (filter p ys) rest ≡ slice_get (filter p xs) i) (front xs position t e) a.same in
     let there : rest < length (if p t then t ∷ filter p (drop (position + 1) xs) else filter p (drop (position + 1) xs)) =
-          subst (λ ys. rest < length (filter p ys)) (front xs position t e) a.there in
+    subst (λ ys. rest < length (filter p ys)) (front xs position t e) a.there in
     record {
       same = subst (λ b. slice_get (if b then t ∷ filter p (drop (position + 1) xs) else filter p (drop (position + 1) xs)) rest
           ≡ slice_get (filter p xs) i) fails same;
@@ -247,4 +247,4 @@ drop-all (x ∷ xs) (suc n) le = drop-all xs n (omega arith)
 -- after the last there is none
 pub ahead-ends : (p : ℕ → Bool) (xs : List ℕ) (i position rest : ℕ) → length xs ≤ position → IsAhead p xs i position rest → ⊥
 ahead-ends p xs i position rest le a = let there : rest < 0 = subst (λ ys. rest < length (filter p ys)) (drop-all xs position le) a.there
-                                             in absurd (omega arith)
+    in absurd (omega arith)

@@ -1,6 +1,6 @@
 -- The place of a cell among rising cells.
-use Rattle.std.proofs.Common.{◌≡◌, ◌<◌, ◌≤◌, ◌==◌, ℕ, suc, true, false, List, [], ◌∷◌, length, if◌then◌else◌, refl, ap, arith, get_or, ◌⊎◌,
-    inl, inr}
+use Rattle.std.proofs.Common.{◌≡◌, ◌<◌, ◌≤◌, ◌==◌, ℕ, suc, true, false, List, [], ◌∷◌, length, if◌then◌else◌, refl, ap, arith, get_or, ◌⊎◌}
+use Rattle.std.proofs.Common.{inl, inr}
 use Rattle.std.proofs.lemmas.Bool.Decides.{nat_tests}
 use Rattle.plan_core.specs.Places.{place_in}
 use Rattle.rank_node.specs.Handles.{IsRising}
@@ -10,7 +10,7 @@ pub at_place : (cells : List ℕ) (c : ℕ) → place_in cells c < length cells 
 at_place [] c lt = absurd (omega arith)
 at_place (k ∷ ks) c lt =
     elim (k == c) as (λ b. (k == c) ≡ b → (if b then 0 else suc (place_in ks c)) < suc (length ks) →
-        get_or (k ∷ ks) (if b then 0 else suc (place_in ks c)) 0 ≡ c) [
+    get_or (k ∷ ks) (if b then 0 else suc (place_in ks c)) 0 ≡ c) [
       | true ↦ λ e less. grind (arith, nat_tests)
       | false ↦ λ e less. at_place ks c (omega arith)
     ] refl lt

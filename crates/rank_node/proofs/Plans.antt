@@ -1,6 +1,6 @@
 -- What is compiled for a rank of a sound plan can be installed, gives the prepared interface of the plan, and starts it.
-use Rattle.std.proofs.Common.{◌≡◌, ◌<◌, ◌≤◌, ℕ, zero, suc, ◌+◌, ◌%◌, ◌^◌, ◌==◌, Bool, true, false, List, [], ◌∷◌, ◌++◌, Option, Some, None,
-    length, map, filter, get_or, if◌then◌else◌, refl, ap, ap₂, ◌∙◌, sym, subst, arith, inl, inr}
+use Rattle.std.proofs.Common.{◌≡◌, ◌<◌, ◌≤◌, ℕ, zero, suc, ◌+◌, ◌%◌, ◌^◌, ◌==◌, Bool, true, false, List, [], ◌∷◌, ◌++◌, Option, Some, None}
+use Rattle.std.proofs.Common.{length, map, filter, get_or, if◌then◌else◌, refl, ap, ap₂, ◌∙◌, sym, subst, arith, inl, inr}
 use Rattle.std.specs.Prelude.{All}
 use Rattle.std.proofs.Math.Nat.{le-max_left, le-max_right}
 use Rattle.std.proofs.lemmas.List.Elements.{All-nil, All-cons}
@@ -105,7 +105,7 @@ counts-triggers p (w ∷ ws) n = counts-triggers p ws n
 counts-cells : (cs : List ℕ) (n m d : ℕ) → count_calls (map CtCell cs) (counted n m d) ≡ counted (n + length cs) m d
 counts-cells [] n m d = ap (λ k. counted k m d) (let q : n ≡ n + 0 = omega arith in q)
 counts-cells (c ∷ cs) n m d = counts-cells cs (suc n) m d ∙ ap (λ k. counted k m d) (let q : suc n + length cs ≡ n + suc (length cs) =
-                                                                                           omega arith in q)
+    omega arith in q)
 
 may-areas : (p : Plan) (r : ℕ) (cells : List ℕ) (ranks : ℕ) (limits : Limits) (xs : List ℕ) (n : Counted) →
     MayCallAll cells ranks limits n (map (area_call p r) xs)
@@ -152,8 +152,11 @@ module _ (p : Plan) (inputs : Inputs) (sound : SoundPlan p (length inputs)) (r :
       let short = longest-le p (out_links p r) l i in
       let same : a.length ≡ (cell p (link p l).target).length = size ∙ (s.atomic_whole (s.atomic_here o e)).1 in (
         record { target_known = omega arith; short = omega arith },
-        record { whole = ap (λ n. n % bytes_of (cell p (link p l).target).ty) same ∙ sound.whole (link p l).target s.cells; at_most =
-            omega arith },
+        record {
+          whole = ap (λ n. n % bytes_of (cell p (link p l).target).ty) same ∙ sound.whole (link p l).target s.cells;
+          at_most =
+              omega arith;
+        },
       )
 
   wired-send : (w : RankOp) → In w (rank_ops p r) → IsWired (own p r) all_made (act_of p w) × MaySend p.ranks (limits_for p r) (act_of p w)
@@ -169,13 +172,13 @@ module _ (p : Plan) (inputs : Inputs) (sound : SoundPlan p (length inputs)) (r :
           let q = out_links-In p r l out in
           let s = sound.links_sound l q.0 in
           let t : In (link p l).target (own p r) = In-own p r (link p l).target s.cells (sym (s.bump_stays (bump_kind (link p l).kind e))
-                ∙ q.1) in
+          ∙ q.1) in
           subst (λ b. IsWired (own p r) all_made (if b then BumpCell (link p l).target else send_act p l) ×
-              MaySend p.ranks (limits_for p r) (if b then BumpCell (link p l).target else send_act p l)) (sym e)
-              (has_counter (link p l).target t, tt)
+          MaySend p.ranks (limits_for p r) (if b then BumpCell (link p l).target else send_act p l)) (sym e)
+          (has_counter (link p l).target t, tt)
       at false e =
           subst (λ b. IsWired (own p r) all_made (if b then BumpCell (link p l).target else send_act p l) ×
-              MaySend p.ranks (limits_for p r) (if b then BumpCell (link p l).target else send_act p l)) (sym e)
+          MaySend p.ranks (limits_for p r) (if b then BumpCell (link p l).target else send_act p l)) (sym e)
           (refl, may-start l out (cell p (link p l).target).op refl _ refl refl)
 
   may-triggers : (ws : List RankOp) → ((w : RankOp) → In w ws → In w (rank_ops p r)) →
@@ -208,13 +211,13 @@ module _ (p : Plan) (inputs : Inputs) (sound : SoundPlan p (length inputs)) (r :
   may-calls : MayCallAll (own p r) p.ranks (limits_for p r) none_made (prepare_calls p r)
   may-calls =
       let last : MayCallAll (own p r) p.ranks (limits_for p r) (counted (1 + length (own p r)) (0 + length (classes p r)) 0)
-            bound_and_operations = ((refl, omega arith), may-triggers (rank_ops p r) (λ w i. i)) in
+      bound_and_operations = ((refl, omega arith), may-triggers (rank_ops p r) (λ w i. i)) in
       let middle : MayCallAll (own p r) p.ranks (limits_for p r) (counted 0 (0 + length (classes p r)) 0) behind_areas = (
         refl,
         may-append (own p r) p.ranks (limits_for p r) (counted 1 (0 + length (classes p r)) 0) (map CtCell (own p r)) bound_and_operations
             (may-cells (own p r) p.ranks (limits_for p r) (own p r) (counted 1 (0 + length (classes p r)) 0))
             (subst (λ n. MayCallAll (own p r) p.ranks (limits_for p r) n bound_and_operations)
-                (sym (counts-cells (own p r) 1 (0 + length (classes p r)) 0)) last),
+            (sym (counts-cells (own p r) 1 (0 + length (classes p r)) 0)) last),
       ) in (
         tt,
         may-append (own p r) p.ranks (limits_for p r) none_made (map (area_call p r) (classes p r)) behind_areas
@@ -263,11 +266,11 @@ module _ (p : Plan) (inputs : Inputs) (sound : SoundPlan p (length inputs)) (r :
         rising = subst IsRising (sym f.cells) (rising-filter (λ d. (cell p d).rank == r) 0 (length p.cells));
         may = rw (f.cells, f.ranks, f.limits, f.calls) may-calls;
         counters = ap (λ (n : Counted). n.counters) made ∙ rw f.cells (let q : 1 + length (own p r) ≡ suc (length (own p r)) =
-                                                                             omega arith in q);
+            omega arith in q);
         descriptors = ap (λ (n : Counted). n.descriptors) made;
         enough = subst (λ (n : Counted). Fits (record n { entries = n.entries + length t.own }) (room_under t.limits)) (sym made)
             (subst (λ l. Fits (record all_made { entries = all_made.entries + length t.own }) (room_under l)) (sym f.limits)
-                (record { counters = omega arith; entries = omega arith; descriptors = omega arith }));
+            (record { counters = omega arith; entries = omega arith; descriptors = omega arith }));
         fit = subst FitLimits (sym f.limits) (few_limits at_most);
         go = rw (f.cells, f.go) (place_in-lt (own p r) r here);
         own = rw (f.cells, f.own) (own_have (own p r) (λ d i. i));

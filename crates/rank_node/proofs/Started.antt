@@ -1,6 +1,6 @@
 -- What a start leaves, cell by cell.
-use Rattle.std.proofs.Common.{◌≡◌, ◌<◌, ℕ, ◌+◌, Bool, false, List, [], ◌∷◌, ◌++◌, Result, Ok, Err, length, take, get_or, refl, ap, ◌∙◌, sym,
-    subst, arith}
+use Rattle.std.proofs.Common.{◌≡◌, ◌<◌, ℕ, ◌+◌, Bool, false, List, [], ◌∷◌, ◌++◌, Result, Ok, Err, length, take, get_or, refl, ap, ◌∙◌, sym}
+use Rattle.std.proofs.Common.{subst, arith}
 use Rattle.std.proofs.lemmas.List.{take_more}
 use Rattle.ptl_types.specs.declared.handles.Handle.{Handle}
 use Rattle.ptl_types.specs.declared.entries.Entry.{Entry}
@@ -35,7 +35,7 @@ module _ (e : Entry) (s t : State) (hs : Handles) (h : Handle) (taken : ℕ → 
 
   pub handle-is : h ≡ handle makes.slot s.entries_given
   handle-is = let same : Linked h ≡ Linked (handle makes.slot s.entries_given) = gone.answer
-                    ∙ linked-persistent makes.slot 0 Priority e s persistent in cc
+      ∙ linked-persistent makes.slot 0 Priority e s persistent in cc
 
   pub next-stamp : h.stamp ≡ length hs.entries
   next-stamp = ap (λ (x : Handle). x.stamp) handle-is ∙ all.entries
@@ -52,7 +52,7 @@ module _ (e : Entry) (s t : State) (hs : Handles) (h : Handle) (taken : ℕ → 
   appended-linked = record {
     state = λ k g.
         let slot : makes.slot ≡ k.me s.entries_given = sym (ap (λ (x : Handle). x.slot) handle-is)
-              ∙ sym (tells-last k.me hs.entries h g.entries) ∙ ap k.me (sym all.entries) in
+        ∙ sym (tells-last k.me hs.entries h g.entries) ∙ ap k.me (sym all.entries) in
         ap (λ (d : Done (Result Appended NiFault)). d.state) makes.ended ∙ ap (λ n. (me_append n 0 Priority e s).state) slot;
     kept = λ k g. record { counters = g.counters; entries = tells-front k.me hs.entries h g.entries; descriptors = g.descriptors };
     all = subst (λ v. AreAllOf v (with_entry_handle h hs)) (sym gone.state) all_left;
@@ -64,9 +64,9 @@ pub never_consumed : (e : Entry) (s t : State) (u : UnexpectedHeader) (taken : �
     Makes taken (λ slot. me_append slot 0 Priority e s) (ends t (Ok (Consumed u))) → ⊥
 never_consumed e s t u taken persistent makes =
     let gone = went (append_fault 0 e (parts_of s)) s (with_parts (append makes.slot 0 Priority e (parts_of s)).parts s) t
-          (append makes.slot 0 Priority e (parts_of s)).appended (Consumed u) makes.ended in
+    (append makes.slot 0 Priority e (parts_of s)).appended (Consumed u) makes.ended in
     let same : Consumed u ≡ Linked (handle makes.slot s.entries_given) = gone.answer
-          ∙ linked-persistent makes.slot 0 Priority e s persistent in
+    ∙ linked-persistent makes.slot 0 Priority e s persistent in
     absurd cc
 
 -- a refused append changes nothing, whatever the slot
@@ -74,7 +74,7 @@ pub appended-refused : (e : Entry) (s t : State) (hs : Handles) (fault : NiFault
     Makes taken (λ slot. me_append slot 0 Priority e s) (ends t (Err fault)) → AreAllOf s hs → IsAppended e s t hs hs
 appended-refused e s t hs fault taken makes all =
     let r = refused (append_fault 0 e (parts_of s)) s (with_parts (append makes.slot 0 Priority e (parts_of s)).parts s) t
-          (append makes.slot 0 Priority e (parts_of s)).appended fault makes.ended in
+    (append makes.slot 0 Priority e (parts_of s)).appended fault makes.ended in
     record {
       state = λ k g. r.state ∙ sym (ap (λ o. (ends_by o s (with_parts (append (k.me s.entries_given) 0 Priority e (parts_of s)).parts s)
           (append (k.me s.entries_given) 0 Priority e (parts_of s)).appended).state) r.is);
@@ -102,14 +102,19 @@ pub started-by : (longest : ℕ) (cells : List ℕ) (ct : Handle) (c : OwnCell) 
     IsAppended e v t a b → ((k : Slots) → Agrees k a → ct ≡ counter_at k cells c.number) → AreStarted longest cells (c ∷ []) s t a b
 started-by longest cells ct c e s v t a b is brought one counter =
     let there : v ≡ with_brought longest ct c s = brought ∙ ap
-          (λ x. record s { memory = bring_all longest c (found_in 0 x s.headers.unexpected) s.memory }) is in
+    (λ x. record s { memory = bring_all longest c (found_in 0 x s.headers.unexpected) s.memory }) is in
     started-one longest cells ct c s t a b (subst (λ x. IsAppended x (with_brought longest ct c s) t a b) is
-        (subst (λ x. IsAppended e x t a b) there one)) counter
+    (subst (λ x. IsAppended e x t a b) there one)) counter
 
 -- ---- the cells of a list, and one more
 pub started-none : (longest : ℕ) (cells : List ℕ) (s : State) (a : Handles) → AreAllOf s a → AreStarted longest cells [] s s a a
-started-none longest cells s a all = record { state = λ k g. refl; kept = λ k g. g; all = all; only =
-    record { counters = refl; descriptors = refl; room = refl; at_most = omega arith } }
+started-none longest cells s a all = record {
+  state = λ k g. refl;
+  kept = λ k g. g;
+  all = all;
+  only =
+      record { counters = refl; descriptors = refl; room = refl; at_most = omega arith };
+}
 
 cells-push : (longest : ℕ) (k : Slots) (cells : List ℕ) (front : List OwnCell) (c : OwnCell) (s : State) →
     cells_started longest k cells (front ++ c ∷ []) s ≡ cell_started longest k.me (counter_at k cells c.number) c

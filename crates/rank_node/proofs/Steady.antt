@@ -1,6 +1,6 @@
 -- What an arriving message and a firing leave as it is: how much was given, which descriptors are bound, and the operations that wait.
-use Rattle.std.proofs.Common.{◌≡◌, ◌<◌, ◌≤◌, ℕ, suc, ◌+◌, ◌==◌, Bool, true, false, not, ◌&&◌, List, [], ◌∷◌, Option, Some, None, length,
-    map, filter, find, if◌then◌else◌, refl, ap, ◌∙◌, sym, subst, arith}
+use Rattle.std.proofs.Common.{◌≡◌, ◌<◌, ◌≤◌, ℕ, suc, ◌+◌, ◌==◌, Bool, true, false, not, ◌&&◌, List, [], ◌∷◌, Option, Some, None, length}
+use Rattle.std.proofs.Common.{map, filter, find, if◌then◌else◌, refl, ap, ◌∙◌, sym, subst, arith}
 use Rattle.std.proofs.lemmas.Bool.Decides.{nat_tests}
 use Rattle.std.proofs.lemmas.List.Sums.{length-filter, count_by-le-length}
 use Rattle.ptl_types.specs.declared.handles.Handle.{Handle}
@@ -22,8 +22,8 @@ use Rattle.ni_model.specs.declared.IndexedHeader.{IndexedHeader}
 use Rattle.ni_model.specs.Headers.{allows, no_room, oldest, found_in}
 use Rattle.ni_model.specs.Append.{append, append_once, linked_as, take_all, each_counted, overflow_counter}
 use Rattle.ni_model.specs.Arrive.{Parts, Received, received, refused, request, judged, accepted, chosen, is_overflow, counter_of}
-use Rattle.ni_model.specs.Answers.{Home, Returned, answered, answered_at, came_home, lost_answer, bound_at, is_due, awaits_less, one_less,
-    one_answer, counter_home}
+use Rattle.ni_model.specs.Answers.{Home, Returned, answered, answered_at, came_home, lost_answer, bound_at, is_due, awaits_less, one_less}
+use Rattle.ni_model.specs.Answers.{one_answer, counter_home}
 use Rattle.ni_model.specs.Starts.{started, started_by, header_of, awaits_more, one_awaited, send_counter, counted_on}
 use Rattle.ni_model.specs.State.{State, Posted, Operations, target, after_request, after_answer, parts_of, home_of, with_home}
 use Rattle.ni_model.specs.Ready.{fired, fired_op, done, posted_at, is_number, without_number}
@@ -130,8 +130,11 @@ answered-keeps : (p : Home) (m : Sent) (o : Option Bound) → KeepsHome p (answe
 answered-keeps p m None = keeps-home p
 answered-keeps p m (Some b) =
     either (λ (r : Returned). KeepsHome p r.home) (is_due m.header b) (came_home p m b) (lost_answer p)
-    (record { counters = same-counted (counter_home m.header b) (one_answer m.header.ok) p.cts; descriptors =
-        same-less m.header.home p.mds })
+    (record {
+      counters = same-counted (counter_home m.header b) (one_answer m.header.ok) p.cts;
+      descriptors =
+          same-less m.header.home p.mds;
+    })
     (keeps-home p)
 
 answer-steady : (s : State) (m : Sent) → IsSteady s (after_answer s (answered (home_of s) m)).state
@@ -154,8 +157,10 @@ target-pending s m = either (λ d. d.state.pending ≡ s.pending) (is_answer m.h
 -- ---- a firing
 started-keeps : (p : Home) (d : TriggeredOp) (o : Option Header) → KeepsHome p (started_by p d o).home
 started-keeps p d None = keeps-home p
-started-keeps p d (Some h) = record { counters = same-counted (send_counter (bound_at (counted_on d) p.mds)) (successes 1) p.cts;
-    descriptors = same-more h.home p.mds }
+started-keeps p d (Some h) = record {
+  counters = same-counted (send_counter (bound_at (counted_on d) p.mds)) (successes 1) p.cts;
+  descriptors = same-more h.home p.mds;
+}
 
 start-steady : (s : State) (d : TriggeredOp) → IsSteady s (with_home (started s.rank (home_of s) d).home s)
 unfolding started
@@ -168,8 +173,13 @@ done-steady s (Get g) = start-steady s (Get g)
 done-steady s (Atomic a o ty) = start-steady s (Atomic a o ty)
 done-steady s (FetchAtomic g a o ty) = start-steady s (FetchAtomic g a o ty)
 done-steady s (Swap g a o ty x) = start-steady s (Swap g a o ty x)
-done-steady s (Inc ct by) = record { entries = refl; counters = same-counted (Some ct) by s.cts; descriptors = same-things s.mds; rank =
-    refl }
+done-steady s (Inc ct by) = record {
+  entries = refl;
+  counters = same-counted (Some ct) by s.cts;
+  descriptors = same-things s.mds;
+  rank =
+      refl;
+}
 done-steady s (Set ct to) = record { entries = refl; counters = same-changed ct _ s.cts; descriptors = same-things s.mds; rank = refl }
 
 done-pending : (s : State) (d : TriggeredOp) → (done s d).state.pending ≡ s.pending
@@ -220,7 +230,7 @@ fewer : (t : ℕ) (ps : List Posted) (p : Posted) → find (is_number t) ps ≡ 
 fewer t [] p e = cc
 fewer t (q ∷ qs) p e =
     elim (q.number == t) as (λ b. (q.number == t) ≡ b → (if b then Some q else find (is_number t) qs) ≡ Some p →
-        length (others p.number (q ∷ qs)) < length (q ∷ qs)) [
+    length (others p.number (q ∷ qs)) < length (q ∷ qs)) [
       | true ↦ λ is found.
           let same : q ≡ p = cc in
           let here : (q.number == p.number) ≡ true = equal-is q.number p.number (ap (λ (x : Posted). x.number) same) in
@@ -241,7 +251,7 @@ fired_op-fewer : (s : State) (t : ℕ) (o : Option Posted) (p : Posted) → post
 fired_op-fewer s t None p e is = cc
 fired_op-fewer s t (Some q) p e is =
     subst (λ (ops : Operations). length ops.waiting < length s.pending.waiting)
-        (sym (done-pending (record s { pending = without_number q.number s.pending }) q.deed)) (fewer t s.pending.waiting q e)
+    (sym (done-pending (record s { pending = without_number q.number s.pending }) q.deed)) (fewer t s.pending.waiting q e)
 
 pub fired-fewer : (s : State) (t : ℕ) (p : Posted) → posted_at t s.pending ≡ Some p → length (fired s t).state.pending.waiting < length
     s.pending.waiting

@@ -8,13 +8,15 @@ ghost use Rattle.ni_model.specs.Conditions.{MayStart};
 ghost use Rattle.ni_model.specs.Calls.{with_index, with_counter, with_bound, with_operation};
 ghost use Rattle.cuts.specs.view.Slots.{Slots, counter_at};
 ghost use Rattle.rank_node.specs.Handles.{Agrees, AreAllOf, Fits, IsRising, counted_in};
-ghost use Rattle.rank_node.specs.Calls.{HasCounter, MayCall, MayCallAll, AreMade, NewCounter, NewDescriptor, NewEntry, IsWired, MaySend, count_call, count_calls};
+ghost use Rattle.rank_node.specs.Calls.{HasCounter, MayCall, MayCallAll, AreMade, NewCounter, NewDescriptor, NewEntry, IsWired, MaySend};
+ghost use Rattle.rank_node.specs.Calls.{count_call, count_calls};
 ghost use Rattle.cuts.specs.view.Calls.{whole_region, deed_at, with_entry, area_entry, cell_entry};
 
 use crate::kept::NodeHandles;
 use portals_ni::Nic;
 use ptl_types::{
-    PlannedOp, Appended, Call, Count, TriggeredOp, Descriptor, Entry, Handle, List, NoMemory, PutArgs,
+    Appended, Call, Count, Descriptor, Entry, Handle, List, NoMemory, PlannedOp, PutArgs,
+    TriggeredOp,
 };
 
 /// Allocates portal table index 0, without a queue.
@@ -84,7 +86,11 @@ pub fn make_counter(nic: &mut Nic, kept: &mut NodeHandles) -> Result<(), NoMemor
 }
 
 /// A descriptor more, whose handle is kept.
-pub fn make_descriptor(nic: &mut Nic, kept: &mut NodeHandles, md: Descriptor) -> Result<(), NoMemory>
+pub fn make_descriptor(
+    nic: &mut Nic,
+    kept: &mut NodeHandles,
+    md: Descriptor,
+) -> Result<(), NoMemory>
     requires all { AreAllOf nic.old kept.old }
     requires room { length kept.old.descriptors < kept.old.room.descriptors }
     ensures { OnOk result (NewDescriptor md nic.old nic.new kept.old kept.new) }
@@ -95,7 +101,12 @@ pub fn make_descriptor(nic: &mut Nic, kept: &mut NodeHandles, md: Descriptor) ->
 }
 
 /// A persistent entry more, whose handle is kept.
-pub fn make_entry(nic: &mut Nic, kept: &mut NodeHandles, list: List, entry: Entry) -> Result<(), NoMemory>
+pub fn make_entry(
+    nic: &mut Nic,
+    kept: &mut NodeHandles,
+    list: List,
+    entry: Entry,
+) -> Result<(), NoMemory>
     requires all { AreAllOf nic.old kept.old }
     requires room { length kept.old.entries < kept.old.room.entries }
     requires persistent { entry.use_once ≡ false }
@@ -251,7 +262,12 @@ fn deed_of(kept: &NodeHandles, cells: &[u32], act: &PlannedOp) -> TriggeredOp
 }
 
 /// Makes one call.
-fn make_call(nic: &mut Nic, kept: &mut NodeHandles, cells: &[u32], call: &Call) -> Result<(), NoMemory>
+fn make_call(
+    nic: &mut Nic,
+    kept: &mut NodeHandles,
+    cells: &[u32],
+    call: &Call,
+) -> Result<(), NoMemory>
     requires rising { IsRising cells.now }
     requires all { AreAllOf nic.old kept.old }
     requires may { MayCall cells.now nic.old.ranks nic.old.limits (counted_in kept.old) call.now }

@@ -26,7 +26,13 @@ impl Model for NodeHandles {
 
     ghost Value = { Handles };
 
-    ghost view = { λ k. record { counters = k.counters.items; entries = k.entries.items; descriptors = k.descriptors.items; room = record { counters = k.counter_room; entries = k.entry_room; descriptors = k.descriptor_room } } };
+    ghost view = { λ k. record {
+      counters = k.counters.items;
+      entries = k.entries.items;
+      descriptors = k.descriptors.items;
+      room =
+          record { counters = k.counter_room; entries = k.entry_room; descriptors = k.descriptor_room };
+    } };
 
     ghost invariant = { λ k. (k.counter_room ≤ vec_capacity k.counters) × (k.entry_room ≤ vec_capacity k.entries) × (k.descriptor_room ≤ vec_capacity k.descriptors) × AreInOrder k.counters.items × AreInOrder k.entries.items × AreInOrder k.descriptors.items };
 }

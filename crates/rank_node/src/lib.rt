@@ -1,7 +1,6 @@
 //! One rank of a plan: its interface, as the compiled calls prepare and start it, and the history of its steps.
 #![tactic(auto)]
 
-pub mod of_plan;
 mod choice;
 mod compiled;
 mod gates;
@@ -10,6 +9,7 @@ mod install;
 mod kept;
 mod laws;
 mod node;
+pub mod of_plan;
 mod past;
 mod start;
 

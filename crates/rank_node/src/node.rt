@@ -1,6 +1,7 @@
 //! One rank.
 
-ghost use Rattle.std.specs.Prelude.{ℕ, ◌≡◌, ◌↔◌, ◌<◌, ◌≤◌, ◌+◌, ◌^◌, [], false, Some, IsTrue, IfOk, length, map, count_by, nat_lt, replicate, slice_get};
+ghost use Rattle.std.specs.Prelude.{ℕ, ◌≡◌, ◌↔◌, ◌<◌, ◌≤◌, ◌+◌, ◌^◌, [], false, Some, IsTrue, IfOk, length, map, count_by, nat_lt};
+ghost use Rattle.std.specs.Prelude.{replicate, slice_get};
 ghost use Rattle.ni_model.specs.Answers.{is_awaited};
 ghost use Rattle.ni_model.specs.Ready.{is_ready, target_at};
 ghost use Rattle.ni_model.specs.Tables.{lookup};
@@ -16,7 +17,8 @@ ghost use Rattle.rank_node.specs.Copies.{listed};
 ghost use Rattle.rank_node.specs.Done.{HasFinished, StandsAs};
 ghost use Rattle.rank_node.specs.Gates.{may_go, open_numbers};
 ghost use Rattle.rank_node.specs.Handles.{Agrees};
-ghost use Rattle.rank_node.specs.Node.{IsCompiled, IsPrepared, IsNode, IsStarted, fired_node, gated_node, received_node, task_from, task_of};
+ghost use Rattle.rank_node.specs.Node.{IsCompiled, IsPrepared, IsNode, IsStarted, fired_node, gated_node, received_node, task_from};
+ghost use Rattle.rank_node.specs.Node.{task_of};
 
 use crate::choice::{may_fire, open_at, open_count};
 use crate::compiled::Compiled;
@@ -54,7 +56,15 @@ impl Model for Node {
 
     ghost Value = { NodeState };
 
-    ghost view = { λ n. record { task = task_from n.compiled n.began.value.list n.called.value.items; kept = n.kept; diary = n.history; nic = n.nic; strays = n.strays; closed = n.gates } };
+    ghost view = { λ n. record {
+      task = task_from n.compiled n.began.value.list n.called.value.items;
+      kept = n.kept;
+      diary =
+          n.history;
+      nic = n.nic;
+      strays = n.strays;
+      closed = n.gates;
+    } };
 
     ghost invariant = { λ n. IsNode (record { task = task_from n.compiled n.began.value.list n.called.value.items; kept = n.kept; diary = n.history; nic = n.nic; strays = n.strays; closed = n.gates }) × (n.compiled.longest ≤ vec_capacity n.buffer) };
 }
@@ -78,7 +88,11 @@ impl Drop for Node {
 }
 
 /// Makes the compiled calls on a new interface of this region. There is room for all handles before the first call.
-fn prepare(alloc: Global, compiled: &Compiled, region: Bytes) -> Result<(Nic, NodeHandles), NoMemory>
+fn prepare(
+    alloc: Global,
+    compiled: &Compiled,
+    region: Bytes,
+) -> Result<(Nic, NodeHandles), NoMemory>
     requires { IsCompiled (task_from compiled.now region.list compiled.now.calls.items) }
     ensures { IfOk result (λ p. IsPrepared (task_from compiled.now region.list compiled.now.calls.items) p.0 p.1) }
 {
@@ -98,7 +112,14 @@ fn prepare(alloc: Global, compiled: &Compiled, region: Bytes) -> Result<(Nic, No
 fn diary(alloc: Global, compiled: &Compiled, firings: u32, strays: u32) -> Result<History, NoMemory>
     ghost bounds: { ℕ × ℕ }
     requires { compiled.now.receipts < 2 ^ 33 }
-    ensures { IfOk result (λ h. h ≡ record { locals = []; steps = []; room = 1 + (firings + (compiled.now.receipts + strays)); receipts = bounds.0; bytes = bounds.1 }) }
+    ensures { IfOk result (λ h. h ≡ record {
+      locals = [];
+      steps = [];
+      room = 1 + (firings + (compiled.now.receipts + strays));
+      receipts =
+          bounds.0;
+      bytes = bounds.1;
+    }) }
 {
     let receipts = compiled.receipts + u64::from(strays);
     History::with_room(alloc, 1 + (u64::from(firings) + receipts))

@@ -12,10 +12,10 @@ ghost use Rattle.rank_node.specs.Start.{IsAppended, AreStarted};
 use crate::install::{counter_of, entry_of_cell, one};
 use crate::kept::NodeHandles;
 use lane_ops::combine;
+use match_lists::unexpected::finds;
 use plan_calls::OwnCell;
 use portals_ni::Nic;
 use ptl_types::{Appended, AtomicOp, ElemType, Entry, Handle, List, UnexpectedHeader};
-use match_lists::unexpected::finds;
 
 /// Whether so many bytes are whole elements, where the cell has an operation.
 fn fits_elements(op: Option<AtomicOp>, ty: ElemType, count: u64) -> bool
@@ -115,7 +115,10 @@ fn bring_one(
 /// Brings what the headers brought that the entry finds, in order of arrival.
 fn bring_found(nic: &mut Nic, buffer: &mut Vec<u8>, longest: u64, cell: &OwnCell, entry: &Entry)
     requires { longest ≤ vec_capacity buffer.old }
-    ensures brought { nic.new ≡ record nic.old { memory = bring_all longest cell.now (found_in 0 entry.now nic.old.headers.unexpected) nic.old.memory } }
+    ensures brought { nic.new ≡ record nic.old {
+      memory = bring_all longest cell.now (found_in 0 entry.now nic.old.headers.unexpected)
+          nic.old.memory;
+    } }
     ensures room { longest ≤ vec_capacity buffer.new }
 {
     for i in 0..nic.headers().len() {

@@ -144,7 +144,7 @@ parts-whole l w (Fire t ∷ h) n le = sum_by-cons (λ e. total (λ s. part l w s
 parts-whole l w (Receive q k m ∷ h) n le =
     sum_by-cons (λ e. total (λ s. part l w s e) n) (Receive q k m) h
     ∙ (ap₂ (λ a b. a + b) (picked-one q (same_lane k l) (w m) n (omega (arith, le))) (parts-whole l w h n (omega (arith, le)))
-        ∙ sym (sum_by-cons (whole l w) (Receive q k m) h))
+    ∙ sym (sum_by-cons (whole l w) (Receive q k m) h))
 
 -- so all that came on a lane is no more than what the ranks may send there
 came : (l : Lane) (w : Sent → ℕ) (h : List Local) (g : ℕ → ℕ) → ((s : ℕ) → sum_by w (got h s l) ≤ g s) →
@@ -185,7 +185,7 @@ module _ (p : Plan) (r : ℕ) (f : ℕ → ℕ) where
   -- and a link from r is to one rank at most
   back : (m t : Bool) (q n v : ℕ) → total (λ s. cond (m && (t && (q == s))) v 0) n ≤ cond (t && m) v 0
   back true true q n v = let a = picked-le q true v n in let b = total-same (λ s. cond (q == s) v 0) (pick q true v) n
-                                                               (λ s. ap (λ c. cond c v 0) (sym (and-true (q == s)))) in omega (arith, a, b)
+      (λ s. ap (λ c. cond c v 0) (sym (and-true (q == s)))) in omega (arith, a, b)
   back true false q n v = let a = total-none n in omega (arith, a)
   back false true q n v = let a = total-none n in omega (arith, a)
   back false false q n v = let a = total-none n in omega (arith, a)
@@ -193,10 +193,10 @@ module _ (p : Plan) (r : ℕ) (f : ℕ → ℕ) where
   links-in : (n : ℕ) → total (λ s. sum_by f (lane_links p s r)) n ≤ sum_by f (links_to p r)
   links-in n =
       let a = total-same (λ s. sum_by f (lane_links p s r)) (λ s. sum_by (λ l. cond (goes_along p s r l) (f l) 0) (all_links p)) n
-            (λ s. guarded (goes_along p s r) f (all_links p)) in
+      (λ s. guarded (goes_along p s r) f (all_links p)) in
       let b = total-swap (λ s l. cond (goes_along p s r l) (f l) 0) (all_links p) n in
       let c = sum-le (λ l. total (λ s. cond (goes_along p s r l) (f l) 0) n) (λ l. cond (comes_to p r l) (f l) 0) (all_links p)
-            (λ l. along (is_message p l) (to l == r) (from l) n (f l)) in
+      (λ l. along (is_message p l) (to l == r) (from l) n (f l)) in
       let d = guarded (comes_to p r) f (all_links p) in
       omega (arith, a, b, c, d)
 
@@ -204,10 +204,10 @@ module _ (p : Plan) (r : ℕ) (f : ℕ → ℕ) where
       (all_links p)
   links-out n =
       let a = total-same (λ s. sum_by f (lane_links p r s)) (λ s. sum_by (λ l. cond (goes_along p r s l) (f l) 0) (all_links p)) n
-            (λ s. guarded (goes_along p r s) f (all_links p)) in
+      (λ s. guarded (goes_along p r s) f (all_links p)) in
       let b = total-swap (λ s l. cond (goes_along p r s l) (f l) 0) (all_links p) n in
       let c = sum-le (λ l. total (λ s. cond (goes_along p r s l) (f l) 0) n) (λ l. cond ((from l == r) && is_message p l) (f l) 0)
-            (all_links p) (λ l. back (is_message p l) (from l == r) (to l) n (f l)) in
+      (all_links p) (λ l. back (is_message p l) (from l == r) (to l) n (f l)) in
       omega (arith, a, b, c)
 
 -- ---- what came in all
@@ -215,7 +215,7 @@ receipts-are : (h : List Local) → count_by is_receipt h ≡ sum_by (whole Requ
 receipts-are [] = refl
 receipts-are (e ∷ h) =
     let a = receipts-are h in let b = count-cons is_receipt e h in let c = sum_by-cons (whole Request (λ m. 1)) e h in let d =
-                                                                                                                             sum_by-cons (whole Answer (λ m. 1)) e h in
+    sum_by-cons (whole Answer (λ m. 1)) e h in
     let x = each e in omega (arith, a, b, c, d, x)
   where
     each : (e : Local) → cond (is_receipt e) 1 0 ≡ whole Request (λ m. 1) e + whole Answer (λ m. 1) e
@@ -229,8 +229,8 @@ bytes-are : (h : List Local) → bytes_received h ≡ sum_by (whole Request (λ 
 bytes-are [] = refl
 bytes-are (e ∷ h) =
     let a = bytes-are h in let c = sum_by-cons (whole Request (λ m. length m.bytes)) e h in let d =
-                                                                                                  sum_by-cons (whole Answer
-                                                                                                  (λ m. length m.bytes)) e h in
+    sum_by-cons (whole Answer
+    (λ m. length m.bytes)) e h in
     let x = each e in omega (arith, a, c, d, x)
   where
     each : (e : Local) → bytes_received (e ∷ h) ≡ whole Request (λ m. length m.bytes) e + whole Answer (λ m. length m.bytes) e
@@ -249,10 +249,10 @@ sends-are p r (l ∷ xs) = at ((cell p (link p l).source).rank == r) (sends-are 
     at : (b : Bool) → count_by (is_message p) (filter (λ l. (cell p (link p l).source).rank == r) xs) ≡ sum_by
         (λ l. cond (((cell p (link p l).source).rank == r) && is_message p l) 1 0) xs
         → sum_by (λ l. cond (((cell p (link p l).source).rank == r) && is_message p l) 1 0) (l ∷ xs) ≡ cond (b && is_message p l) 1 0
-            + sum_by (λ l. cond (((cell p (link p l).source).rank == r) && is_message p l) 1 0) xs
+        + sum_by (λ l. cond (((cell p (link p l).source).rank == r) && is_message p l) 1 0) xs
         → count_by (is_message p) (cond b (l ∷ filter (λ l. (cell p (link p l).source).rank == r) xs)
-            (filter (λ l. (cell p (link p l).source).rank == r) xs)) ≡ sum_by
-            (λ l. cond (((cell p (link p l).source).rank == r) && is_message p l) 1 0) (l ∷ xs)
+        (filter (λ l. (cell p (link p l).source).rank == r) xs)) ≡ sum_by
+        (λ l. cond (((cell p (link p l).source).rank == r) && is_message p l) 1 0) (l ∷ xs)
     at true a b = let c = count-cons (is_message p) l (filter (λ l. (cell p (link p l).source).rank == r) xs) in omega (arith, a, b, c)
     at false a b = omega (arith, a, b)
 
@@ -260,7 +260,7 @@ module _ (p : Plan) (r : ℕ) (h : List Local) (heard : (s : ℕ) (lane : Lane) 
   requests : sum_by (whole Request (λ m. 1)) h ≤ length (links_to p r)
   requests =
       let a = came Request (λ m. 1) h (λ s. sum_by (λ l. 1) (lane_links p s r)) (λ s. let x = ones (got h s Request) in let y =
-                                                                                                                              ones (lane_links p s r) in let z = (heard s Request).at_most in omega (arith, x, y, z)) in
+      ones (lane_links p s r) in let z = (heard s Request).at_most in omega (arith, x, y, z)) in
       let b = links-in p r (λ l. 1) (above h) in
       let c = ones (links_to p r) in
       omega (arith, a, b, c)
@@ -272,7 +272,7 @@ module _ (p : Plan) (r : ℕ) (h : List Local) (heard : (s : ℕ) (lane : Lane) 
           sum_by (whole Answer (λ m. 1)) h ≤ cond b (sends_of p r) 0
       at true at_most =
           let a = came Answer (λ m. 1) h (λ s. sum_by (λ l. 1) (lane_links p r s)) (λ s. let x = ones (got h s Answer) in let y =
-                                                                                                                                ones (lane_links p r s) in let z = at_most s in omega (arith, x, y, z)) in
+          ones (lane_links p r s) in let z = at_most s in omega (arith, x, y, z)) in
           let b = links-out p r (λ l. 1) (above h) in
           let c = sends-are p r (all_links p) in
           omega (arith, a, b, c)
@@ -289,7 +289,7 @@ module _ (p : Plan) (r : ℕ) (h : List Local) (heard : (s : ℕ) (lane : Lane) 
   pub at_most-bytes : bytes_received h ≤ sum_by (λ l. (link p l).length) (links_to p r)
   at_most-bytes =
       let a = came Request (λ m. length m.bytes) h (λ s. sum_by (λ l. (link p l).length) (lane_links p s r))
-            (λ s. (heard s Request).short) in
+      (λ s. (heard s Request).short) in
       let b = links-in p r (λ l. (link p l).length) (above h) in
       let c = came Answer (λ m. length m.bytes) h (λ s. 0) (λ s. (heard s Answer).short) in
       let d = total-none (above h) in
@@ -331,7 +331,7 @@ pub short-history : (p : Plan) (inputs : Inputs) → SoundPlan p (length inputs)
 short-history p inputs sound n compiled is strays =
     let r = n.task.rank in let k = slots_of n.kept in
     let a = few_steps p k r (start_of p k r) n.diary.locals (prepare p inputs k r) (prepared_of p inputs sound k r)
-          (run-legal p inputs k r n compiled is (agrees n.kept is.descriptors)) in
+    (run-legal p inputs k r n compiled is (agrees n.kept is.descriptors)) in
     let b = length-rank_ops p r in
     let c = at_most-out p r in
     let d = length-own-le p r in

@@ -44,18 +44,21 @@ more-sofar with P old n r x before after last h c k there is now = record {
   each = λ i d low at. ⊎_elim
       (λ (e : (i ≡ n) × (counted c k ≡ d)). subst P e.1 is)
       (λ (e : (i ≢ n) × (get_elem? h.counts i ≡ some d)). h.each i d (let apart = e.0 in omega (arith, low, apart)) e.1)
-          (at_set h.counts n i (counted c k) d at);
+      (at_set h.counts n i (counted c k) d at);
 }
 
 pub all-sofar : (with : RankNote → List LaneCount → RankNote) (P : LaneCount → Type 0) (old : List LaneCount) (n r : ℕ) (x : RankNote)
     (before after : List RankNote)
     → n ≡ length old → Sofar with P old n r x before after → (cs : List LaneCount) × (after ≡ slice_set before r (with x cs)) ×
-        Recounted P old cs
+    Recounted P old cs
 all-sofar with P old n r x before after all h = (
   h.counts,
   h.wave,
-  record { lanes = h.lanes; each = λ i c at. h.each i c (let k = within h.counts i c at in let m = as-many old h.counts h.lanes in
-      omega (arith, k, m, all)) at },
+  record {
+    lanes = h.lanes;
+    each = λ i c at. h.each i c (let k = within h.counts i c at in let m = as-many old h.counts h.lanes in
+        omega (arith, k, m, all)) at;
+  },
 )
 
 -- ---- lanes that differ in their numbers alone
@@ -64,7 +67,7 @@ pub same-lanes : (P : ℕ → Lane → Type 0) (cs ds : List LaneCount) → clea
     → (i : ℕ) (c : LaneCount) → get_elem? ds i ≡ some c → P c.rank c.lane
 same-lanes P cs ds e h i c at =
     let z = at_map_back (λ (d : LaneCount). counted d 0) cs i (counted c 0) (ap (λ (l : List LaneCount). get_elem? l i) (sym e)
-          ∙ at_map (λ (d : LaneCount). counted d 0) ds i c at) in
+    ∙ at_map (λ (d : LaneCount). counted d 0) ds i c at) in
     subst (λ (d : LaneCount). P d.rank d.lane) z.2 (h i z.0 z.1)
 
 -- what stands at a place that was set

@@ -44,7 +44,7 @@ request-lane false l e f = sym e
 pub fire-free : (p : Plan) (k : Slots) (r : ℕ) (n : NodeState) (t : ℕ) (outs : List OutPort) → IsOf p k r n.nic →
     goes_out n.closed (target_at n.nic t) ≡ true → Gated n.closed outs
     → (i : ℕ) (o : OutPort) (m : Sent) → get_elem? outs i ≡ some o → (fired n.nic t).message ≡ Some m → is_for o.target o.lane m ≡ true →
-        o.end.waits ≡ false
+    o.end.waits ≡ false
 fire-free p k r n t outs of goes gated i o m a made f =
     let is = of-for o.target o.lane m f in
     let lane = request-lane _ o.lane is.1 (from_link-request p k r m (fired_link p k r t n.nic m of made)) in

@@ -73,7 +73,7 @@ gated-set outs closed at p q there same inside differ gated =
     outs at q
     (gate-here q.lane q.target q.end.waits closed (subst (λ d. d < length closed) (sym same.target) inside))
     (λ j z apart e f. gate-other q.lane q.target q.end.waits closed z.target
-        (λ g h. apart (differ j at z p e there (h ∙ same.target) (f ∙ sym g ∙ same.lane))) ∙ gated j z e f)
+    (λ g h. apart (differ j at z p e there (h ∙ same.target) (f ∙ sym g ∙ same.lane))) ∙ gated j z e f)
 
 -- ---- a message goes to the end of its lane
 pub sent-here : (d : ℕ) (l : Lane) (m : Sent) → is_for d l m ≡ true → m ∷ [] ≡ filter (is_for d l) (m ∷ [])
@@ -99,8 +99,11 @@ pub posted-set : (m : Sent) (outs : List OutPort) (at : ℕ) (p q : OutPort) →
     p.lane ≡ lane_of m.header.kind → SameOut p q → q.end.sent ≡ p.end.sent ++ m ∷ [] → OutsDiffer outs
     → Pairwise (Posted (Some m)) outs (set outs at q)
 posted-set m outs at p q there goal lane same sent differ = pairs_set (Posted (Some m)) outs at p q there
-    (record { same = same; sent = sent ∙ ap (λ (ms : List Sent). p.end.sent ++ ms)
-        (sent-here p.target p.lane m (for-of p.target p.lane m (sym goal) (sym lane))) })
+    (record {
+      same = same;
+      sent = sent ∙ ap (λ (ms : List Sent). p.end.sent ++ ms)
+          (sent-here p.target p.lane m (for-of p.target p.lane m (sym goal) (sym lane)));
+    })
     (λ j z apart e. posted-else m z (λ f g. apart (differ j at z p e there (f ∙ sym goal) (g ∙ sym lane))))
 
 pub posted-none : (m : Sent) (outs : List OutPort) → Each (NoEnd m) outs → Pairwise (Posted (Some m)) outs outs
@@ -131,20 +134,22 @@ differ-set outs at p q there same differ i j x y e f goal lane =
 pub ends-set : (wires : List WireState) (closed : List Bool) (outs : List OutPort) (at : ℕ) (p q : OutPort) → get_elem? outs at ≡ some p →
     SameOut p q → AreEnds wires closed outs → AreEnds wires (gate_after q.lane q.target q.end.waits closed) (set outs at q)
 ends-set wires closed outs at p q there same ends = let new = gate_after q.lane q.target q.end.waits closed in let wide =
-                                                                                                                     gate-wide q.lane q.target q.end.waits closed in record {
-  wired = each_set (λ (z : OutPort). Fits wires (out_joint z)) outs at q
-      (subst (Fits wires) (same-joint p q same) (ends.wired at p there)) (λ j z apart e. ends.wired j z e);
-  inside = each_set (λ (z : OutPort). z.target < length new) outs at q
-      (let k = ends.inside at p there in let e = same.target in subst (λ d. d < length new) (sym e) (omega (arith, k, wide)))
-      (λ j z apart e. let k = ends.inside j z e in omega (arith, k, wide));
-  differ = differ-set outs at p q there same ends.differ;
-  gated = gated-set outs closed at p q there same (ends.inside at p there) ends.differ ends.gated;
-}
+    gate-wide q.lane q.target q.end.waits closed in record {
+      wired = each_set (λ (z : OutPort). Fits wires (out_joint z)) outs at q
+          (subst (Fits wires) (same-joint p q same) (ends.wired at p there)) (λ j z apart e. ends.wired j z e);
+      inside = each_set (λ (z : OutPort). z.target < length new) outs at q
+          (let k = ends.inside at p there in let e = same.target in subst (λ d. d < length new) (sym e) (omega (arith, k, wide)))
+          (λ j z apart e. let k = ends.inside j z e in omega (arith, k, wide));
+      differ = differ-set outs at p q there same ends.differ;
+      gated = gated-set outs closed at p q there same (ends.inside at p there) ends.differ ends.gated;
+    }
 
 -- ---- all ends, one after the other
 pub regated-after : (a b c : NodeState) → Regated a b → Regated b c → Regated a c
-regated-after a b c f g = record { same = g.same ∙ ap (λ (n : NodeState). let o : NodeState = record n { closed = c.closed } in o) f.same;
-    wide = g.wide ∙ f.wide }
+regated-after a b c f g = record {
+  same = g.same ∙ ap (λ (n : NodeState). let o : NodeState = record n { closed = c.closed } in o) f.same;
+  wide = g.wide ∙ f.wide;
+}
 
 pub regated-same : (a : NodeState) → Regated a a
 regated-same a = record { same = refl; wide = refl }
@@ -155,9 +160,9 @@ pub tried-more : (first outs : List OutPort) (at : ℕ) (p q : OutPort) → get_
     → (i : ℕ) (x y : OutPort) → i < at + 1 → get_elem? first i ≡ some x → get_elem? (set outs at q) i ≡ some y → Flushed x y
 tried-more first outs at p q there same now before i x y below a b = ⊎_elim
     (λ (is : (i ≡ at) × (q ≡ y)). subst (Flushed x) is.1 (subst (λ (z : OutPort). Flushed z q)
-        (same_at first at p x (sym same ∙ there) (ap (get_elem? first) (sym is.0) ∙ a)) now))
+    (same_at first at p x (sym same ∙ there) (ap (get_elem? first) (sym is.0) ∙ a)) now))
     (λ (is : (i ≢ at) × (get_elem? outs i ≡ some y)). before i x y (let n = is.0 in omega (arith, n, below)) a is.1)
-        (at_set outs at i q y b)
+    (at_set outs at i q y b)
 
 pub free-more : (outs : List OutPort) (at : ℕ) (q : OutPort) → q.end.waits ≡ false →
     ((i : ℕ) (y : OutPort) → i < at → get_elem? outs i ≡ some y → y.end.waits ≡ false)
@@ -181,5 +186,10 @@ found outs seen at m o p d l same is goal lane to kind read =
     let low = within outs at o here in
     let there = at_index outs at p low read in
     let one = same_at outs at p o there here in
-    record { within = low; there = there; goal = ap (λ (z : OutPort). z.target) one ∙ goal ∙ to; lane = ap (λ (z : OutPort). z.lane) one
-        ∙ lane ∙ kind }
+    record {
+      within = low;
+      there = there;
+      goal = ap (λ (z : OutPort). z.target) one ∙ goal ∙ to;
+      lane = ap (λ (z : OutPort). z.lane) one
+          ∙ lane ∙ kind;
+    }

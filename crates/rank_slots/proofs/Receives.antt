@@ -68,13 +68,13 @@ pub heard-more : (p : Plan) (n : NodeState) (s : ℕ) (lane : Lane) (m : Sent) �
     → (q : ℕ) (l : Lane) → KeepsBounds (bounds_on p q n.task.rank l) (got (n.diary.locals ++ Receive s lane m ∷ []) q l)
 heard-more p n s lane m heard keeps q l =
     subst (KeepsBounds (bounds_on p q n.task.rank l)) (sym (got-append n.diary.locals (Receive s lane m ∷ []) q l))
-        (at ((s == q) && same_lane lane l) refl)
+    (at ((s == q) && same_lane lane l) refl)
   where
     at : (b : Bool) → ((s == q) && same_lane lane l) ≡ b → KeepsBounds (bounds_on p q n.task.rank l)
         (got n.diary.locals q l ++ cond b (m ∷ []) [])
     at true e = let f = both-true (s == q) (same_lane lane l) e in
         subst (λ (z : ℕ × Lane). KeepsBounds (bounds_on p z.0 n.task.rank z.1) (got n.diary.locals z.0 z.1 ++ m ∷ []))
-            (λ i. (eqb-true s q f.0 i, same-lane-is lane l f.1 i)) keeps
+        (λ i. (eqb-true s q f.0 i, same-lane-is lane l f.1 i)) keeps
     at false e = subst (KeepsBounds (bounds_on p q n.task.rank l)) (sym (append-nil (got n.diary.locals q l))) (heard q l)
 
 -- what an in end received, one message more
@@ -123,7 +123,7 @@ answer-is l k e f = sym e ∙ ap (λ (b : Bool). cond b Answer Request) f
 pub answer-free : (s : State) (lane : Lane) (m : Sent) (source : ℕ) (outs : List OutPort) → m.header.source ≡ source →
     is_lane lane m.header.kind ≡ true → (lane ≡ Request → IsOpen source Answer outs)
     → (i : ℕ) (o : OutPort) (a : Sent) → get_elem? outs i ≡ some o → made_by s (Receive source lane m) ≡ Some a →
-        is_for o.target o.lane a ≡ true → o.end.waits ≡ false
+    is_for o.target o.lane a ≡ true → o.end.waits ≡ false
 answer-free s lane m source outs from kind is_open i o a there made f =
     let t = target_answers s m a made in let is = of-for o.target o.lane a f in
     let goal : o.target ≡ source = sym is.0 ∙ (answer-to t.1.ok t.1.length t.1.bytes m.header a t.1.is ∙ from) in

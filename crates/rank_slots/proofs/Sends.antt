@@ -106,7 +106,7 @@ module _ (p : Plan) (inputs : Inputs) (sound : SoundPlan p (length inputs)) (n :
   travels : (d : ℕ) (lane : Lane) → All (Travels (bounds_on p r d lane)) (sent go first n.diary.locals d lane)
   travels d lane = all-in (Travels (bounds_on p r d lane)) (sent go first n.diary.locals d lane)
       (λ m i. let q = In-filter_cases (is_for d lane) m (made go first n.diary.locals) i in let f = of-for d lane m q.1 in
-          (source-is m q.0, f.0, f.1))
+      (source-is m q.0, f.0, f.1))
 
   at_most : (d : ℕ) (lane : Lane) → HasHeard p n → is_used_lane p r d lane ≡ true →
       length (sent go first n.diary.locals d lane) ≤ lane_messages p r d lane
@@ -123,7 +123,7 @@ module _ (p : Plan) (inputs : Inputs) (sound : SoundPlan p (length inputs)) (n :
   short d Request = few_bytes p k r go n.diary.locals false first of legal d
   short d Answer = none-in (sent go first n.diary.locals d Answer)
       (λ m i. let q = In-filter_cases (is_for d Answer) m (made go first n.diary.locals) i in
-          answers-empty p inputs sound k r n.diary.locals m of q.0 (is-answer m (of-for d Answer m q.1).1))
+      answers-empty p inputs sound k r n.diary.locals m of q.0 (is-answer m (of-for d Answer m q.1).1))
 
   -- what was sent on a lane that is used
   pub keeps-sent : (d : ℕ) (lane : Lane) (ms : List Sent) → HasHeard p n → is_used_lane p r d lane ≡ true → HasSent p inputs n d lane ms →

@@ -22,8 +22,11 @@ use Rattle.rank_slots.proofs.Snocs.{each_snoc, front_some, snoc_at}
 pub slotwise_set : (R : ℕ → TurnRank → TurnRank → Type 0) (l : List TurnRank) (i : ℕ) (old new : TurnRank) → get_elem? l i ≡ some old →
     R i old new → ((r : ℕ) (y : TurnRank) → (r ≡ i → ⊥) → R r y y) → Slotwise R l (set l i new)
 slotwise_set R l i old new at here others r x e = ⊎_elim
-    (λ (is : (r ≡ i) × (new ≡ x)). (old, ap (get_elem? l) is.0 ∙ at,
-        subst (λ (z : ℕ × TurnRank). R z.0 old z.1) (λ k. (sym is.0 k, is.1 k)) here))
+    (λ (is : (r ≡ i) × (new ≡ x)). (
+      old,
+      ap (get_elem? l) is.0 ∙ at,
+      subst (λ (z : ℕ × TurnRank). R z.0 old z.1) (λ k. (sym is.0 k, is.1 k)) here,
+    ))
     (λ (is : (r ≡ i → ⊥) × (get_elem? l r ≡ some x)). (x, is.1, others r x is.0)) (at_set l i r new x e)
 
 pub here_is : {A : Type 0} (s : ℕ) (a : A) → at_rank s s a ≡ a ∷ []
@@ -43,16 +46,24 @@ pub gains_out : (s : ℕ) (p : OutPort) (y x : TurnRank) → SameNode s y x → 
 gains_out s p y x n i o = record { same = n; outs_are = o ∙ ap (λ l. y.outs.items ++ l) (sym (here_is s p)); ins_are = ap (λ v. v.items) i }
 
 pub gains_no_out : (s : ℕ) (p : OutPort) (r : ℕ) (y : TurnRank) → (r ≡ s → ⊥) → GainsOut s p r y y
-gains_no_out s p r y n = record { same = same-node r y; outs_are =
-    sym (ap (λ l. y.outs.items ++ l) (else_is r s p n) ∙ append-nil y.outs.items); ins_are = refl }
+gains_no_out s p r y n = record {
+  same = same-node r y;
+  outs_are =
+      sym (ap (λ l. y.outs.items ++ l) (else_is r s p n) ∙ append-nil y.outs.items);
+  ins_are = refl;
+}
 
 pub gains_in : (s : ℕ) (p : InPort) (y x : TurnRank) → SameNode s y x → x.outs ≡ y.outs → x.ins.items ≡ y.ins.items ++ p ∷ [] →
     GainsIn s p s y x
 gains_in s p y x n o i = record { same = n; ins_are = i ∙ ap (λ l. y.ins.items ++ l) (sym (here_is s p)); outs_are = ap (λ v. v.items) o }
 
 pub gains_no_in : (s : ℕ) (p : InPort) (r : ℕ) (y : TurnRank) → (r ≡ s → ⊥) → GainsIn s p r y y
-gains_no_in s p r y n = record { same = same-node r y; ins_are =
-    sym (ap (λ l. y.ins.items ++ l) (else_is r s p n) ∙ append-nil y.ins.items); outs_are = refl }
+gains_no_in s p r y n = record {
+  same = same-node r y;
+  ins_are =
+      sym (ap (λ l. y.ins.items ++ l) (else_is r s p n) ∙ append-nil y.ins.items);
+  outs_are = refl;
+}
 
 pub on_ok : {A E : Type 0} {P Q : A → Type 0} (r : Result A E) → ((a : A) → P a → Q a) → IfOk r P → IfOk r Q
 on_ok (Ok a) f h = f a h
@@ -70,7 +81,7 @@ stay a r x e = (x, e, same-node r x)
 pub tied-more-out : (p : Plan) (inputs : Inputs) (m : NodeState) (outs : List OutPort) (ins : List InPort) (o : OutPort) (c : Bool) →
     Tied p inputs m outs ins → OutOk p inputs m o
     → Each (λ (q : OutPort). q.target ≡ o.target → q.lane ≡ o.lane → ⊥) outs →
-        (o.lane ≡ Request → get_or m.closed o.target false ≡ o.end.waits) → Tied p inputs m (if c then outs ++ o ∷ [] else outs) ins
+    (o.lane ≡ Request → get_or m.closed o.target false ≡ o.end.waits) → Tied p inputs m (if c then outs ++ o ∷ [] else outs) ins
 tied-more-out p inputs m outs ins o false tied ok apart gated = tied
 tied-more-out p inputs m outs ins o true tied ok apart gated = record {
   compiled = tied.compiled;
@@ -82,11 +93,11 @@ tied-more-out p inputs m outs ins o true tied ok apart gated = record {
       (λ (oa : get_elem? outs i ≡ some a). ⊎_elim
       (λ (ob : get_elem? outs k ≡ some b). tied.outs_differ i k a b oa ob goal lane)
       (λ (nb : (k ≡ length outs) × (o ≡ b)). absurd (apart i a oa (goal ∙ sym (ap (λ (q : OutPort). q.target) nb.1))
-          (lane ∙ sym (ap (λ (q : OutPort). q.lane) nb.1))))
+      (lane ∙ sym (ap (λ (q : OutPort). q.lane) nb.1))))
       (snoc_at outs o k b eb))
       (λ (na : (i ≡ length outs) × (o ≡ a)). ⊎_elim
       (λ (ob : get_elem? outs k ≡ some b). absurd (apart k b ob (sym (ap (λ (q : OutPort). q.target) na.1 ∙ goal))
-          (sym (ap (λ (q : OutPort). q.lane) na.1 ∙ lane))))
+      (sym (ap (λ (q : OutPort). q.lane) na.1 ∙ lane))))
       (λ (nb : (k ≡ length outs) × (o ≡ b)). na.0 ∙ sym nb.0)
       (snoc_at outs o k b eb))
       (snoc_at outs o i a ea);
@@ -109,11 +120,11 @@ tied-more-in p inputs m outs ins o true tied ok apart = record {
       (λ (oa : get_elem? ins i ≡ some a). ⊎_elim
       (λ (ob : get_elem? ins k ≡ some b). tied.ins_differ i k a b oa ob goal lane)
       (λ (nb : (k ≡ length ins) × (o ≡ b)). absurd (apart i a oa (goal ∙ sym (ap (λ (q : InPort). q.source) nb.1))
-          (lane ∙ sym (ap (λ (q : InPort). q.lane) nb.1))))
+      (lane ∙ sym (ap (λ (q : InPort). q.lane) nb.1))))
       (snoc_at ins o k b eb))
       (λ (na : (i ≡ length ins) × (o ≡ a)). ⊎_elim
       (λ (ob : get_elem? ins k ≡ some b). absurd (apart k b ob (sym (ap (λ (q : InPort). q.source) na.1 ∙ goal))
-          (sym (ap (λ (q : InPort). q.lane) na.1 ∙ lane))))
+      (sym (ap (λ (q : InPort). q.lane) na.1 ∙ lane))))
       (λ (nb : (k ≡ length ins) × (o ≡ b)). na.0 ∙ sym nb.0)
       (snoc_at ins o k b eb))
       (snoc_at ins o i a ea);

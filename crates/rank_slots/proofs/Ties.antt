@@ -66,7 +66,7 @@ module _ (p : Plan) (inputs : Inputs) where
   has-sent-more old new e made d lane ms compiled is went by has k agrees =
       let r = old.task.rank in let a = went.slots k agrees in
       let nic : old.nic ≡ state (start_of p k r) (prepare p inputs k r) old.diary.locals =
-            run-state p inputs (λ q. k) (λ q. old.diary.locals) r old compiled is a refl in
+      run-state p inputs (λ q. k) (λ q. old.diary.locals) r old compiled is a refl in
       ap₂ (λ x (o : Option Sent). x ++ filter (is_for d lane) (and_then o [])) (has k a) by
       ∙ (sym (sent-more (start_of p k r) (prepare p inputs k r) old.nic old.diary.locals e d lane nic)
       ∙ ap₂ (λ (t : Task) h. sent (start_of p k t.rank) (prepare p inputs k t.rank) h d lane) (sym went.task) (sym went.locals))
@@ -93,7 +93,7 @@ module _ (p : Plan) (inputs : Inputs) where
         bounds = heard.same.bounds ∙ (ok.bounds ∙ (λ i. bounds_on p (sym heard.same.source i) (task i).rank (sym heard.same.lane i)));
         got_is = heard.received ∙ (ap (λ (ms : List Sent). ms ++ got (e ∷ []) x.source x.lane) ok.got_is
             ∙ (sym (got-append old.diary.locals (e ∷ []) x.source x.lane)
-                ∙ (λ i. got (sym went.locals i) (sym heard.same.source i) (sym heard.same.lane i))));
+            ∙ (λ i. got (sym went.locals i) (sym heard.same.source i) (sym heard.same.lane i))));
       }
 
   outs-differ : (made : Option Sent) (outs later : List OutPort) → Pairwise (Posted made) outs later → OutsDiffer outs → OutsDiffer later
@@ -114,7 +114,7 @@ module _ (p : Plan) (inputs : Inputs) where
   pub tied-step : (old new : NodeState) (e : Local) (made : Option Sent) (outs outs' : List OutPort) (ins ins' : List InPort) →
       IsNode old → Went old new e → made ≡ made_by old.nic e
       → Pairwise (Posted made) outs outs' → Pairwise (Heard e) ins ins' → Gated new.closed outs' → HasHeard p new →
-          Tied p inputs old outs ins → Tied p inputs new outs' ins'
+      Tied p inputs old outs ins → Tied p inputs new outs' ins'
   tied-step old new e made outs outs' ins ins' is went by posted heard gated has tied = record {
     compiled = subst (λ (t : Task). IsCompiledFor p inputs t.rank t) (sym went.task) tied.compiled;
     strays = went.strays ∙ tied.strays;
@@ -135,13 +135,16 @@ module _ (p : Plan) (inputs : Inputs) where
   pub still-heard : (old new : NodeState) (e : Local) → Went old new e → Silent e → HasHeard p old → HasHeard p new
   still-heard old new e went silent heard s lane =
       let same : got old.diary.locals s lane ≡ got new.diary.locals s lane =
-            sym (ap (λ h. got h s lane) went.locals ∙ (got-append old.diary.locals (e ∷ []) s lane
-            ∙ (ap (λ (ms : List Sent). got old.diary.locals s lane ++ ms) (silent s lane) ∙ append-nil (got old.diary.locals s lane)))) in
+      sym (ap (λ h. got h s lane) went.locals ∙ (got-append old.diary.locals (e ∷ []) s lane
+      ∙ (ap (λ (ms : List Sent). got old.diary.locals s lane ++ ms) (silent s lane) ∙ append-nil (got old.diary.locals s lane)))) in
       subst (λ (z : Task × List Sent). KeepsBounds (bounds_on p s z.0.rank lane) z.1) (λ i. (sym went.task i, same i)) (heard s lane)
 
   pub not-heard : (e : Local) (ins : List InPort) → Silent e → Pairwise (Heard e) ins ins
-  not-heard e ins silent = pairs_same (Heard e) ins (λ x. record { same = same-in x; received =
-      sym (ap (λ (ms : List Sent). x.end.received ++ ms) (silent x.source x.lane) ∙ append-nil x.end.received) })
+  not-heard e ins silent = pairs_same (Heard e) ins (λ x. record {
+    same = same-in x;
+    received =
+        sym (ap (λ (ms : List Sent). x.end.received ++ ms) (silent x.source x.lane) ∙ append-nil x.end.received);
+  })
 
   pub not-posted : (outs : List OutPort) → Pairwise (Posted None) outs outs
   not-posted outs = pairs_same (Posted None) outs (λ x. record { same = same-out x; sent = sym (append-nil x.end.sent) })
@@ -188,7 +191,7 @@ module _ (p : Plan) (inputs : Inputs) where
     strays = tied.strays;
     heard = tied.heard;
     out = λ i y a. let x = exists_at outs i (let k = within outs' i y a in let m = pairs.many in omega arith) in let ok =
-                                                                                                                       out-same n x.0 y (pairs.each i x.0 y x.1 a) (tied.out i x.0 x.1) in record { used = ok.used; inside = ok.inside; bounds = ok.bounds; sent_is = ok.sent_is };
+        out-same n x.0 y (pairs.each i x.0 y x.1 a) (tied.out i x.0 x.1) in record { used = ok.used; inside = ok.inside; bounds = ok.bounds; sent_is = ok.sent_is };
     into = λ i y a. let ok = tied.into i y a in record { bounds = ok.bounds; got_is = ok.got_is };
     outs_differ = λ i j y z a b goal lane.
         (let o = exists_at outs i (let k = within outs' i y a in let m = pairs.many in omega arith) in
@@ -220,7 +223,7 @@ module _ (p : Plan) (inputs : Inputs) where
       (ins : List InPort) → IsNode old → IsNode new → Went old new e → made ≡ made_by old.nic e → HasHeard p new →
       Tied p inputs old outs ins
       → ((i : ℕ) (o : OutPort) (m : Sent) → get_elem? outs i ≡ some o → made ≡ Some m → is_for o.target o.lane m ≡ true →
-          o.end.waits ≡ false) → Each (MayPost made) outs
+      o.end.waits ≡ false) → Each (MayPost made) outs
   may-post sound old new e made outs ins is0 is1 went by heard tied free i o a = at made by free
     where
       compiled1 : IsCompiledFor p inputs new.task.rank new.task
@@ -234,11 +237,13 @@ module _ (p : Plan) (inputs : Inputs) where
           let ok = tied.out i o a in
           let has = has-sent-more old new e (Some m) o.target o.lane o.end.sent tied.compiled is0 went by ok.sent_is in
           let now = subst (λ (ms : List Sent). HasSent p inputs new o.target o.lane (o.end.sent ++ ms))
-                (sym (sent-here o.target o.lane m f)) has in
+          (sym (sent-here o.target o.lane m f)) has in
           let used = subst (λ (t : Task). is_used_lane p t.rank o.target o.lane ≡ true) (sym went.task) ok.used in
-          let keeps = keeps-sent p inputs sound new compiled1 is1 o.target o.lane (o.end.sent ++ m ∷ []) heard used now in
-          (free i o m a refl f, subst (λ (b : Bounds). KeepsBounds b (o.end.sent ++ m ∷ []))
-              (sym (ok.bounds ∙ ap (λ (t : Task). bounds_on p t.rank o.target o.lane) (sym went.task))) keeps)
+          let keeps = keeps-sent p inputs sound new compiled1 is1 o.target o.lane (o.end.sent ++ m ∷ []) heard used now in (
+            free i o m a refl f,
+            subst (λ (b : Bounds). KeepsBounds b (o.end.sent ++ m ∷ []))
+                (sym (ok.bounds ∙ ap (λ (t : Task). bounds_on p t.rank o.target o.lane) (sym went.task))) keeps,
+          )
 
 -- ---- the name
 pub named : (job : JobOf) (ins : List Joint) (t t' : Task) (outs outs' : List Joint) → t' ≡ t → outs' ≡ outs →
@@ -248,7 +253,7 @@ named job ins t t' outs outs' e f = λ i. record { job = job; task = e i; outs =
 
 pub named-all : (job : JobOf) (t t' : Task) (outs outs' ins ins' : List Joint) → t' ≡ t → outs' ≡ outs → ins' ≡ ins
     → (let a : Plate = record { job = job; task = t'; outs = outs'; ins = ins' } in a)
-        ≡ (let b : Plate = record { job = job; task = t; outs = outs; ins = ins } in b)
+    ≡ (let b : Plate = record { job = job; task = t; outs = outs; ins = ins } in b)
 named-all job t t' outs outs' ins ins' e f g = λ i. record { job = job; task = e i; outs = f i; ins = g i }
 
 pub same-in-joint : (x y : InPort) → SameIn x y → in_joint y ≡ in_joint x
@@ -269,10 +274,10 @@ tied-ins p inputs n outs ins ins' pairs tied = record {
   heard = tied.heard;
   out = tied.out;
   into = λ i y a. (let x = exists_at ins i (let k = within ins' i y a in let m = pairs.many in omega arith) in let ok =
-                                                                                                                     tied.into i x.0 x.1 in let same = pairs.each i x.0 y x.1 a in record {
-    bounds = same.0.bounds ∙ (ok.bounds ∙ (λ j. bounds_on p (sym same.0.source j) n.task.rank (sym same.0.lane j)));
-    got_is = same.1 ∙ (ok.got_is ∙ (λ j. got n.diary.locals (sym same.0.source j) (sym same.0.lane j)));
-  });
+      tied.into i x.0 x.1 in let same = pairs.each i x.0 y x.1 a in record {
+        bounds = same.0.bounds ∙ (ok.bounds ∙ (λ j. bounds_on p (sym same.0.source j) n.task.rank (sym same.0.lane j)));
+        got_is = same.1 ∙ (ok.got_is ∙ (λ j. got n.diary.locals (sym same.0.source j) (sym same.0.lane j)));
+      });
   outs_differ = tied.outs_differ;
   ins_differ = λ i j y z a b source lane.
       (let o = exists_at ins i (let k = within ins' i y a in let m = pairs.many in omega arith) in

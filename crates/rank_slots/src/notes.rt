@@ -42,7 +42,8 @@ impl TurnRank {
     fn note_sent(&self, rank: Rank, wave: &mut Wave)
         requires rank { rank < length wave.old }
         requires there { (x : RankNote) → get_elem? wave.old rank ≡ some x → x.there ≡ true }
-        requires ends { (x : RankNote) (i : ℕ) (c : LaneCount) → get_elem? wave.old rank ≡ some x → get_elem? x.note.sent i ≡ some c → HasOut self.now c.rank c.lane }
+        requires ends { (x : RankNote) (i : ℕ) (c : LaneCount) → get_elem? wave.old rank ≡ some x → get_elem? x.note.sent i ≡ some c →
+            HasOut self.now c.rank c.lane }
         ensures { (x : RankNote) → get_elem? wave.old rank ≡ some x →
             (cs : List LaneCount) × (wave.new ≡ slice_set wave.old rank (with_sent x cs)) × Recounted (HasSentOn self.now) x.note.sent cs }
     {
@@ -58,9 +59,11 @@ impl TurnRank {
     fn note_got(&self, rank: Rank, wave: &mut Wave)
         requires rank { rank < length wave.old }
         requires there { (x : RankNote) → get_elem? wave.old rank ≡ some x → x.there ≡ true }
-        requires ends { (x : RankNote) (i : ℕ) (c : LaneCount) → get_elem? wave.old rank ≡ some x → get_elem? x.note.got i ≡ some c → HasIn self.now c.rank c.lane }
+        requires ends { (x : RankNote) (i : ℕ) (c : LaneCount) → get_elem? wave.old rank ≡ some x → get_elem? x.note.got i ≡ some c →
+            HasIn self.now c.rank c.lane }
         ensures { (x : RankNote) → get_elem? wave.old rank ≡ some x →
-            (cs : List LaneCount) × (wave.new ≡ slice_set wave.old rank (with_got x cs)) × Recounted (CountsGot (history self.now)) x.note.got cs }
+            (cs : List LaneCount) × (wave.new ≡ slice_set wave.old rank (with_got x cs)) ×
+            Recounted (CountsGot (history self.now)) x.note.got cs }
     {
         let count = wave.note(rank).got.len();
         for i in 0..count {
@@ -75,9 +78,12 @@ impl TurnRank {
     pub fn note_in(&self, rank: Rank, wave: &mut Wave)
         requires rank { rank < length wave.old }
         requires empty { (x : RankNote) → get_elem? wave.old rank ≡ some x → x.there ≡ false }
-        requires outs { (x : RankNote) (i : ℕ) (c : LaneCount) → get_elem? wave.old rank ≡ some x → get_elem? x.note.sent i ≡ some c → HasOut self.now c.rank c.lane }
-        requires ins { (x : RankNote) (i : ℕ) (c : LaneCount) → get_elem? wave.old rank ≡ some x → get_elem? x.note.got i ≡ some c → HasIn self.now c.rank c.lane }
-        ensures { (x : RankNote) → get_elem? wave.old rank ≡ some x → (y : RankNote) × (wave.new ≡ slice_set wave.old rank y) × IsNoted self.now x y }
+        requires outs { (x : RankNote) (i : ℕ) (c : LaneCount) → get_elem? wave.old rank ≡ some x → get_elem? x.note.sent i ≡ some c →
+            HasOut self.now c.rank c.lane }
+        requires ins { (x : RankNote) (i : ℕ) (c : LaneCount) → get_elem? wave.old rank ≡ some x → get_elem? x.note.got i ≡ some c →
+            HasIn self.now c.rank c.lane }
+        ensures { (x : RankNote) → get_elem? wave.old rank ≡ some x → (y : RankNote) × (wave.new ≡ slice_set wave.old rank y) ×
+            IsNoted self.now x y }
     {
         wave.begin(rank, self.node.started(), self.node.nic().ready());
         self.note_sent(rank, wave);

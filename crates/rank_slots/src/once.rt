@@ -61,7 +61,8 @@ impl TurnRank {
 
     /// The place of the in end of a lane. `None` exactly where the rank has none.
     fn in_of(&self, source: Rank, lane: Lane) -> Option<usize>
-        ensures some { IfSome result (λ i. (p : InPort) × (get_elem? self.now.ins.items i ≡ some p) × (p.source ≡ source) × (p.lane ≡ lane)) }
+        ensures some { IfSome result (λ i. (p : InPort) × (get_elem? self.now.ins.items i ≡ some p) × (p.source ≡ source) ×
+            (p.lane ≡ lane)) }
         ensures none { IfNone result (Each (λ (p : InPort). p.source ≡ source → p.lane ≡ lane → ⊥) self.now.ins.items) }
     {
         find_in(&self.ins, &self.hints.ins, source, lane)

@@ -99,7 +99,8 @@ fn flush_at<R: Wait>(rt: &R, wires: &[Wire], port: &mut OutPort) -> bool
 pub(crate) fn pop_at<R: Wait>(rt: &R, wires: &[Wire], port: &mut InPort) -> Option<Message>
     requires { Fits wires.now (in_joint port.old) }
     ensures same { SameIn port.old port.new }
-    ensures some { IfSome result (λ m. (port.new.end.received ≡ port.old.end.received ++ m ∷ []) × KeepsBounds port.old.end.bounds port.new.end.received) }
+    ensures some { IfSome result (λ m. (port.new.end.received ≡ port.old.end.received ++ m ∷ []) ×
+        KeepsBounds port.old.end.bounds port.new.end.received) }
     ensures none { IfNone result ((port.new.end.received ≡ port.old.end.received) × (port.new.end.empty ≡ one_more port.old.end.empty)) }
 {
     wires[port.wire as usize].pop(rt, &mut port.end)
@@ -135,7 +136,8 @@ fn flush_one<R: Wait>(
     requires ends { AreEnds wires.now node.old.closed outs.old.items }
     ensures node { Regated node.old node.new }
     ensures ends { AreEnds wires.now node.new.closed outs.new.items }
-    ensures flushed { (p : OutPort) × (q : OutPort) × (get_elem? outs.old.items at ≡ some p) × Flushed p q × (outs.new.items ≡ slice_set outs.old.items at q) × (q.end.waits ≡ false ↔ IsTrue result) }
+    ensures flushed { (p : OutPort) × (q : OutPort) × (get_elem? outs.old.items at ≡ some p) × Flushed p q ×
+        (outs.new.items ≡ slice_set outs.old.items at q) × (q.end.waits ≡ false ↔ IsTrue result) }
 {
     if !outs[at].end.waits() {
         return true;

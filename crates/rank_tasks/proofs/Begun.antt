@@ -17,7 +17,7 @@ use Rattle.rank_node.proofs.Plans.{compiled-is, prepared-is}
 
 pub can-install : (o : Outline) (inputs : Inputs) (r : ℕ) (t : Task) → SoundPlan (plan_of o) o.inputs
     → length (plan_of o).links ≤ MOST_LINKS → (plan_of o).ranks ≡ o.ranks → AreInputs o inputs → r < o.ranks →
-        IsCompiledFor (plan_of o) inputs r t → IsCompiled t
+    IsCompiledFor (plan_of o) inputs r t → IsCompiled t
 can-install o inputs r t sound at_most ranks fit lt f =
     let cells = sound.few_cells in
     let together : length (plan_of o).cells + length (plan_of o).links < 2 ^ 27 = omega (arith, cells, at_most) in

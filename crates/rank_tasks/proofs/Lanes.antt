@@ -1,6 +1,6 @@
 -- The bytes of the messages to a rank, summed up rank by rank that they come from.
-use Rattle.std.proofs.Common.{ℕ, Bool, true, false, cond, ◌+◌, ◌^◌, ◌≡◌, ◌<◌, ◌==◌, ◌&&◌, List, [], ◌∷◌, refl, length, filter, sum_by, ap,
-    ◌∙◌, arith, nat_lt, eqb-true}
+use Rattle.std.proofs.Common.{ℕ, Bool, true, false, cond, ◌+◌, ◌^◌, ◌≡◌, ◌<◌, ◌==◌, ◌&&◌, List, [], ◌∷◌, refl, length, filter, sum_by, ap}
+use Rattle.std.proofs.Common.{◌∙◌, arith, nat_lt, eqb-true}
 use Rattle.std.proofs.Math.Bool.{and-true, and-false}
 use Rattle.std.proofs.lemmas.Bool.{le-ltb, lt-ltb, ltb-true, ltb-false, eqb-false, ne_eqb}
 use Rattle.std.proofs.lemmas.List.Sums.{count_by-le-length, length-filter, sum_by-cons}
@@ -90,7 +90,7 @@ no-bytes p r = none (all_links p)
     none (x ∷ xs) =
         let a = counted (from_below p r 0) (link_length p) x xs in
         let b = ap (λ v. cond v (link_length p x) 0) (ap (λ v. comes_to p r x && v) (le-ltb (from_rank p x) 0 (omega arith))
-              ∙ and-false (comes_to p r x)) in
+        ∙ and-false (comes_to p r x)) in
         let rest = none xs in
         omega (arith, a, b, rest)
 
@@ -114,6 +114,6 @@ at_most-messages p inputs r sound = at p.remote
   where
     at : (b : Bool) → length (links_to p r) + cond b (sends_of p r) 0 < 2 ^ 33
     at true = let f = length-filter (comes_to p r) (all_links p) in let g = count_by-le-length (comes_to p r) (all_links p) in let k =
-                                                                                                                                     length-from_to 0 (length p.links) in let s = count-out-le p r in let at_most = sound.few_together in omega (arith, f, g, k, s, at_most)
+        length-from_to 0 (length p.links) in let s = count-out-le p r in let at_most = sound.few_together in omega (arith, f, g, k, s, at_most)
     at false = let f = length-filter (comes_to p r) (all_links p) in let g = count_by-le-length (comes_to p r) (all_links p) in let k =
-                                                                                                                                      length-from_to 0 (length p.links) in let at_most = sound.few_together in omega (arith, f, g, k, at_most)
+        length-from_to 0 (length p.links) in let at_most = sound.few_together in omega (arith, f, g, k, at_most)

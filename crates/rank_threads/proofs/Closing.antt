@@ -76,7 +76,7 @@ module _ (job : JobOf) (sound : IsSound job) (slots : List TurnRank) (wires : Li
     (named : (r : ℕ) (x : TurnRank) → get_elem? slots r ≡ some x → IsNamed job wires r (plate x))
     (lanes : AreLanes (plan_of job.shape) (bounds_of wires))
     (lifted : (k : ℕ) (w : WireState) → get_elem? wires k ≡ some w →
-        IsLifted w.bounds slots (lane_at ls (lane_place job.shape.ranks w.bounds.source w.bounds.target w.bounds.lane)))
+    IsLifted w.bounds slots (lane_at ls (lane_place job.shape.ranks w.bounds.source w.bounds.target w.bounds.lane)))
     (unused : (s d : ℕ) (lane : Lane) → s < job.shape.ranks → d < job.shape.ranks → is_used_lane (plan_of job.shape) s d lane ≡ false
     → lane_at ls (lane_place job.shape.ranks s d lane) ≡ frame_lane (plan_of job.shape) s d lane) where
   abbrev p : Plan
@@ -150,7 +150,7 @@ module _ (job : JobOf) (sound : IsSound job) (slots : List TurnRank) (wires : Li
         has = subst (λ (z : (JobOf × NodeState) × ((ℕ × Lane) × List Sent)). HasSent (plan_of z.0.0.shape) z.0.0.inputs z.0.1 z.1.0.0
             z.1.0.1 z.1.1)
             (λ i. ((q.job_is i, sym x.node_is i), ((ed i, el i), got (sym y.node_is i).diary.locals (es i) (el i) ++ (here i).messages)))
-                held;
+            held;
         at_most = subst (λ (z : Plain). length z.messages ≤ 4) here l.at_most;
         room = ap (λ (z : Plain). z.capacity) (sym here) ∙ (l.room ∙ ap (min 4) all);
       }
@@ -197,7 +197,7 @@ module _ (job : JobOf) (sound : IsSound job) (slots : List TurnRank) (wires : Li
     all-sent s d lane hs hd false e =
         ap₂ (λ a b. a ++ b) (got-none s d lane hd e) (ap (λ (z : Plain). z.messages) (unused s d lane hs hd e))
         ∙ sym (unused_sent combined-starts p job.inputs sound.plan sound.inputs k w cut s d lane (subst (λ q. s < q) (sym sound.ranks) hs)
-            (subst (λ q. d < q) (sym sound.ranks) hd) e)
+        (subst (λ q. d < q) (sym sound.ranks) hd) e)
 
   -- ---- room
   has-room : (s d : ℕ) (lane : Lane) → s < n → d < n → (b : Bool) → is_used_lane p s d lane ≡ b →

@@ -25,7 +25,7 @@ pub seen-here : (job : JobOf) (v w : HandView TurnRank) (r : ℕ) (a : Mark) (n 
     Says job r a.0 a.1.kept n → SaysSeen job w r a.0 n
 seen-here job v w r a n t says =
     let z = at_map_back (marks history note) t.last.slot.seen 0 (a, a) (ap (λ (l : List (Mark × Mark)). get_elem? l 0) t.last.turn_is) in
-        record {
+    record {
       slot = t.last.slot;
       slot_is = t.last.slot_is;
       at = 0;
@@ -40,7 +40,7 @@ pub seen-else : (job : JobOf) (v w : HandView TurnRank) (r q : ℕ) (a b : Mark)
     q ≢ r → SaysSeen job v q front n → SaysSeen job w q front n
 seen-else job v w r q a b front n t apart h =
     let x = at_map_back without_busy_slot w.slots q (without_busy_slot h.slot)
-          (t.others q apart ∙ at_map without_busy_slot v.slots q h.slot h.slot_is) in record {
+    (t.others q apart ∙ at_map without_busy_slot v.slots q h.slot h.slot_is) in record {
       slot = x.0;
       slot_is = x.1;
       at = h.at;

@@ -64,7 +64,7 @@ held-between b x y out into held l o i eo ei e is =
     let received : into.end.received ≡ got (history y) b.source b.lane = i.got_is ∙ (λ j. got (history y) (from j) (by j)) in
     let all : out.end.sent ≡ got (history y) b.source b.lane ++ l.messages = e ∙ ap₂ (λ u v. u ++ v) received (sym is) in
     subst (λ (z : (ℕ × Lane) × List Sent). HasSent (plan_of x.job.shape) x.job.inputs x.node.value z.0.0 z.0.1 z.1)
-        (λ j. ((to j, on j), all j)) o.sent_is
+    (λ j. ((to j, on j), all j)) o.sent_is
 
 -- ends that left slots tell as much of the slots before
 pub held-before : (b : Bounds) (old new : List TurnRank) (l : Plain) → Slotwise SameNode old new → length new ≡ length old →
@@ -72,7 +72,7 @@ pub held-before : (b : Bounds) (old new : List TurnRank) (l : Plain) → Slotwis
 held-before b old new l s n h x y ex ey =
     let u = node_before old new s n b.source x ex in let v = node_before old new s n b.target y ey in
     subst (λ (z : (JobOf × NodeState) × NodeState). HasSent (plan_of z.0.0.shape) z.0.0.inputs z.0.1 b.target b.lane
-        (got z.1.diary.locals b.source b.lane ++ l.messages))
+    (got z.1.diary.locals b.source b.lane ++ l.messages))
     (λ j. ((u.2.job_is j, u.2.node j), v.2.node j)) (h u.0 v.0 u.1 v.1)
 
 pub lifted-before : (b : Bounds) (old new : List TurnRank) (l : Plain) → Slotwise SameNode old new → length new ≡ length old →
@@ -134,7 +134,7 @@ module _ (p : Plan) (n : ℕ) (ranks : p.ranks ≡ n) (all : List WireState) (ar
     lifted-more l is low = record {
       left = λ s d lane hs hd not.
           (let apart : lane_place n s d lane ≡ here → ⊥ = (λ same. not m w (omega arith) there
-                 (lane_apart n w.bounds.source w.bounds.target w.bounds.lane s d lane (between m w there).1 hd (sym same))) in
+          (lane_apart n w.bounds.source w.bounds.target w.bounds.lane s d lane (between m w there).1 hd (sym same))) in
           get_or-set_other ls here (lane_place n s d lane) l (plain [] 0) apart
           ∙ h.left s d lane hs hd (λ k v k-low e o. not k v (omega (arith, k-low)) e o));
       done = λ k v k-low e. ⊎_elim
@@ -145,10 +145,10 @@ module _ (p : Plan) (n : ℕ) (ranks : p.ranks ≡ n) (all : List WireState) (ar
           (λ (other : k ≡ m → ⊥).
           let place = lane_place n v.bounds.source v.bounds.target v.bounds.lane in
           let apart : place ≡ here → ⊥ = (λ same. other (one-wire k m v w e there
-                (lane_apart n v.bounds.source v.bounds.target v.bounds.lane w.bounds.source w.bounds.target w.bounds.lane
-                (between k v e).1 (between m w there).1 same))) in
+          (lane_apart n v.bounds.source v.bounds.target v.bounds.lane w.bounds.source w.bounds.target w.bounds.lane
+          (between k v e).1 (between m w there).1 same))) in
           subst (IsLifted v.bounds slots) (sym (get_or-set_other ls here place l (plain [] 0) apart))
-              (h.done k v (omega (arith, k-low, other)) e))
+          (h.done k v (omega (arith, k-low, other)) e))
           (cases_eq k m);
     }
       where

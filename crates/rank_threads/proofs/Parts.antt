@@ -11,4 +11,4 @@ sum-each f (x ∷ xs) [] n h = absurd (omega (arith, n))
 sum-each f (x ∷ xs) (y ∷ ys) n h =
     sum_by-cons f y ys
     ∙ (ap₂ (λ a b. a + b) (h 0 x (omega arith)) (sum-each f xs ys (omega (arith, n)) (λ i d low. h (suc i) d (omega (arith, low))))
-        ∙ sym (sum_by-cons f x xs))
+    ∙ sym (sum_by-cons f x xs))

@@ -33,13 +33,13 @@ module _ (job : JobOf) (sound : IsSound job) (wires : List WireState) (lanes : A
   pub has-out : (y : RankNote) (i : ℕ) (c : LaneCount) → get_elem? w r ≡ some y → get_elem? y.note.sent i ≡ some c → HasOut x c.rank c.lane
   has-out y i c at there =
       let u = from-used p r i (counted c 0) (ap (λ (l : List LaneCount). get_elem? l i) (sym (for.sent r y at))
-            ∙ at_map (λ (z : LaneCount). counted z 0) y.note.sent i c there) in
+      ∙ at_map (λ (z : LaneCount). counted z 0) y.note.sent i c there) in
       let o = out-at job sound wires lanes r x named c.rank c.lane u.used in (o.at, o.port, o.there, o.target, o.lane_is)
 
   pub has-in : (y : RankNote) (i : ℕ) (c : LaneCount) → get_elem? w r ≡ some y → get_elem? y.note.got i ≡ some c → HasIn x c.rank c.lane
   has-in y i c at there =
       let u = to-used p r i (counted c 0) (ap (λ (l : List LaneCount). get_elem? l i) (sym (for.got r y at))
-            ∙ at_map (λ (z : LaneCount). counted z 0) y.note.got i c there) in
+      ∙ at_map (λ (z : LaneCount). counted z 0) y.note.got i c there) in
       in-at job sound wires lanes r x named c.rank c.lane u.used
 
   -- the note of the slot says what its history says

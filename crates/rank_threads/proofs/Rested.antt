@@ -57,16 +57,16 @@ record AtRank (job : JobOf) (w : WorldState) (k : Slots) (r : ℕ) (front : List
 
 at-rank : (f : FabricState) (hands : List (HandState TurnRank)) (w : WorldState) (k : ℕ → Slots) (r : ℕ) (fronts : Histories) (x : RankNote)
     → IsLeft f.turns.start hands r w → SeenBy f.job hands r fronts x.note → x.note.started ≡ true → AreSlots w k →
-        AtRank f.job w (k r) r (fronts r) x
+    AtRank f.job w (k r) r (fronts r) x
 at-rank f hands w k r fronts x l s started agree =
     let says = s.says in let n = says.says in
     let dated = subst (λ (h : HandState TurnRank). IsPrefix (chronicle says.turn.given) (chronicle l.slot))
-          (read hands s.at s.hand s.hand s.hand_is)
+    (read hands s.at s.hand s.hand s.hand_is)
     (l.dated s.at s.hand (within hands s.at s.hand s.hand_is) says.slot says.at says.turn
     (ap (λ (h : HandState TurnRank). get_elem? h.knows.slots r) (read hands s.at s.hand s.hand s.hand_is) ∙ says.slot_is) says.turn_is) in
     let first : has_start (fronts r) ≡ true = sym n.started ∙ started in
     let same = same-handles says.turn.given.node.value.kept l.slot.node.value.kept (history says.turn.given) (history l.slot)
-          (started-prefix (fronts r) (history says.turn.given) says.begins first) dated in
+    (started-prefix (fronts r) (history says.turn.given) says.begins first) dated in
     let a = subst (λ hs. Agrees (k r) hs) same (l.slots k agree) in record {
       begins = subst (IsPrefix (fronts r)) (sym l.history_is)
           (prefix_trans (fronts r) (history says.turn.given) (history l.slot) says.begins (begins-history says.turn.given l.slot dated));
@@ -82,7 +82,7 @@ none-ready s (Some t) e a = absurd (let h = e in cc)
 
 module _ (f : FabricState) (sound : IsSound f.job) (hands : List (HandState TurnRank)) (w : WorldState) (is : IsWorldOf f hands w)
     (v : List RankNote) (for : IsFor (plan_of f.job.shape) v) (answer : Answered v Rest) (fronts : Histories)
-        (seen : AreFrontsOf f.job hands fronts v)
+    (seen : AreFrontsOf f.job hands fronts v)
     (k : ℕ → Slots) (agree : AreSlots w k) where
   abbrev p : Plan
   p = plan_of f.job.shape
@@ -101,17 +101,17 @@ module _ (f : FabricState) (sound : IsSound f.job) (hands : List (HandState Turn
       let x = note-at s hs in let y = note-at d hd in let a = told s hs x.0 x.1 in let b = told d hd y.0 y.1 in
       let i = used-from p s d lane hd used in
       let c = at_map_back (λ (z : LaneCount). counted z 0) x.0.note.sent i.0 _
-            (ap (λ (l : List LaneCount). get_elem? l i.0) (for.sent s x.0 x.1) ∙ i.1) in
+      (ap (λ (l : List LaneCount). get_elem? l i.0) (for.sent s x.0 x.1) ∙ i.1) in
       let rank : c.0.rank ≡ d = ap (λ (z : LaneCount). z.rank) c.2 in
       let kind : c.0.lane ≡ lane = ap (λ (z : LaneCount). z.lane) c.2 in
       let sent : c.0.number ≡ sent_on f.job s (k s) (fronts s) d lane = a.sent i.0 c.0 c.1
-            ∙ (λ m. sent_on f.job s (k s) (fronts s) (rank m) (kind m)) in ⊎_elim
+      ∙ (λ m. sent_on f.job s (k s) (fronts s) (rank m) (kind m)) in ⊎_elim
       (λ (t : Tells y.0.note.got s c.0.lane c.0.number).
       ap (λ (l : Lane). length (got (fronts d) s l)) (sym kind) ∙ (sym (b.got_is t.at _ t.there) ∙ sent))
       (λ (none : TellsNone y.0.note.got s c.0.lane).
       let j = used-to p d s lane hs used in
       let e = at_map_back (λ (z : LaneCount). counted z 0) y.0.note.got j.0 _
-            (ap (λ (l : List LaneCount). get_elem? l j.0) (for.got d y.0 y.1) ∙ j.1) in
+      (ap (λ (l : List LaneCount). get_elem? l j.0) (for.got d y.0 y.1) ∙ j.1) in
       absurd (none j.0 e.0 e.1 (ap (λ (z : LaneCount). z.rank) e.2) (ap (λ (z : LaneCount). z.lane) e.2 ∙ sym kind)))
       (answer.2 s i.0 x.0 y.0 c.0 x.1 c.1 (ap (get_elem? v) rank ∙ y.1))
 

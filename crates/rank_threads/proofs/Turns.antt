@@ -79,29 +79,29 @@ pub turned : (v u w : HandView TurnRank) (r : ℕ) (x y : TurnRank) → Took chr
     LastTurn chronicle note w r (chronicle x, note x) (chronicle y, note y) → Turned v w r (mark x) (mark y)
 turned v u w r x y took given last =
     let alike : map without_busy_slot took.tried.slots ≡ map without_busy_slot v.slots =
-          ap (λ (z : HandView TurnRank). z.slots) took.alike in
+    ap (λ (z : HandView TurnRank). z.slots) took.alike in
     let slots : w.slots ≡ adjusted took.tried.slots r (after_turn chronicle x y) = ap (λ (z : HandView TurnRank). z.slots) given
-          ∙ ap (λ (z : HandView TurnRank). adjusted z.slots r (after_turn chronicle x y)) took.taken in
+    ∙ ap (λ (z : HandView TurnRank). adjusted z.slots r (after_turn chronicle x y)) took.taken in
     let low : r < length took.tried.slots = (let k = within w.slots r last.slot last.slot_is in let a =
-                                                                                                      ap (λ (l : List (TurnRankView
-                                                                                                      TurnRank)). length l) slots in
-                                                                                                      let b = adjusted_length
-                                                                                                            took.tried.slots r (after_turn
-                                                                                                            chronicle x y) in omega
-                                                                                                            (arith, k, a, b)) in
+    ap (λ (l : List (TurnRankView
+    TurnRank)). length l) slots in
+    let b = adjusted_length
+    took.tried.slots r (after_turn
+    chronicle x y) in omega
+    (arith, k, a, b)) in
     record {
       parts = ap (λ (z : HandView TurnRank). z.parts) given ∙ (ap (λ (z : HandView TurnRank). z.parts) took.taken
           ∙ ap (λ (z : HandView TurnRank). z.parts) took.alike);
       begins = λ s i t a b. (let z = at_map_back without_busy_slot took.tried.slots r (without_busy_slot s)
-                                   (ap (λ (l : List (TurnRankView TurnRank)). get_elem? l r) alike
-                                   ∙ at_map without_busy_slot v.slots r s a) in
+          (ap (λ (l : List (TurnRankView TurnRank)). get_elem? l r) alike
+          ∙ at_map without_busy_slot v.slots r s a) in
           begins-history t.given x (took.found.follows z.0 i t z.1 (ap (λ (s : TurnRankView TurnRank). get_elem? s.seen i) z.2 ∙ b)));
       last = last-history w r x y last;
       mine = ap (λ (l : List (TurnRankView TurnRank)). places_in l r) slots
           ∙ (places-here took.tried.slots r x y low
           ∙ ap (λ ps. ps ++ numbers_from (length (history x)) (length (history y) - length (history x)))
-              (sym (places-still took.tried.slots r) ∙ (ap (λ (l : List (TurnRankView TurnRank)). places_in l r) alike
-              ∙ places-still v.slots r)));
+          (sym (places-still took.tried.slots r) ∙ (ap (λ (l : List (TurnRankView TurnRank)). places_in l r) alike
+          ∙ places-still v.slots r)));
       others = λ q apart. ap (λ (l : List (TurnRankView TurnRank)). get_elem? (map without_busy_slot l) q) slots
           ∙ (adjusted-else took.tried.slots r q (after_turn chronicle x y) apart
           ∙ ap (λ (l : List (TurnRankView TurnRank)). get_elem? l q) alike);
@@ -145,8 +145,11 @@ none-idle job v w r e is found = let f : FoundIt job v w r = subst (λ (o : Opti
 -- ---- a turn in which a step was made, or none
 pub longer-step : (x y : TurnRank) (e : Option LocalStep) → IfSome e (λ step. Made step (mark x) (mark y)) → IfNone e (Idled x y) →
     IsPrefix (history x) (history y)
-longer-step x y None made idled = ([], append-nil (history x)
-    ∙ sym (ap (λ (m : NodeState). m.diary.locals) idled.missed.node ∙ ap (λ (m : NodeState). m.diary.locals) idled.flushed.node.same))
+longer-step x y None made idled = (
+  [],
+  append-nil (history x)
+      ∙ sym (ap (λ (m : NodeState). m.diary.locals) idled.missed.node ∙ ap (λ (m : NodeState). m.diary.locals) idled.flushed.node.same),
+)
 longer-step x y (Some step) made idled = (made.0 ∷ [], sym made.2)
 
 pub may-end : (k r : ℕ) (v w : HandView TurnRank) (x y : TurnRank) → k ≡ r → Took chronicle plate v r x w → plate y ≡ plate x →

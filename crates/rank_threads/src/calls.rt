@@ -16,7 +16,7 @@ ghost use Rattle.rank_threads.specs.Turns.{Followed, MayEnd, Turned};
 
 use crate::fabric::{Fabric, Hand};
 use ptl_types::{Lane, LocalStep, Rank};
-use rank_slots::{Gate, TurnRank, StartAnswer};
+use rank_slots::{Gate, StartAnswer, TurnRank};
 use std::sync::Wait;
 use turn_table::Turn;
 
@@ -57,7 +57,8 @@ impl<G: Gate + Drop> Fabric<G> {
         requires sound { IsSound turn.value.job }
         requires taken { MayEnd turn.slot turn.value hand.old.knows }
         ensures hand { IsFree self.now.turns hand.new }
-        ensures turned { (v : HandView TurnRank) (x : TurnRank) → Took chronicle plate v turn.slot x hand.old.knows → Turned v hand.new.knows turn.slot (mark x) (mark turn.value) }
+        ensures turned { (v : HandView TurnRank) (x : TurnRank) → Took chronicle plate v turn.slot x hand.old.knows →
+            Turned v hand.new.knows turn.slot (mark x) (mark turn.value) }
     {
         let _ = self.ranks;
         // What every node keeps is told here.
@@ -76,7 +77,8 @@ impl<G: Gate + Drop> Fabric<G> {
         requires rank { rank < self.now.job.shape.ranks }
         ensures hand { IsFree self.now.turns hand.new }
         ensures some { IfSome result (λ step. (a : Mark) × (b : Mark) × Turned hand.old.knows hand.new.knows rank a b × Made step a b) }
-        ensures none { IfNone result ((a : Mark) × (b : Mark) × Turned hand.old.knows hand.new.knows rank a b × IsIdle self.now.job rank a b) }
+        ensures none { IfNone result ((a : Mark) × (b : Mark) × Turned hand.old.knows hand.new.knows rank a b ×
+            IsIdle self.now.job rank a b) }
     {
         let Turn { slot, value } = self.take(rt, hand, rank);
         let mut value = value;

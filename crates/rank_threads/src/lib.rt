@@ -12,6 +12,6 @@ mod workers;
 
 pub use close::SpentWires;
 pub use fabric::{Fabric, Hand};
-pub use rank_slots::{Gate, OpenGate, TurnRank, StartAnswer};
+pub use rank_slots::{Gate, OpenGate, StartAnswer, TurnRank};
 pub use steady::run_steady;
 pub use workers::{run_and_close, run_keeping, run_workers};

@@ -194,7 +194,8 @@ pub fn run_steady<G: Gate + Drop, R: Threads + Wait + Sync>(
     ensures parts { parts_of hands.new ≡ parts_of hands.old }
     ensures lanes { IsFor (plan_of fabric.now.job.shape) wave.new }
     ensures answer { Answered wave.new Rest }
-    ensures noted { (h : HandState TurnRank) → get_elem? hands.new 0 ≡ some h → (fronts : Histories) × AreFronts fabric.now.job h.knows fronts wave.new }
+    ensures noted { (h : HandState TurnRank) → get_elem? hands.new 0 ≡ some h → (fronts : Histories) ×
+        AreFronts fabric.now.job h.knows fronts wave.new }
 {
     let Some((leader, others)) = hands.split_first_mut() else {
         unreachable!()

@@ -47,7 +47,8 @@ impl<G: Gate + Drop> Fabric<G> {
         ensures hand { IsFree self.now.turns hand.new }
         ensures parts { hand.new.knows.parts ≡ hand.old.knows.parts }
         ensures idle { (r : ℕ) → first ≤ r → r < end → FoundIdle self.now.job hand.new.knows r }
-        ensures others { (r : ℕ) → (r < first ⊎ end ≤ r) → FoundIdle self.now.job hand.old.knows r → FoundIdle self.now.job hand.new.knows r }
+        ensures others { (r : ℕ) → (r < first ⊎ end ≤ r) → FoundIdle self.now.job hand.old.knows r →
+            FoundIdle self.now.job hand.new.knows r }
         ensures none { IsFalse result → MadeNone hand.old.knows hand.new.knows }
     {
         let mut worked = false;
@@ -208,7 +209,8 @@ pub fn run_workers<G: Gate + Drop, R: Threads + Wait + Sync>(
         threads,
         &|i: usize, hand: &mut Hand|
             requires { IsFree fabric.now.turns hand.now × (ranks ≡ fabric.now.job.shape.ranks) × (i < threads) × (threads < 2 ^ 32) }
-            ensures { IsFree fabric.entry.now.turns hand.exit.now × HasSwept fabric.entry.now hand.exit.now × (hand.exit.now.knows.parts ≡ hand.entry.now.knows.parts) }
+            ensures { IsFree fabric.entry.now.turns hand.exit.now × HasSwept fabric.entry.now hand.exit.now ×
+                (hand.exit.now.knows.parts ≡ hand.entry.now.knows.parts) }
         {
             let worker = i as u64;
             let workers = threads as u64;

@@ -56,7 +56,7 @@ module _ (job : JobOf) (r : ℕ) (x : TurnRank) (fresh : IsFresh job r x) where
       let from : b.source ≡ n.task.rank = source ∙ sym rank in
       let used : is_used_lane p n.task.rank o.target o.lane ≡ true = (λ i. is_used_lane p (sym from i) (goes i) (kind i)) ∙ lane.used in
       let is : o.end.bounds ≡ bounds_on p n.task.rank o.target o.lane = bounds
-            ∙ (lane.bounds ∙ (λ i. bounds_on p (from i) (sym goes i) (sym kind i))) in record {
+      ∙ (lane.bounds ∙ (λ i. bounds_on p (from i) (sym goes i) (sym kind i))) in record {
         ok = record {
           used = subst (λ (j : JobOf). is_used_lane (plan_of j.shape) n.task.rank o.target o.lane ≡ true) (sym fresh.job_is) used;
           inside = subst (λ m. o.target < m) (sym fresh.compiled.ranks) (subst (λ d. d < p.ranks) (sym goes) lane.target);
@@ -75,7 +75,7 @@ module _ (job : JobOf) (r : ℕ) (x : TurnRank) (fresh : IsFresh job r x) where
       let rank : n.task.rank ≡ r = fresh.compiled.rank in
       let to : b.target ≡ n.task.rank = goal ∙ sym rank in
       let is : o.end.bounds ≡ bounds_on p o.source n.task.rank o.lane = bounds
-            ∙ (lane.bounds ∙ (λ i. bounds_on p (sym from i) (to i) (sym kind i))) in record {
+      ∙ (lane.bounds ∙ (λ i. bounds_on p (sym from i) (to i) (sym kind i))) in record {
         ok = record {
           bounds = subst (λ (j : JobOf). o.end.bounds ≡ bounds_on (plan_of j.shape) o.source n.task.rank o.lane) (sym fresh.job_is) is;
           got_is = none ∙ sym (ap (λ (h : List Local). got h o.source o.lane) fresh.history_is);

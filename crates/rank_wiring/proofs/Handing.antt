@@ -24,8 +24,8 @@ use Rattle.rank_slots.specs.declared.ports.OutPort.{OutPort}
 use Rattle.rank_slots.specs.declared.slot.TurnRank.{TurnRank}
 use Rattle.rank_slots.specs.Joints.{Fits, Joint, in_joint, out_joint}
 use Rattle.rank_slots.specs.Lanes.{AreLanes, IsLane, lanes_before, lanes_from}
-use Rattle.rank_wiring.specs.Opening.{AllFanned, AllFresh, AllIn, AreBerths, AreFirst, AreLines, HasNoIn, HasNoOut, IsFanned, IsFresh,
-    IsHanded}
+use Rattle.rank_wiring.specs.Opening.{AllFanned, AllFresh, AllIn, AreBerths, AreFirst, AreLines, HasNoIn, HasNoOut, IsFanned, IsFresh}
+use Rattle.rank_wiring.specs.Opening.{IsHanded}
 use Rattle.rank_wiring.specs.Opening.{HasWireRoom, IsLine, SameOuts, wires_in}
 use Rattle.rank_slots.specs.Moves.{GainsIn, MayGainIn, SameNode, Slotwise}
 use Rattle.rank_slots.specs.Sound.{IsSound}

@@ -32,9 +32,11 @@ place-has : (p : Bounds → Bool) (n : ℕ) (bs : List Bounds) (i : ℕ) (b : Bo
     → (m : ℕ) × (get_elem? (places_of p n bs) m ≡ some (n + i))
 place-has p n [] i b e is = absurd (some-ne-none b (sym e))
 place-has p n (c ∷ cs) zero b e is =
-    let yes : p c ≡ true = ap p (some-injective c b e) ∙ is in
-    (0, ap (λ (x : Bool). get_elem? (if x then n ∷ places_of p (suc n) cs else places_of p (suc n) cs) 0) yes
-        ∙ ap some {x = n} {y = n + 0} (omega arith))
+    let yes : p c ≡ true = ap p (some-injective c b e) ∙ is in (
+      0,
+      ap (λ (x : Bool). get_elem? (if x then n ∷ places_of p (suc n) cs else places_of p (suc n) cs) 0) yes
+          ∙ ap some {x = n} {y = n + 0} (omega arith),
+    )
 place-has p n (c ∷ cs) (suc i) b e is =
     let r = place-has p (suc n) cs i b e is in
     put_before (p c) n (n + suc i) r.0 (places_of p (suc n) cs) (r.1 ∙ ap some {x = suc n + i} {y = n + suc i} (omega arith))
@@ -90,7 +92,7 @@ grown wires w p c is = ap (places_of p 0) (map_snoc bound_of wires w)
 pub row_below : (wires : List WireState) (p : Bounds → Bool) (js : List Joint) → map number_of js ≡ places_of p 0 (bounds_of wires) →
     (i : ℕ) (j : Joint) → get_elem? js i ≡ some j → j.number < length wires
 row_below wires p js e i j at = let h = places_below p 0 (bounds_of wires) i j.number (ap (λ (l : List ℕ). get_elem? l i) (sym e)
-                                      ∙ at_map number_of js i j at) in let m = length_map bound_of wires in omega (arith, h, m)
+    ∙ at_map number_of js i j at) in let m = length_map bound_of wires in omega (arith, h, m)
 
 fits_more : (wires : List WireState) (w : WireState) (j : Joint) → Fits wires j → Fits (wires ++ w ∷ []) j
 fits_more wires w j f = record {
@@ -142,7 +144,7 @@ pub row_less : (wires : List WireState) (w : WireState) (p : Bounds → Bool) (j
     IsRow (wires ++ w ∷ []) p (js ++ j ∷ []) → p w.bounds ≡ true → Ends wires w p js j
 row_less wires w p js j r is =
     let s = snoc_injective (map number_of js) (places_of p 0 (bounds_of wires)) j.number (length wires) (sym (map_snoc number_of js j)
-          ∙ (r.numbers ∙ grown wires w p true is)) in
+    ∙ (r.numbers ∙ grown wires w p true is)) in
     let f = (each_last (Fits (wires ++ w ∷ [])) js j r.fits).is w (ap (get_elem? (wires ++ w ∷ [])) s.1 ∙ last_at wires w) in record {
       row = record { numbers = s.0; fits = fits_less wires w p js s.0 (each_front (Fits (wires ++ w ∷ [])) js (j ∷ []) r.fits) };
       id = f.0;
@@ -152,7 +154,7 @@ row_less wires w p js j r is =
 row_others : (wires : List WireState) (w : WireState) (p : Bounds → Bool) (js : List Joint) → IsRow (wires ++ w ∷ []) p js →
     p w.bounds ≡ false → IsRow wires p js
 row_others wires w p js r is = let n : map number_of js ≡ places_of p 0 (bounds_of wires) = r.numbers
-                                     ∙ (grown wires w p false is ∙ append-nil (places_of p 0 (bounds_of wires))) in
+    ∙ (grown wires w p false is ∙ append-nil (places_of p 0 (bounds_of wires))) in
     record { numbers = n; fits = fits_less wires w p js n r.fits }
 
 pub row_shrinks : (wires : List WireState) (w : WireState) (p : Bounds → Bool) (js : List Joint) (j : Joint) (c : Bool) → p w.bounds ≡ c →

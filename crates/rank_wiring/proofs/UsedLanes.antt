@@ -89,12 +89,19 @@ module _ (p : Plan) (n : ℕ) (lanes : List Bounds) (h : AreBelow p n lanes) (s 
   apart i c at es ed el =
       let low = h.below i c at in
       let same : lane_place p.ranks c.source c.target c.lane ≡ lane_place p.ranks s d lane =
-            (λ j. lane_place p.ranks (es j) (ed j) (el j)) in
+      (λ j. lane_place p.ranks (es j) (ed j) (el j)) in
       omega (arith, low, same, place)
 
   has-more : (m : List Bounds) (t e : ℕ) (way : Lane) → HasLane lanes t e way → HasLane (lanes ++ m) t e way
-  has-more m t e way x = record { at = x.at; bounds = x.bounds; there = front_some lanes m x.at x.bounds x.there; source =
-      x.source; target = x.target; lane_is = x.lane_is }
+  has-more m t e way x = record {
+    at = x.at;
+    bounds = x.bounds;
+    there = front_some lanes m x.at x.bounds x.there;
+    source =
+        x.source;
+    target = x.target;
+    lane_is = x.lane_is;
+  }
 
   more-used : is_used_lane p s d lane ≡ true → AreBelow p (n + 1) (lanes ++ b ∷ [])
   more-used used = record {
@@ -106,11 +113,11 @@ module _ (p : Plan) (n : ℕ) (lanes : List Bounds) (h : AreBelow p n lanes) (s 
         (λ (ox : get_elem? lanes i ≡ some x). ⊎_elim
         (λ (oy : get_elem? lanes k ≡ some y). h.once i k x y ox oy es ed el)
         (λ (ny : (k ≡ length lanes) × (b ≡ y)). absurd (apart i x ox (es ∙ sym (ap (λ (c : Bounds). c.source) ny.1))
-            (ed ∙ sym (ap (λ (c : Bounds). c.target) ny.1)) (el ∙ sym (ap (λ (c : Bounds). c.lane) ny.1))))
+        (ed ∙ sym (ap (λ (c : Bounds). c.target) ny.1)) (el ∙ sym (ap (λ (c : Bounds). c.lane) ny.1))))
         (snoc_at lanes b k y ay))
         (λ (nx : (i ≡ length lanes) × (b ≡ x)). ⊎_elim
         (λ (oy : get_elem? lanes k ≡ some y). absurd (apart k y oy (sym (ap (λ (c : Bounds). c.source) nx.1 ∙ es))
-            (sym (ap (λ (c : Bounds). c.target) nx.1 ∙ ed)) (sym (ap (λ (c : Bounds). c.lane) nx.1 ∙ el))))
+        (sym (ap (λ (c : Bounds). c.target) nx.1 ∙ ed)) (sym (ap (λ (c : Bounds). c.lane) nx.1 ∙ el))))
         (λ (ny : (k ≡ length lanes) × (b ≡ y)). nx.0 ∙ sym ny.0)
         (snoc_at lanes b k y ay))
         (snoc_at lanes b i x ax);
@@ -162,5 +169,5 @@ all-lanes p inputs n lanes sound is h = record {
   once = h.once;
   all = λ s d lane used. let w = used-within p inputs sound s d lane used in
       h.all s d lane w.0 w.1 (let low = lane_in p.ranks s d lane w.0 w.1 in subst (λ m. lane_place p.ranks s d lane < 2 * m) (sym is) low)
-          used;
+      used;
 }

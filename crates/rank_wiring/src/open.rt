@@ -168,7 +168,8 @@ fn make_berths<R: Threads + Sync>(
         threads,
         fans.len(),
         &|rank: usize|
-            requires { (length fans.now < 2 ^ 32) × (length fans.now ≡ job.now.shape.ranks) × AreFans (plan_of job.now.shape) fans.now × (rank < length fans.now) }
+            requires { (length fans.now < 2 ^ 32) × (length fans.now ≡ job.now.shape.ranks) × AreFans (plan_of job.now.shape) fans.now ×
+                (rank < length fans.now) }
             ensures { IfSome result (λ b. IsFanned job.entry.now rank b.slot b.load) }
         { berth_of(alloc, job, fans, rank) },
     )?;

@@ -1,6 +1,6 @@
 -- Lists read element by element.
-use Rattle.std.proofs.Common.{◌≡◌, ◌<◌, ◌+◌, ◌⊎◌, ◌∙◌, ◌++◌, ⊎_elim, ℕ, zero, suc, List, [], ◌∷◌, length, map, ap, ap₂, arith, inl, inr,
-    refl, sym, subst}
+use Rattle.std.proofs.Common.{◌≡◌, ◌<◌, ◌+◌, ◌⊎◌, ◌∙◌, ◌++◌, ⊎_elim, ℕ, zero, suc, List, [], ◌∷◌, length, map, ap, ap₂, arith, inl, inr}
+use Rattle.std.proofs.Common.{refl, sym, subst}
 use Rattle.std.proofs.lemmas.Bool.{cases_eq}
 use mathlib.Core.Option.{some, some-injective, some-ne-none}
 use lib.ListN.{get_elem?}

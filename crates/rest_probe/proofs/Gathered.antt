@@ -1,6 +1,6 @@
 -- The lanes of a rank, gathered one rank after the other.
-use Rattle.std.proofs.Common.{◌≡◌, ◌≤◌, ◌+◌, ◌*◌, ◌++◌, ◌∷◌, [], ◌∙◌, ℕ, Bool, true, false, zero, suc, List, length, flat_map, ap, ap₂,
-    refl, arith, append-nil, length-append}
+use Rattle.std.proofs.Common.{◌≡◌, ◌≤◌, ◌+◌, ◌*◌, ◌++◌, ◌∷◌, [], ◌∙◌, ℕ, Bool, true, false, zero, suc, List, length, flat_map, ap, ap₂}
+use Rattle.std.proofs.Common.{refl, arith, append-nil, length-append}
 use Rattle.std.proofs.lemmas.Grind.{flat_map-append}
 use Rattle.ptl_types.specs.declared.headers.Lane.{Lane}
 use Rattle.ptl_types.specs.declared.headers.Lane.TheVariants.{Request, Answer}
@@ -54,7 +54,7 @@ cleared-pair : (p : Plan) (s d other : ℕ) → cleared (pair_lanes p s d other)
 cleared-pair p s d other =
     let a = lane_if (is_used_lane p s d Request) other Request in let b = lane_if (is_used_lane p s d Answer) other Answer in
     cleared-append a b ∙ ap₂ (λ (x y : List LaneCount). x ++ y) (cleared-lane (is_used_lane p s d Request) other Request)
-        (cleared-lane (is_used_lane p s d Answer) other Answer)
+    (cleared-lane (is_used_lane p s d Answer) other Answer)
 
 cleared-lanes : (f : ℕ → List LaneCount) → ((d : ℕ) → cleared (f d) ≡ f d) → (k n : ℕ) →
     cleared (flat_map f (from_to k n)) ≡ flat_map f (from_to k n)

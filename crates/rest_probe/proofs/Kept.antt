@@ -18,11 +18,11 @@ for-set p w r x y there same is = record {
   count = length-set w r y ∙ is.count;
   sent = λ q z at. ⊎_elim
       (λ (h : (q ≡ r) × (y ≡ z)). ap (λ (v : RankNote). cleared v.note.sent) (sym h.1)
-          ∙ (same.sent ∙ subst (λ n. cleared x.note.sent ≡ lanes_from p n) (sym h.0) (is.sent r x there)))
+      ∙ (same.sent ∙ subst (λ n. cleared x.note.sent ≡ lanes_from p n) (sym h.0) (is.sent r x there)))
       (λ (h : (q ≢ r) × (get_elem? w q ≡ some z)). is.sent q z h.1) (at_set w r q y z at);
   got = λ q z at. ⊎_elim
       (λ (h : (q ≡ r) × (y ≡ z)). ap (λ (v : RankNote). cleared v.note.got) (sym h.1)
-          ∙ (same.got ∙ subst (λ n. cleared x.note.got ≡ lanes_to p n) (sym h.0) (is.got r x there)))
+      ∙ (same.got ∙ subst (λ n. cleared x.note.got ≡ lanes_to p n) (sym h.0) (is.got r x there)))
       (λ (h : (q ≢ r) × (get_elem? w q ≡ some z)). is.got q z h.1) (at_set w r q y z at);
 }
 

@@ -1,6 +1,6 @@
 -- A lane stands among the gathered ones exactly where messages go on it.
-use Rattle.std.proofs.Common.{◌≡◌, ◌<◌, ◌≤◌, ◌+◌, ◌++◌, ◌∷◌, [], ◌⊎◌, ◌∙◌, ⊎_elim, inl, inr, ℕ, Bool, true, false, zero, suc, List,
-    flat_map, ap, sym, refl, arith, true≢false}
+use Rattle.std.proofs.Common.{◌≡◌, ◌<◌, ◌≤◌, ◌+◌, ◌++◌, ◌∷◌, [], ◌⊎◌, ◌∙◌, ⊎_elim, inl, inr, ℕ, Bool, true, false, zero, suc, List}
+use Rattle.std.proofs.Common.{flat_map, ap, sym, refl, arith, true≢false}
 use Rattle.std.proofs.lemmas.Bool.{cases_eq}
 use mathlib.Core.Option.{some, some-injective, some-ne-none}
 use lib.ListN.{get_elem?}
@@ -84,7 +84,7 @@ gather f k zero d j c low high e = absurd (omega arith)
 gather f k (suc n) d j c low high e = ⊎_elim
     (λ (is : d ≡ k). in-front (f k) (flat_map f (from_to (suc k) n)) j c (ap (λ q. get_elem? (f q) j) (sym is) ∙ e))
     (λ (apart : d ≡ k → ⊥). let g = gather f (suc k) n d j c (omega (arith, low, apart)) (omega arith) e in
-        in-back (f k) (flat_map f (from_to (suc k) n)) g.0 c g.1)
+    in-back (f k) (flat_map f (from_to (suc k) n)) g.0 c g.1)
     (cases_eq d k)
 
 -- a lane from rank r to another rank, that is used

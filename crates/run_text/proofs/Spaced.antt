@@ -1,9 +1,9 @@
 -- The lines, put by put.
-use Rattle.std.proofs.Common.{◌≡◌, ℕ, zero, suc, ◌+◌, ◌-◌, ◌*◌, ◌<◌, ◌≤◌, Bool, true, false, cond, List, [], ◌∷◌, ◌++◌, length, get_or,
-    take, drop, map, refl, ◌∙◌, ap, sym, append_assoc, append-nil, arith}
+use Rattle.std.proofs.Common.{◌≡◌, ℕ, zero, suc, ◌+◌, ◌-◌, ◌*◌, ◌<◌, ◌≤◌, Bool, true, false, cond, List, [], ◌∷◌, ◌++◌, length, get_or}
+use Rattle.std.proofs.Common.{take, drop, map, refl, ◌∙◌, ap, sym, append_assoc, append-nil, arith}
 use Rattle.std.proofs.lemmas.List.Folds.{flat_map-map}
-use Rattle.std.proofs.lemmas.List.{drop-append-le, drop_all, get_or_default, length-append, length-drop, take-append-le, take-take,
-    take_all}
+use Rattle.std.proofs.lemmas.List.{drop-append-le, drop_all, get_or_default, length-append, length-drop, take-append-le, take-take}
+use Rattle.std.proofs.lemmas.List.{take_all}
 use Rattle.op_laws.proofs.Bytes.{bytes-pos}
 use Rattle.std.specs.List.{flat_map}
 use Rattle.std.specs.Fmt.{decimal}
@@ -50,7 +50,7 @@ pub spaced-next : (ty : ElemType) (rest element behind : List ℕ) (size n : ℕ
 spaced-next ty rest element behind size n e le front back is =
     let fits : bytes_of ty ≤ length rest = omega (arith, e, le) in
     let own : n ≡ pattern (take (bytes_of ty) rest) = is ∙ ap (λ v. pattern (take (bytes_of ty) v)) (front ∙ ap (λ v. take v rest) e)
-          ∙ ap pattern (take-take (bytes_of ty) (bytes_of ty) rest (omega arith)) in
+    ∙ ap pattern (take-take (bytes_of ty) (bytes_of ty) rest (omega arith)) in
     ap (flat_map (λ x. 32 ∷ value_word ty x)) (first_of ty rest fits)
     ∙ ap (λ v. (32 ∷ value_word ty v) ++ spaced ty (drop (bytes_of ty) rest)) (sym own)
     ∙ ap (λ v. (32 ∷ value_word ty n) ++ spaced ty v) (sym (back ∙ ap (λ v. drop v rest) e))
@@ -120,7 +120,7 @@ pub line-is : (o : Outline) (lists : Lists) (b rank : ℕ) (x : Buffer) (bs : Li
 line-is o lists b rank x bs name list l told is named listed =
     let about : x ≡ buffer_at o b = is ∙ ap (λ v. get_or v b x) told ∙ get_or_default o.buffers b x no_buffer l in
     ap (λ v. result_line v rank x.ty list) named ∙ ap (λ v. result_line x.name rank x.ty v) listed
-        ∙ ap (λ (y : Buffer). result_line y.name rank y.ty (at (lists_of lists b) rank)) about
+    ∙ ap (λ (y : Buffer). result_line y.name rank y.ty (at (lists_of lists b) rank)) about
 
 -- ---- lists that agree where they are printed give one text
 

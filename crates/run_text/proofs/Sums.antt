@@ -28,7 +28,7 @@ pub sum-next : (ty : ElemType) (rest element behind : List ℕ) (size n : ℕ) �
 sum-next ty rest element behind size n e le front back is =
     let fits : bytes_of ty ≤ length rest = omega (arith, e, le) in
     let own : n ≡ pattern (take (bytes_of ty) rest) = is ∙ ap (λ v. pattern (take (bytes_of ty) v)) (front ∙ ap (λ v. take v rest) e)
-          ∙ ap pattern (take-take (bytes_of ty) (bytes_of ty) rest (omega arith)) in
+    ∙ ap pattern (take-take (bytes_of ty) (bytes_of ty) rest (omega arith)) in
     ap sum (first_of ty rest fits)
     ∙ sum_by-cons (λ x. x) (pattern (take (bytes_of ty) rest)) (elements ty (drop (bytes_of ty) rest))
     ∙ ap (λ v. v + sum (elements ty (drop (bytes_of ty) rest))) (sym own)

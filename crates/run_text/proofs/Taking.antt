@@ -1,6 +1,6 @@
 -- Texts that go to a sink one after the other.
-use Rattle.std.proofs.Common.{ℕ, ◌≡◌, ◌≤◌, ◌<◌, List, [], ◌++◌, Option, Some, None, Result, Ok, Err, refl, sym, ◌∙◌, ap, subst,
-    append_assoc, take, drop, arith, inl, inr}
+use Rattle.std.proofs.Common.{ℕ, ◌≡◌, ◌≤◌, ◌<◌, List, [], ◌++◌, Option, Some, None, Result, Ok, Err, refl, sym, ◌∙◌, ap, subst}
+use Rattle.std.proofs.Common.{append_assoc, take, drop, arith, inl, inr}
 use Rattle.std.proofs.lemmas.List.{append-nil, take-append-drop}
 use Rattle.port_io.specs.declared.ends.Failed.{Failed}
 use Rattle.ptl_types.specs.Handles.{one_more}
@@ -92,7 +92,7 @@ Puts-then a b c h i j xs ys (Ok done) first then =
     subst (λ text. Takes a c text j) (append_assoc h xs ys) both
 Puts-then a b c h i j xs ys (Err failed) first then =
     let both : FailsWithin a c ((h ++ xs) ++ ys) = Fails-then a b c ((h ++ xs) ++ ys) (i ++ ys) (Takes-more a b (h ++ xs) i ys first) then
-          in
+    in
     subst (λ text. FailsWithin a c text) (append_assoc h xs ys) both
 
 -- the sink fails before the other list
@@ -104,14 +104,14 @@ pub Takes-piece : (a b c : Outflow) (text held rest now later piece : List ℕ) 
     rest ≡ now ++ later → Takes b c piece [] → Takes a c text later
 Takes-piece a b c text held rest now later piece before cut split wrote =
     let whole : held ++ rest ≡ piece ++ later = ap (λ xs. held ++ xs) split
-          ∙ (sym (append_assoc held now later) ∙ ap (λ xs. xs ++ later) (sym cut)) in
+    ∙ (sym (append_assoc held now later) ∙ ap (λ xs. xs ++ later) (sym cut)) in
     Takes-then a b c text (piece ++ later) later (subst (λ xs. Takes a b text xs) whole before) (Takes-more b c piece [] later wrote)
 
 pub Fails-piece : (a b c : Outflow) (text held rest now later piece : List ℕ) → Takes a b text (held ++ rest) → piece ≡ held ++ now →
     rest ≡ now ++ later → FailsWithin b c piece → FailsWithin a c text
 Fails-piece a b c text held rest now later piece before cut split failed =
     let whole : held ++ rest ≡ piece ++ later = ap (λ xs. held ++ xs) split
-          ∙ (sym (append_assoc held now later) ∙ ap (λ xs. xs ++ later) (sym cut)) in
+    ∙ (sym (append_assoc held now later) ∙ ap (λ xs. xs ++ later) (sym cut)) in
     Fails-then a b c text (piece ++ later) (subst (λ xs. Takes a b text xs) whole before) (Fails-more b c piece later failed)
 
 -- the exit where the sink failed before the other list
@@ -130,13 +130,13 @@ pub Takes-next : (a b c : Outflow) (text h i xs todo : List ℕ) → Takes a b t
     Takes a c text (i ++ todo)
 Takes-next a b c text h i xs todo before then =
     Takes-then a b c text ((h ++ xs) ++ todo) (i ++ todo) (subst (λ rest. Takes a b text rest) (sym (append_assoc h xs todo)) before)
-        (Takes-more b c (h ++ xs) i todo then)
+    (Takes-more b c (h ++ xs) i todo then)
 
 pub Fails-next : (a b c : Outflow) (text h xs todo : List ℕ) → Takes a b text (h ++ (xs ++ todo)) → FailsWithin b c (h ++ xs) →
     FailsWithin a c text
 Fails-next a b c text h xs todo before fails =
     Fails-then a b c text ((h ++ xs) ++ todo) (subst (λ rest. Takes a b text rest) (sym (append_assoc h xs todo)) before)
-        (Fails-more b c (h ++ xs) todo fails)
+    (Fails-more b c (h ++ xs) todo fails)
 
 pub Puts-stops : (a b : Outflow) (h i list : List ℕ) (r : Result (Unit {0}) Failed) → IsErr r → FailsWithin a b (h ++ list) →
     Puts a b h i list r

@@ -1,11 +1,11 @@
 //! Texts, line by line, in pieces of a fixed size, to any sink.
 #![tactic(auto)]
 
-pub mod read_orders;
 mod lines;
 mod orders;
 mod pieces;
 mod plans;
+pub mod read_orders;
 mod refused;
 mod results;
 mod shared;

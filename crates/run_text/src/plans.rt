@@ -6,7 +6,8 @@ ghost use Rattle.number_lists.specs.Numbers.{from_to};
 ghost use Rattle.coll_lang.specs.Words.{op_word, type_word};
 ghost use Rattle.plan_core.specs.Plan.{Plan};
 ghost use Rattle.plan_calls.specs.RankOps.{done_threshold};
-ghost use Rattle.run_text.specs.Plans.{cell_line_of, completion_word, done_line_of, drawn_text, kind_word, link_line_of, op_or_none, plan_line, plan_text};
+ghost use Rattle.run_text.specs.Plans.{cell_line_of, completion_word, done_line_of, drawn_text, kind_word, link_line_of, op_or_none};
+ghost use Rattle.run_text.specs.Plans.{plan_line, plan_text};
 ghost use Rattle.run_text.specs.Putting.{Puts, EndsWith};
 
 use crate::pieces::Pieces;
@@ -172,7 +173,8 @@ pub trait PlanTables {
 /// Adds the lines of the cells, by their numbers.
 fn put_cells<K: Sink>(out: &mut Pieces, sink: &mut K, plan: &Plan) -> Result<(), Failed>
     requires { length plan.now.cells < 2 ^ 32 }
-    ensures { Puts (K.outflow sink.old) (K.outflow sink.new) out.old out.new (flat_map (cell_line_of plan.now) (from_to 0 (length plan.now.cells))) result }
+    ensures { Puts (K.outflow sink.old) (K.outflow sink.new) out.old out.new
+        (flat_map (cell_line_of plan.now) (from_to 0 (length plan.now.cells))) result }
 {
     let cells = plan.cells();
     for number in 0..cells.len() {
@@ -184,7 +186,8 @@ fn put_cells<K: Sink>(out: &mut Pieces, sink: &mut K, plan: &Plan) -> Result<(),
 /// Adds the lines of the links, by their numbers.
 fn put_links<K: Sink>(out: &mut Pieces, sink: &mut K, plan: &Plan) -> Result<(), Failed>
     requires { length plan.now.links < 2 ^ 32 }
-    ensures { Puts (K.outflow sink.old) (K.outflow sink.new) out.old out.new (flat_map (link_line_of plan.now) (from_to 0 (length plan.now.links))) result }
+    ensures { Puts (K.outflow sink.old) (K.outflow sink.new) out.old out.new
+        (flat_map (link_line_of plan.now) (from_to 0 (length plan.now.links))) result }
 {
     let links = plan.links();
     for number in 0..links.len() {
@@ -199,7 +202,8 @@ fn put_done<K: Sink, T: PlanTables>(
     sink: &mut K,
     tables: &T,
 ) -> Result<(), Failed>
-    ensures { Puts (K.outflow sink.old) (K.outflow sink.new) out.old out.new (flat_map (done_line_of (T.drawn tables.now)) (from_to 0 (T.drawn tables.now).ranks)) result }
+    ensures { Puts (K.outflow sink.old) (K.outflow sink.new) out.old out.new
+        (flat_map (done_line_of (T.drawn tables.now)) (from_to 0 (T.drawn tables.now).ranks)) result }
 {
     for rank in 0..tables.plan().ranks() {
         let threshold = tables.done(rank);
@@ -211,7 +215,8 @@ fn put_done<K: Sink, T: PlanTables>(
 /// Adds the first line.
 fn put_head<K: Sink>(out: &mut Pieces, sink: &mut K, plan: &Plan) -> Result<(), Failed>
     requires { length plan.now.cells + length plan.now.links < 2 ^ 32 }
-    ensures { Puts (K.outflow sink.old) (K.outflow sink.new) out.old out.new (plan_line (PlanLine.Head plan.now.ranks (length plan.now.cells) (length plan.now.links) plan.now.remote)) result }
+    ensures { Puts (K.outflow sink.old) (K.outflow sink.new) out.old out.new
+        (plan_line (PlanLine.Head plan.now.ranks (length plan.now.cells) (length plan.now.links) plan.now.remote)) result }
 {
     let head = PlanLine::Head {
         ranks: plan.ranks(),

@@ -84,7 +84,8 @@ pub(crate) fn put_prints<K: Sink, H: ResultLists>(
 ) -> Result<(), Failed>
     requires made { AreMade shape.now (H.lists held.now) texts.now }
     requires gives { (i r : ℕ) → i < length shape.now.prints → r < shape.now.ranks → H.can_give held.now (get_or shape.now.prints i 0) r }
-    ensures { Puts (K.outflow sink.old) (K.outflow sink.new) out.old out.new (flat_map (buffer_lines shape.now (H.lists held.now)) shape.now.prints) result }
+    ensures { Puts (K.outflow sink.old) (K.outflow sink.new) out.old out.new
+        (flat_map (buffer_lines shape.now (H.lists held.now)) shape.now.prints) result }
 {
     shape.keeps_form();
     let ranks = shape.ranks() as usize;

@@ -107,7 +107,8 @@ fn put_sums<K: Sink, H: ResultLists>(
     held: &H,
 ) -> Result<(), Failed>
     requires gives { (i r : ℕ) → i < length shape.now.prints → r < shape.now.ranks → H.can_give held.now (get_or shape.now.prints i 0) r }
-    ensures { Puts (K.outflow sink.old) (K.outflow sink.new) out.old out.new (flat_map (sum_line_at shape.now (H.lists held.now)) shape.now.prints) result }
+    ensures { Puts (K.outflow sink.old) (K.outflow sink.new) out.old out.new
+        (flat_map (sum_line_at shape.now (H.lists held.now)) shape.now.prints) result }
 {
     shape.keeps_form();
     for buffer in shape.prints() {
@@ -127,7 +128,8 @@ fn put_summary<K: Sink, H: ResultLists>(
     held: &H,
 ) -> Result<(), Failed>
     requires gives { (i r : ℕ) → i < length shape.now.prints → r < shape.now.ranks → H.can_give held.now (get_or shape.now.prints i 0) r }
-    ensures { Puts (K.outflow sink.old) (K.outflow sink.new) out.old out.new (summary_of k cells links shape.now (H.lists held.now)) result }
+    ensures { Puts (K.outflow sink.old) (K.outflow sink.new) out.old out.new (summary_of k cells links shape.now (H.lists held.now))
+        result }
 {
     summary_head(out, sink, k, cells, links)?;
     put_sums(out, sink, shape, held)?;

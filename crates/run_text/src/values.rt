@@ -9,8 +9,8 @@ ghost use Rattle.run_text.specs.Putting.{Puts};
 
 use crate::pieces::Pieces;
 use coll_text::printed_value;
-use lane_ops::elements::read_pattern;
 use itoa::write_digits;
+use lane_ops::elements::read_pattern;
 use port_io::{Failed, Sink};
 use ptl_types::ElemType;
 
@@ -85,7 +85,8 @@ fn put_many<K: Sink>(
     bytes: &[u8],
 ) -> Result<(), Failed>
     requires { (n : ℕ) × (length bytes.now ≡ n * bytes_of ty) × (n ≤ 64) }
-    ensures { Puts (K.outflow sink.old) (K.outflow sink.new) out.old out.new (flat_map (λ x. 32 ∷ value_word ty x) (elements ty bytes.now)) result }
+    ensures { Puts (K.outflow sink.old) (K.outflow sink.new) out.old out.new
+        (flat_map (λ x. 32 ∷ value_word ty x) (elements ty bytes.now)) result }
 {
     let mut block = [0; BLOCK];
     let start = write_values(ty, bytes, &mut block);
@@ -110,7 +111,8 @@ pub(crate) fn put_values<K: Sink>(
     ty: ElemType,
     bytes: &[u8],
 ) -> Result<(), Failed>
-    ensures { Puts (K.outflow sink.old) (K.outflow sink.new) out.old out.new (flat_map (λ x. 32 ∷ value_word ty x) (elements ty bytes.now)) result }
+    ensures { Puts (K.outflow sink.old) (K.outflow sink.new) out.old out.new
+        (flat_map (λ x. 32 ∷ value_word ty x) (elements ty bytes.now)) result }
 {
     let size = ty.size() as usize;
     let mut rest = bytes;

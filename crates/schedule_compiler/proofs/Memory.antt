@@ -1,7 +1,7 @@
 -- What a rank's memory holds at the beginning, put together part by part.
-use Rattle.std.proofs.Common.{ℕ, zero, suc, Bool, true, false, cond, ◌+◌, ◌-◌, ◌*◌, ◌/◌, ◌%◌, ◌≡◌, ◌≤◌, ◌<◌, List, [], ◌∷◌, ◌++◌, Option,
-    Some, None, refl, length, filter, flat_map, replicate, get_or, sum_by, ap, ◌∙◌, sym, arith, append_assoc, append-nil, div-add-mod',
-    nat_le, nat_lt, ◌&&◌}
+use Rattle.std.proofs.Common.{ℕ, zero, suc, Bool, true, false, cond, ◌+◌, ◌-◌, ◌*◌, ◌/◌, ◌%◌, ◌≡◌, ◌≤◌, ◌<◌, List, [], ◌∷◌, ◌++◌, Option}
+use Rattle.std.proofs.Common.{Some, None, refl, length, filter, flat_map, replicate, get_or, sum_by, ap, ◌∙◌, sym, arith, append_assoc}
+use Rattle.std.proofs.Common.{append-nil, div-add-mod', nat_le, nat_lt, ◌&&◌}
 use Rattle.std.proofs.Math.Nat.{mul-div_right, mod-eq_of_lt, add-mul-mod_self_right, lt_of_mul-lt-mul_right}
 use Rattle.std.proofs.lemmas.Bool.{leb-true, ltb-true}
 use Rattle.ptl_types.specs.declared.elements.AtomicOp.{AtomicOp}
@@ -33,7 +33,7 @@ starts-whole ty n =
     let w = bytes_of ty in
     let pos = bytes-pos ty in
     ap (λ v. v % w) (whole-part n w ∙ (let z : w * (n / w) ≡ 0 + n / w * w = omega arith in z)) ∙ add-mul-mod_self_right 0 (n / w) w
-        ∙ mod-eq_of_lt pos
+    ∙ mod-eq_of_lt pos
 
 pub starts-same : (o : AtomicOp) (ty : ElemType) (n : ℕ) → starting o ty (n - n % bytes_of ty) ≡ starting o ty n
 starts-same o ty n =
@@ -52,7 +52,7 @@ blank-cell k = blank-same k.op k.ty k.length
 no-bytes : (op : Option AtomicOp) (ty : ElemType) → blank_as op ty 0 ≡ []
 no-bytes None ty = refl
 no-bytes (Some o) ty = ap (λ q. repeated (bytes_of ty) q (start_value o ty)) (let z : 0 / bytes_of ty ≡ 0 =
-                                                                                    zero-div (bytes_of ty) (bytes-pos ty) in z)
+    zero-div (bytes_of ty) (bytes-pos ty) in z)
   where
     zero-div : (w : ℕ) → 0 < w → 0 / w ≡ 0
     zero-div w pos = ap (λ v. v / w) (let z : 0 ≡ w * 0 = omega arith in z) ∙ mul-div_right 0 pos

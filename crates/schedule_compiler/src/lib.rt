@@ -2,8 +2,8 @@
 //! it in a job, and into the ranks' memory by `load`.
 #![tactic(auto)]
 
-pub mod done;
 mod compiling;
+pub mod done;
 mod job;
 mod loading;
 mod schedule;

@@ -1,6 +1,7 @@
 //! The memory with which a rank begins.
 
-ghost use Rattle.std.specs.Prelude.{ℕ, [], nat_le, nat_lt, ◌&&◌, ◌≡◌, ◌<◌, ◌≤◌, ◌+◌, ◌-◌, ◌*◌, ◌/◌, ◌%◌, ◌++◌, IfOk, get_or, length, replicate, flat_map};
+ghost use Rattle.std.specs.Prelude.{ℕ, [], nat_le, nat_lt, ◌&&◌, ◌≡◌, ◌<◌, ◌≤◌, ◌+◌, ◌-◌, ◌*◌, ◌/◌, ◌%◌, ◌++◌, IfOk, get_or, length};
+ghost use Rattle.std.specs.Prelude.{replicate, flat_map};
 ghost use Rattle.ptl_types.specs.Elements.{starting};
 ghost use Rattle.plan_core.specs.Values.{initial};
 ghost use Rattle.plan_calls.specs.Areas.{blank_area, blank_areas, blank_as, initial_region};

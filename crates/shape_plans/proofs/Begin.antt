@@ -1,7 +1,7 @@
 -- The beginning: go cells and input cells.
-use Rattle.std.proofs.Common.{ℕ, zero, suc, Bool, cond, ◌&&◌, ◌+◌, ◌-◌, ◌*◌, ◌/◌, ◌%◌, ◌≡◌, ◌≤◌, ◌<◌, ◌⊎◌, List, [], ◌∷◌, refl, length, map,
-    get_or, ap, ap₂, ◌∙◌, sym, subst, inl, inr, arith, Option, Some, None, eq-or-lt_of_le, le_of_suc-le-suc, le-leb, replicate, set,
-    get_or-set_same, get_or-set_other}
+use Rattle.std.proofs.Common.{ℕ, zero, suc, Bool, cond, ◌&&◌, ◌+◌, ◌-◌, ◌*◌, ◌/◌, ◌%◌, ◌≡◌, ◌≤◌, ◌<◌, ◌⊎◌, List, [], ◌∷◌, refl, length, map}
+use Rattle.std.proofs.Common.{get_or, ap, ap₂, ◌∙◌, sym, subst, inl, inr, arith, Option, Some, None, eq-or-lt_of_le, le_of_suc-le-suc}
+use Rattle.std.proofs.Common.{le-leb, replicate, set, get_or-set_same, get_or-set_other}
 use Rattle.std.proofs.Math.Nat.{mod-eq_of_lt, add-mul-mod_self_right, mul-le-mul_right}
 use Rattle.std.proofs.lemmas.Nat.{div-mul-add}
 use Rattle.std.proofs.lemmas.Bool.{lt-ltb}
@@ -60,8 +60,12 @@ go-built n remote some at_most = record {
   few_ranks = at_most;
   links_sound = λ l h. absurd (omega arith);
   needs = λ c h k. absurd (let m = go-many n remote in omega arith);
-  go_needs = λ r h. (ap (λ (k : Cell). k.needs) (go-cell n remote r h), refl, ap (λ (k : Cell). k.rank) (go-cell n remote r h),
-      ap (λ (k : Cell). k.length) (go-cell n remote r h));
+  go_needs = λ r h. (
+    ap (λ (k : Cell). k.needs) (go-cell n remote r h),
+    refl,
+    ap (λ (k : Cell). k.rank) (go-cell n remote r h),
+    ap (λ (k : Cell). k.length) (go-cell n remote r h),
+  );
   apart = λ l m h. absurd (omega arith);
   covered = λ c h k. absurd (let m = go-many n remote in omega arith);
   input_cells = λ i h. absurd (omega arith);
@@ -92,7 +96,7 @@ one_input p x k a built full h =
       each_into = λ j m. elim m [
         | inl e ↦ subst (SoundIncoming (cell (with_cell p (input_cell x a))) (length p.cells) (input_cell x a)) e
             (bump-sound (cell (with_cell p (input_cell x a))) (length p.cells) (input_cell x a) a refl (omega arith)
-                (ap (λ (c : Cell). c.rank) (cell-old p (input_cell x a) a (omega arith)) ∙ (built.go_needs a h).2))
+            (ap (λ (c : Cell). c.rank) (cell-old p (input_cell x a) a (omega arith)) ∙ (built.go_needs a h).2))
         | inr z ↦ absurd z
       ];
       apart = (tt, tt);
@@ -107,10 +111,10 @@ add_inputs : (x : Buffer) (m a k : ℕ) (p : Plan) → WellBuilt p (k * p.ranks 
 add_inputs x zero a k p built full h = subst (λ v. WellBuilt p (k * p.ranks + v)) (let e : a ≡ a + 0 = omega arith in e) built
 add_inputs x (suc m) a k p built full h =
     subst (λ v. WellBuilt (with_cells (with_cell p (input_cell x a)) (map (input_cell x) (from_to (suc a) m))) (k * p.ranks + v))
-        (let e : suc a + m ≡ a + suc m = omega arith in e)
+    (let e : suc a + m ≡ a + suc m = omega arith in e)
     (add_inputs x m (suc a) k (with_cell p (input_cell x a))
     (subst (WellBuilt (with_cell p (input_cell x a))) (let e : suc (k * p.ranks + a) ≡ k * p.ranks + suc a = omega arith in e)
-        (one_input p x k a built full (omega arith)))
+    (one_input p x k a built full (omega arith)))
     (let e = length-cells p (input_cell x a) in omega arith) (omega arith))
 
 -- ---- a row of the table of held cells
@@ -135,7 +139,7 @@ module _ (h : HeldCells) (b first : ℕ) where
   row-stays zero x ne = refl
   row-stays (suc n) x ne =
       get_or-set_other (hold_row h b first n).cells (place_of (hold_row h b first n) b n) x (Some (first + n)) None
-          (λ e. ne n (omega arith) (ap (λ v. b * v + n) (sym (row-ranks n)) ∙ sym e))
+      (λ e. ne n (omega arith) (ap (λ v. b * v + n) (sym (row-ranks n)) ∙ sym e))
       ∙ row-stays n x (λ r l e. ne r (omega arith) e)
 
   row-there : (n r : ℕ) → r < n → b * h.ranks + n ≤ length h.cells → get_or (hold_row h b first n).cells (b * h.ranks + r) None ≡ Some
@@ -149,16 +153,16 @@ module _ (h : HeldCells) (b first : ℕ) where
 
       at : (r ≡ n) ⊎ (r < n) → (r < n → get_or (hold_row h b first n).cells (b * h.ranks + r) None ≡ Some (first + r))
           → get_or (set (hold_row h b first n).cells (place_of (hold_row h b first n) b n) (Some (first + n))) (b * h.ranks + r) None
-              ≡ Some (first + r)
+          ≡ Some (first + r)
       at (inl e) later =
           ap (λ v. get_or (set (hold_row h b first n).cells (place_of (hold_row h b first n) b n) (Some (first + n))) v None)
-              (ap (λ v. b * h.ranks + v) e ∙ sym place)
+          (ap (λ v. b * h.ranks + v) e ∙ sym place)
           ∙ get_or-set_same (hold_row h b first n).cells (place_of (hold_row h b first n) b n) (Some (first + n)) None
-              (let m = row-many n in let q = place in omega (arith, m, q, w))
+          (let m = row-many n in let q = place in omega (arith, m, q, w))
           ∙ ap (λ v. Some (first + v)) (sym e)
       at (inr k) later =
           get_or-set_other (hold_row h b first n).cells (place_of (hold_row h b first n) b n) (b * h.ranks + r) (Some (first + n)) None
-              (λ e. let q = place in absurd (omega (arith, e, q, k)))
+          (λ e. let q = place in absurd (omega (arith, e, q, k)))
           ∙ later k
 
 -- ---- after m inputs
@@ -204,7 +208,7 @@ module _ (o : Outline) (m : ℕ) (p : Plan) (h : HeldCells) (e : List ℕ) (begu
       let z = ap (λ v. m * v) r in
       subst (WellBuilt q) (let w : m * p.ranks + (0 + o.ranks) ≡ suc m * o.ranks = omega (arith, more, z) in w)
       (add_inputs x o.ranks 0 m p (subst (WellBuilt p) (let w : m * o.ranks ≡ m * p.ranks + 0 = omega (arith, z) in w) begun.built)
-          (omega (arith, f, r, z)) (omega (arith, r)))
+      (omega (arith, f, r, z)) (omega (arith, r)))
 
   last : (b : ℕ) → b < suc m → (b ≡ m) ⊎ (b < m)
   last b l = eq-or-lt_of_le (le_of_suc-le-suc l)
@@ -214,11 +218,11 @@ module _ (o : Outline) (m : ℕ) (p : Plan) (h : HeldCells) (e : List ℕ) (begu
       let i = each_of_map (Inside q) (length p.cells) (input_cell x) 0 o.ranks (inside_all p new_cells) r l in
       let f = begun.full in
       ap (cell q) (let z : o.ranks + (m * o.ranks + r) ≡ length p.cells + r = omega (arith, f) in z) ∙ i.is_cell
-          ∙ ap (λ v. cell_of (input_cell x v)) (let z : 0 + r ≡ r = omega arith in z)
+      ∙ ap (λ v. cell_of (input_cell x v)) (let z : 0 + r ≡ r = omega arith in z)
 
   old_one : (b r : ℕ) → b < m → r < o.ranks → cell q (o.ranks + (b * o.ranks + r)) ≡ cell p (o.ranks + (b * o.ranks + r))
   old_one b r k l = (extends-all p new_cells []).same_cell (o.ranks + (b * o.ranks + r)) (let f = begun.full in let w =
-                                                                                                                      in_rows b r m o.ranks k l in omega (arith, f, w))
+      in_rows b r m o.ranks k l in omega (arith, f, w))
 
   row_at : (b r : ℕ) → get_or h'.cells (b * h'.ranks + r) None ≡ get_or h'.cells (b * h.ranks + r) None
   row_at b r = ap (λ v. get_or h'.cells (b * v + r) None) (row-ranks h m (length p.cells) o.ranks)
@@ -227,7 +231,7 @@ module _ (o : Outline) (m : ℕ) (p : Plan) (h : HeldCells) (e : List ℕ) (begu
   other_row b r ne l =
       let n = begun.held_ranks in
       row_at b r ∙ row-stays h m (length p.cells) o.ranks (b * h.ranks + r)
-          (λ i w z. rows-apart h.ranks m b i r (omega (arith, w, n)) (omega (arith, l, n)) ne z)
+      (λ i w z. rows-apart h.ranks m b i r (omega (arith, w, n)) (omega (arith, l, n)) ne z)
 
   this_row : (r : ℕ) → r < o.ranks → held_cell h' m r ≡ Some (length p.cells + r)
   this_row r l =
@@ -249,7 +253,7 @@ module _ (o : Outline) (m : ℕ) (p : Plan) (h : HeldCells) (e : List ℕ) (begu
     row = λ b r k l. elim (last b k) [
       | inl z ↦ subst (λ v. held_cell h' v r ≡ Some (o.ranks + (v * o.ranks + r))) (sym z)
           (this_row r l ∙ ap (λ v. Some v) (let f = begun.full in let w : length p.cells + r ≡ o.ranks + (m * o.ranks + r) =
-                                                                        omega (arith, f) in w))
+          omega (arith, f) in w))
       | inr w ↦ other_row b r (λ y. absurd (omega (arith, y, w))) l ∙ begun.row b r w l
     ];
     none = λ b r k l. other_row b r (λ y. absurd (omega (arith, y, k))) l ∙ begun.none b r (omega (arith, k)) l;
@@ -292,7 +296,7 @@ begun o some at_most zero h = begun-none o some at_most
 begun o some at_most (suc m) h =
     let d = drawn_inputs o m in
     subst (λ v. Begun o (suc m) v (hold_row d.held m (length d.plan.cells) o.ranks) d.exits)
-        (sym (add_all-with d.plan (map (input_cell (buffer_at o m)) (from_to 0 o.ranks))))
+    (sym (add_all-with d.plan (map (input_cell (buffer_at o m)) (from_to 0 o.ranks))))
     (begun-more o m d.plan d.held d.exits (begun o some at_most m (omega arith)) (omega arith))
 
 get_or-row : (n r : ℕ) → r < n → get_or (from_to 0 n) r 0 ≡ r
@@ -314,9 +318,16 @@ fine-begun o p h e all be = record {
   held_ranks = be.held_ranks;
   held_buffers = be.held_buffers;
   held_many = be.held_many;
-  holders = λ b r k l m. record { number = o.ranks + (b * o.ranks + r); is = be.row b r k l; in_plan =
-      (let f = be.full in let w = in_rows b r o.inputs o.ranks k l in omega (arith, f, w)); rank = row_rank b r k l; ty =
-      be.row_ty b r k l; long = be.row_long b r k l };
+  holders = λ b r k l m. record {
+    number = o.ranks + (b * o.ranks + r);
+    is = be.row b r k l;
+    in_plan =
+        (let f = be.full in let w = in_rows b r o.inputs o.ranks k l in omega (arith, f, w));
+    rank = row_rank b r k l;
+    ty =
+        be.row_ty b r k l;
+    long = be.row_long b r k l;
+  };
   held_in = λ b r c k l z. (
     (let f = be.full in let w = in_rows b r o.inputs o.ranks k l in let y = one (sym (be.row b r k l) ∙ z) in omega (arith, f, w, y)),
     subst (In r) (sym (all b k)) (In-from_to 0 o.ranks r (omega arith) (omega (arith, l))),
@@ -349,10 +360,10 @@ input-value p inputs built i h =
     ∙ each-id (step p inputs) (in_links p (p.ranks + i)) (initial p inputs (p.ranks + i))
     (λ l m. let r = in_links-In p (p.ranks + i) l m in
     ap (λ k. land_as k (cell p (link p l).target) (link p l).target_offset (due p inputs l) (initial p inputs (p.ranks + i)))
-        (built.input_links l r.0 (let t = r.1 in omega arith)))
+    (built.input_links l r.0 (let t = r.1 in omega arith)))
     ∙ ap (λ b. cond b (input_bytes p inputs (p.ranks + i - p.ranks)) (blank (cell p (p.ranks + i))))
-        (ap₂ (λ u v. u && v) (le-leb p.ranks (p.ranks + i) (omega arith))
-        (lt-ltb (p.ranks + i) (p.ranks + length inputs * p.ranks) (omega arith)))
+    (ap₂ (λ u v. u && v) (le-leb p.ranks (p.ranks + i) (omega arith))
+    (lt-ltb (p.ranks + i) (p.ranks + length inputs * p.ranks) (omega arith)))
     ∙ ap (input_bytes p inputs) (let e : p.ranks + i - p.ranks ≡ i = omega arith in e)
 
 -- input b at rank r

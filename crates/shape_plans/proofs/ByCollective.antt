@@ -1,16 +1,16 @@
 -- What each collective gives to the laws of all plans, a line for each: its sizes, that each of its cells has a link, and who holds
 -- what it makes.
-use Rattle.std.proofs.Common.{ℕ, zero, suc, Bool, ◌+◌, ◌-◌, ◌*◌, ◌≡◌, ◌<◌, ◌≤◌, List, [], ◌∷◌, refl, length, map, filter, get_or, ap, ap₂,
-    ◌∙◌, arith, true, false, cond, ◌==◌, ◌++◌, length-append, ◌/◌, ◌%◌, div-add-mod', sym, inl, inr, Some, None, eq-eqb, eqb-true,
-    le_of_suc-le-suc}
+use Rattle.std.proofs.Common.{ℕ, zero, suc, Bool, ◌+◌, ◌-◌, ◌*◌, ◌≡◌, ◌<◌, ◌≤◌, List, [], ◌∷◌, refl, length, map, filter, get_or, ap, ap₂}
+use Rattle.std.proofs.Common.{◌∙◌, arith, true, false, cond, ◌==◌, ◌++◌, length-append, ◌/◌, ◌%◌, div-add-mod', sym, inl, inr, Some, None}
+use Rattle.std.proofs.Common.{eq-eqb, eqb-true, le_of_suc-le-suc}
 use Rattle.coll_shape.proofs.Asking.{In-is_in}
 use Rattle.coll_shape.specs.Collectives.{source_of, IsRoot, is_in, Reads, buffer_after, holding_places, result_of, all_but_first}
 use Rattle.coll_shape.specs.Outline.{list_bytes}
 use Rattle.coll_shape.specs.declared.limits.TheConstants.{MOST_RANKS}
 use Rattle.coll_shape.specs.declared.types.Buffer.{Buffer}
 use Rattle.coll_shape.specs.declared.types.CollStep.{CollStep}
-use Rattle.coll_shape.specs.declared.types.CollStep.TheVariants.{Barrier, Broadcast, Reduce, Allreduce, Gather, Allgather, Alltoall, Scan,
-    Scatter, Reducescatter, Exscan, Gatherv}
+use Rattle.coll_shape.specs.declared.types.CollStep.TheVariants.{Barrier, Broadcast, Reduce, Allreduce, Gather, Allgather, Alltoall, Scan}
+use Rattle.coll_shape.specs.declared.types.CollStep.TheVariants.{Scatter, Reducescatter, Exscan, Gatherv}
 use Rattle.plan_core.proofs.Drawing.{links-in_all, length-row, many-cells}
 use Rattle.plan_core.specs.Draw.{NewCell, add_all, bytes_in, links_of, HasRoom}
 use Rattle.plan_core.specs.Members.{In}
@@ -41,8 +41,8 @@ use Rattle.plan_steps.specs.Reducescatter.{result_block}
 use Rattle.plan_steps.specs.Rounds.{rounds}
 use Rattle.plan_steps.specs.Scan.{scan_cell, scan_rows}
 use Rattle.plan_steps.specs.Scatter.{scattered}
-use Rattle.plan_steps.specs.StepContext.{StepContext, count, bare_entries, bare_entry, entries, full_entry, places, row, rows, entry,
-    further}
+use Rattle.plan_steps.specs.StepContext.{StepContext, count, bare_entries, bare_entry, entries, full_entry, places, row, rows, entry}
+use Rattle.plan_steps.specs.StepContext.{further}
 use Rattle.plan_steps.specs.Steps.{giving, passing}
 use Rattle.plan_steps.specs.Trees.{up, up_at, unturned, up_number}
 use Rattle.ptl_types.specs.Operations.{bytes_of}
@@ -140,7 +140,7 @@ scatters s root i = at (i == root)
   where
     at : (b : Bool) → 1 ≤ length (cond b (Rattle.plan_steps.specs.Scatter.scatter_put s root i ∷ [])
         (Rattle.plan_steps.specs.StepContext.bump (Rattle.plan_steps.specs.StepContext.entry s i)
-            ∷ Rattle.plan_steps.specs.Scatter.scatter_put s root i ∷ []))
+        ∷ Rattle.plan_steps.specs.Scatter.scatter_put s root i ∷ []))
     at true = some 0
     at false = some 1
 
@@ -157,7 +157,7 @@ step-linked s (Gather root a b) p = both (entries s) (gathered s root ∷ []) (a
 step-linked s (Allgather a b) p =
     both (entries s) (rows s (ring_node s) 0 (count s) ++ map (collected s) (places s)) (all s)
     (both (rows s (ring_node s) 0 (count s)) (map (collected s) (places s)) (in_rows s (ring_node s) 0 (count s) (λ k i. some 0))
-        (in_row (collected s) 0 (count s) (λ i. let e = length-row (collect_link s i) 0 (count s) in omega (arith, e, p))))
+    (in_row (collected s) 0 (count s) (λ i. let e = length-row (collect_link s i) 0 (count s) in omega (arith, e, p))))
 step-linked s (Alltoall a b) p = both (entries s) (map (exchanged s) (places s)) (all s)
     (in_row (exchanged s) 0 (count s) (λ i. let e = length-row (exchange_link s i) 0 (count s) in omega (arith, e, p)))
 step-linked s (Scan o a b) p = both (entries s) (scan_rows s o) (all s) (in_rows s (scan_cell s o) 0 (suc (rounds (count s))) (scans s o))
@@ -168,11 +168,11 @@ step-linked s (Reducescatter o a b) p = both (entries s) (up s 0 o ++ map (resul
 step-linked s (Exscan o a b) p =
     both (entries s) (scan_rows s o ++ map (shifted s) (from_to 0 (count s - 1))) (all s)
     (both (scan_rows s o) (map (shifted s) (from_to 0 (count s - 1))) (in_rows s (scan_cell s o) 0 (suc (rounds (count s))) (scans s o))
-        (in_row (shifted s) 0 (count s - 1) (λ i. some 1)))
+    (in_row (shifted s) 0 (count s - 1) (λ i. some 1)))
 step-linked s (Gatherv root a b) p =
     both (map (held_entry s) (places s)) (concatenated s root ∷ [])
     (in_row (held_entry s) 0 (count s) (λ i. either (is_in i s.holding) (full_entry s i) (bare_entry s i) (some 1) (some 0)))
-        (one (concatenated s root) (some _))
+    (one (concatenated s root) (some _))
 
 -- with few links in the end there is room for the step
 pub room-for : (p : Plan) (s : StepContext) (step : CollStep) → 0 < count s → length p.cells ≤ MOST_RANKS + length p.links →
@@ -183,9 +183,14 @@ room-for p s step pos h l = let a = step-linked s step pos in record { cells = o
 pub at_most-after : (p : Plan) (s : StepContext) (step : CollStep) → 0 < count s → length p.cells ≤ MOST_RANKS + length p.links →
     length (add_all p (cells_of s step)).cells ≤ MOST_RANKS + length (add_all p (cells_of s step)).links
 at_most-after p s step pos h = let a = step-linked s step pos in let b = many-cells p (cells_of s step) in let c =
-                                                                                                                 links-in_all p (cells_of
-                                                                                                                 s step) in omega (arith,
-                                                                                                                 a, b, c, h)
+    links-in_all p (cells_of
+    s step) in omega (
+      arith,
+      a,
+      b,
+      c,
+      h,
+    )
 
 -- ---- a buffer that is held has an element
 
@@ -275,15 +280,30 @@ held_here g r s (Reducescatter o a' b) a e f x h = here_of {step = Reducescatter
     (λ i. refl) (member g r h)
 held_here g r s (Exscan o a' b) a e f x h = let m = behind-at g r h in
     record { place = suc m.0; is = m.1; cell = (end_of s (Exscan o a' b) (suc m.0)).exit; holder = refl }
-held_here g r s (Reduce root o a' b) a e f x (inl h) = record { place = root; is = record { below = f; there = h }; cell =
-    up_number s 0; holder = ap (λ t. (cond t (giving (up_number s 0)) (passing (up_number s (unturned s root root)))).holder)
-    (eq-eqb root root refl) }
+held_here g r s (Reduce root o a' b) a e f x (inl h) = record {
+  place = root;
+  is = record { below = f; there = h };
+  cell =
+      up_number s 0;
+  holder = ap (λ t. (cond t (giving (up_number s 0)) (passing (up_number s (unturned s root root)))).holder)
+      (eq-eqb root root refl);
+}
 held_here g r s (Reduce root o a' b) a e f x (inr h) = absurd h
-held_here g r s (Gather root a' b) a e f x (inl h) = record { place = root; is = record { below = f; there = h }; cell =
-    further s 0; holder = ap (λ t. (cond t (giving (further s 0)) (passing (entry s root))).holder) (eq-eqb root root refl) }
+held_here g r s (Gather root a' b) a e f x (inl h) = record {
+  place = root;
+  is = record { below = f; there = h };
+  cell =
+      further s 0;
+  holder = ap (λ t. (cond t (giving (further s 0)) (passing (entry s root))).holder) (eq-eqb root root refl);
+}
 held_here g r s (Gather root a' b) a e f x (inr h) = absurd h
-held_here g r s (Gatherv root a' b) a e f x (inl h) = record { place = root; is = record { below = f; there = h }; cell =
-    further s 0; holder = ap (λ t. (cond t (giving (further s 0)) (passing (entry s root))).holder) (eq-eqb root root refl) }
+held_here g r s (Gatherv root a' b) a e f x (inl h) = record {
+  place = root;
+  is = record { below = f; there = h };
+  cell =
+      further s 0;
+  holder = ap (λ t. (cond t (giving (further s 0)) (passing (entry s root))).holder) (eq-eqb root root refl);
+}
 held_here g r s (Gatherv root a' b) a e f x (inr h) = absurd h
 
 -- and back

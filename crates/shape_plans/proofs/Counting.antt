@@ -17,7 +17,7 @@ sum-more f k =
     ∙ ap (sum_by f) (from_to-more 0 k)
     ∙ sum_by-append f (from_to 0 k) ((0 + k) ∷ [])
     ∙ ap (λ v. sum_by f (from_to 0 k) + v) (sum_by-cons f (0 + k) [] ∙ ap (λ v. f v + 0) (let e : 0 + k ≡ k = omega arith in e)
-        ∙ (let e : f k + 0 ≡ f k = omega arith in e))
+    ∙ (let e : f k + 0 ≡ f k = omega arith in e))
 
 -- ---- the first excess
 within_limits : (l b : ℕ) → l ≤ MOST_LINKS → b ≤ MOST_BYTES → judged (record { links = l; bytes = b }) ≡ None
@@ -48,7 +48,7 @@ pub found-next : (o : Outline) (k n : ℕ) → k < n → judged (size_upto o (k 
 found-next o k n h e =
     found-step o k n h
     ∙ ap (λ v. refused_at k v (found_from o (suc k) (n - suc k)))
-        (ap (λ v. judged (size_upto o v)) (let z : suc k ≡ k + 1 = omega arith in z) ∙ e)
+    (ap (λ v. judged (size_upto o v)) (let z : suc k ≡ k + 1 = omega arith in z) ∙ e)
     ∙ ap (λ v. found_from o v (n - v)) (let z : suc k ≡ k + 1 = omega arith in z)
 
 pub found-here : (o : Outline) (k n : ℕ) (x : Excess) → k < n → judged (size_upto o (k + 1)) ≡ Some x →
@@ -56,7 +56,7 @@ pub found-here : (o : Outline) (k n : ℕ) (x : Excess) → k < n → judged (si
 found-here o k n x h e =
     found-step o k n h
     ∙ ap (λ v. refused_at k v (found_from o (suc k) (n - suc k)))
-        (ap (λ v. judged (size_upto o v)) (let z : suc k ≡ k + 1 = omega arith in z) ∙ e)
+    (ap (λ v. judged (size_upto o v)) (let z : suc k ≡ k + 1 = omega arith in z) ∙ e)
 
 pub found-end : (o : Outline) (k n : ℕ) → n ≤ k → found_from o k (n - k) ≡ None
 found-end o k n h = ap (found_from o k) (let e : n - k ≡ 0 = omega arith in e)

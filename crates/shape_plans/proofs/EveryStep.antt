@@ -1,6 +1,6 @@
 -- All twelve steps together: sound, their exits and holders are among their cells, and what the holders hold.
-use Rattle.std.proofs.Common.{ℕ, zero, suc, Bool, true, false, cond, ◌+◌, ◌-◌, ◌*◌, ◌/◌, ◌%◌, ◌≡◌, ◌≤◌, ◌<◌, ◌==◌, List, [], ◌∷◌, ◌++◌,
-    refl, length, map, filter, flat_map, ap, ap₂, ◌∙◌, sym, subst, arith, Some, eqb-true, le_refl, div-add-mod'}
+use Rattle.std.proofs.Common.{ℕ, zero, suc, Bool, true, false, cond, ◌+◌, ◌-◌, ◌*◌, ◌/◌, ◌%◌, ◌≡◌, ◌≤◌, ◌<◌, ◌==◌, List, [], ◌∷◌, ◌++◌}
+use Rattle.std.proofs.Common.{refl, length, map, filter, flat_map, ap, ap₂, ◌∙◌, sym, subst, arith, Some, eqb-true, le_refl, div-add-mod'}
 use Rattle.std.proofs.Math.Nat.{mod-eq_of_lt, add-mul-mod_self_left}
 use Rattle.ptl_types.specs.declared.elements.AtomicOp.{AtomicOp}
 use Rattle.ptl_types.specs.declared.elements.ElemType.{ElemType}
@@ -11,10 +11,10 @@ use Rattle.plan_core.specs.declared.Cell.{Cell}
 use Rattle.plan_core.specs.Draw.{NewCell}
 use Rattle.plan_core.specs.Plan.{from_to, no_cell}
 use Rattle.coll_shape.specs.declared.types.CollStep.{CollStep}
-use Rattle.coll_shape.specs.declared.types.CollStep.TheVariants.{Barrier, Broadcast, Reduce, Allreduce, Gather, Allgather, Alltoall, Scan,
-    Scatter, Reducescatter, Exscan, Gatherv}
-use Rattle.plan_steps.specs.StepContext.{StepContext, bare_entry, count, entries, entry, full_entry, further, in_row, places, rank_at,
-    source_at, block_length}
+use Rattle.coll_shape.specs.declared.types.CollStep.TheVariants.{Barrier, Broadcast, Reduce, Allreduce, Gather, Allgather, Alltoall, Scan}
+use Rattle.coll_shape.specs.declared.types.CollStep.TheVariants.{Scatter, Reducescatter, Exscan, Gatherv}
+use Rattle.plan_steps.specs.StepContext.{StepContext, bare_entry, count, entries, entry, full_entry, further, in_row, places, rank_at}
+use Rattle.plan_steps.specs.StepContext.{source_at, block_length}
 use Rattle.plan_steps.specs.Steps.{giving, passing}
 use Rattle.coll_shape.specs.Collectives.{IsRoot, is_in, list_after}
 use Rattle.plan_steps.specs.Trees.{turned, unturned, up, up_cell, up_number}
@@ -160,7 +160,7 @@ module _ (P : ℕ → NewCell → Type 0) (s : StepContext) (pos : 0 < count s) 
   third o root g h i l =
       moved (s.first + count s + count s + i) (further s (count s + i)) (g i) (omega arith)
       (of_places P s (s.first + count s + count s) g (behind P s (s.first + count s) _ (map g (places s))
-          (behind P s s.first (full_entry s) _ h)) i l)
+      (behind P s s.first (full_entry s) _ h)) i l)
 
   any : ℕ → Cell
   any c = no_cell
@@ -172,8 +172,11 @@ module _ (P : ℕ → NewCell → Type 0) (s : StepContext) (pos : 0 < count s) 
         (of_places P s s.first (bare_entry s) (each_front P s.first (map (bare_entry s) (places s)) (round_rows s) h) i l);
     on_rank = refl;
   }
-  round_at h (suc j) i t l = record { node = _; holds = round-at any s P (behind P s s.first (bare_entry s) (round_rows s) h) j i t l;
-      on_rank = refl }
+  round_at h (suc j) i t l = record {
+    node = _;
+    holds = round-at any s P (behind P s s.first (bare_entry s) (round_rows s) h) j i t l;
+    on_rank = refl;
+  }
 
   first_at : (f : ℕ → NewCell) (ns : List NewCell) → EachAt P s.first (map f (places s) ++ ns) → (i : ℕ) → i < count s → P (entry s i) (f i)
   first_at f ns h i l = of_places P s s.first f (each_front P s.first (map f (places s)) ns h) i l
@@ -201,10 +204,10 @@ module _ (P : ℕ → NewCell → Type 0) (s : StepContext) (pos : 0 < count s) 
   shifted_at o h j l =
       let c = length-rows (scan_cell s o) (count s) 0 (suc (rounds (count s))) in
       let m = each_of_map P (s.first + count s + length (scan_rows s o)) (shifted s) 0 (count s - 1)
-            (each_back P (s.first + count s) (scan_rows s o) (map (shifted s) (from_to 0 (count s - 1)))
-            (behind P s s.first (full_entry s) (scan_rows s o ++ map (shifted s) (from_to 0 (count s - 1))) h)) j (omega arith) in
+      (each_back P (s.first + count s) (scan_rows s o) (map (shifted s) (from_to 0 (count s - 1)))
+      (behind P s s.first (full_entry s) (scan_rows s o ++ map (shifted s) (from_to 0 (count s - 1))) h)) j (omega arith) in
       moved (s.first + count s + length (scan_rows s o) + j) (further s (suc (rounds (count s)) * count s + j)) (shifted s j)
-          (omega (arith, c))
+      (omega (arith, c))
       (subst (λ v. P (s.first + count s + length (scan_rows s o) + j) (shifted s v)) (let z : 0 + j ≡ j = omega arith in z) m)
 
   turned_0 : (i : ℕ) → i < count s → rank_at s (turned s 0 i) ≡ rank_at s i
@@ -228,38 +231,65 @@ module _ (P : ℕ → NewCell → Type 0) (s : StepContext) (pos : 0 < count s) 
   pub exit_node : (step : CollStep) → IsRoot step (count s) → EachAt P s.first (cells_of s step) → (i : ℕ) → i < count s →
       Among P (end_of s step i).exit (rank_at s i)
   exit_node Barrier r h i l = round_at h (rounds (count s)) i (le_refl (rounds (count s))) l
-  exit_node (Broadcast root a b) r h i l = record { node = _; holds = second (first_cell s root) (copy_cell s root) h (unturned s root i)
-      (unturned-lt s root i pos); on_rank = ap (rank_at s) (turned-back s root r i l) }
+  exit_node (Broadcast root a b) r h i l = record {
+    node = _;
+    holds = second (first_cell s root) (copy_cell s root) h (unturned s root i)
+        (unturned-lt s root i pos);
+    on_rank = ap (rank_at s) (turned-back s root r i l);
+  }
   exit_node (Reduce root o a b) r h i l = at_root (i == root) refl
     where
       at_root : (t : Bool) → (i == root) ≡ t → Among P (cond t (giving (up_number s 0)) (passing (up_number s (unturned s root i)))).exit
           (rank_at s i)
-      at_root true e = record { node = _; holds = up_is root o h 0 pos; on_rank = turned_root root r
-          ∙ sym (ap (rank_at s) (eqb-true _ _ e)) }
-      at_root false e = record { node = _; holds = up_is root o h (unturned s root i) (unturned-lt s root i pos); on_rank =
-          ap (rank_at s) (turned-back s root r i l) }
+      at_root true e = record {
+        node = _;
+        holds = up_is root o h 0 pos;
+        on_rank = turned_root root r
+            ∙ sym (ap (rank_at s) (eqb-true _ _ e));
+      }
+      at_root false e = record {
+        node = _;
+        holds = up_is root o h (unturned s root i) (unturned-lt s root i pos);
+        on_rank =
+            ap (rank_at s) (turned-back s root r i l);
+      }
   exit_node (Allreduce o a b) r h i l = record { node = _; holds = third o 0 (result_cell s) h i l; on_rank = turned_0 i l }
   exit_node (Gather root a b) r h i l = at_root (i == root) refl
     where
       at_root : (t : Bool) → (i == root) ≡ t → Among P (cond t (giving (further s 0)) (passing (entry s i))).exit (rank_at s i)
-      at_root true e = record { node = _; holds = alone (full_entry s) (gathered s root) h; on_rank =
-          ap (rank_at s) (sym (eqb-true _ _ e)) }
+      at_root true e = record {
+        node = _;
+        holds = alone (full_entry s) (gathered s root) h;
+        on_rank =
+            ap (rank_at s) (sym (eqb-true _ _ e));
+      }
       at_root false e = record { node = _; holds = first_at (full_entry s) (gathered s root ∷ []) h i l; on_rank = refl }
   exit_node (Allgather a b) r h i l = record { node = _; holds = collected_at h i l; on_rank = refl }
   exit_node (Alltoall a b) r h i l = record { node = _; holds = second (full_entry s) (exchanged s) h i l; on_rank = refl }
   exit_node (Scan o a b) r h i l = record { node = _; holds = only_scan o h i l; on_rank = scan_rank o (rounds (count s)) i }
   exit_node (Scatter root a b) r h i l = record { node = _; holds = second (first_cell s root) (scattered s root) h i l; on_rank = refl }
   exit_node (Reducescatter o a b) r h i l = record { node = _; holds = third o 0 (result_block s) h i l; on_rank = result_rank i }
-  exit_node (Exscan o a b) r h zero l = record { node = _; holds = last_scan o (map (shifted s) (from_to 0 (count s - 1))) h 0 l;
-      on_rank = scan_rank o (rounds (count s)) 0 }
+  exit_node (Exscan o a b) r h zero l = record {
+    node = _;
+    holds = last_scan o (map (shifted s) (from_to 0 (count s - 1))) h 0 l;
+    on_rank = scan_rank o (rounds (count s)) 0;
+  }
   exit_node (Exscan o a b) r h (suc j) l = record { node = _; holds = shifted_at o h j l; on_rank = refl }
   exit_node (Gatherv root a b) r h i l = at_root (i == root) refl
     where
       at_root : (t : Bool) → (i == root) ≡ t → Among P (cond t (giving (further s 0)) (passing (entry s i))).exit (rank_at s i)
-      at_root true e = record { node = _; holds = alone (held_entry s) (concatenated s root) h; on_rank =
-          ap (rank_at s) (sym (eqb-true _ _ e)) }
-      at_root false e = record { node = _; holds = first_at (held_entry s) (concatenated s root ∷ []) h i l; on_rank =
-          entry_rank (is_in i s.holding) i }
+      at_root true e = record {
+        node = _;
+        holds = alone (held_entry s) (concatenated s root) h;
+        on_rank =
+            ap (rank_at s) (sym (eqb-true _ _ e));
+      }
+      at_root false e = record {
+        node = _;
+        holds = first_at (held_entry s) (concatenated s root ∷ []) h i l;
+        on_rank =
+            entry_rank (is_in i s.holding) i;
+      }
 
   found : (c d rank n : ℕ) → Some d ≡ Some c → Holder P s.ty d rank n → Holder P s.ty c rank n
   found c d rank n e h = subst (λ v. Holder P s.ty v rank n) (some_one e) h
@@ -268,14 +298,25 @@ module _ (P : ℕ → NewCell → Type 0) (s : StepContext) (pos : 0 < count s) 
       (end_of s step i).holder ≡ Some c → Holder P s.ty c (rank_at s i) (bytes_after s step)
   holder_node Barrier r h i c l e = cc
   holder_node (Broadcast root a b) r h i c l e = found c _ (rank_at s i) s.length e
-      (record { node = _; holds = second (first_cell s root) (copy_cell s root) h (unturned s root i) (unturned-lt s root i pos);
-      on_rank = ap (rank_at s) (turned-back s root r i l); ty = refl; long = refl })
+      (record {
+        node = _;
+        holds = second (first_cell s root) (copy_cell s root) h (unturned s root i) (unturned-lt s root i pos);
+        on_rank = ap (rank_at s) (turned-back s root r i l);
+        ty = refl;
+        long = refl;
+      })
   holder_node (Reduce root o a b) r h i c l e = at_root (i == root) refl e
     where
       at_root : (t : Bool) → (i == root) ≡ t → (cond t (giving (up_number s 0)) (passing (up_number s (unturned s root i)))).holder ≡ Some
           c → Holder P s.ty c (rank_at s i) s.length
-      at_root true q e = found c _ (rank_at s i) s.length e (record { node = _; holds = up_is root o h 0 pos; on_rank = turned_root root r
-          ∙ sym (ap (rank_at s) (eqb-true _ _ q)); ty = refl; long = refl })
+      at_root true q e = found c _ (rank_at s i) s.length e (record {
+        node = _;
+        holds = up_is root o h 0 pos;
+        on_rank = turned_root root r
+            ∙ sym (ap (rank_at s) (eqb-true _ _ q));
+        ty = refl;
+        long = refl;
+      })
       at_root false q e = cc
   holder_node (Allreduce o a b) r h i c l e = found c _ (rank_at s i) s.length e
       (record { node = _; holds = third o 0 (result_cell s) h i l; on_rank = turned_0 i l; ty = refl; long = refl })
@@ -284,8 +325,14 @@ module _ (P : ℕ → NewCell → Type 0) (s : StepContext) (pos : 0 < count s) 
       at_root : (t : Bool) → (i == root) ≡ t → (cond t (giving (further s 0)) (passing (entry s i))).holder ≡ Some c →
           Holder P s.ty c (rank_at s i) (count s * s.length)
       at_root true q e = found c _ (rank_at s i) (count s * s.length) e
-          (record { node = _; holds = alone (full_entry s) (gathered s root) h; on_rank = ap (rank_at s) (sym (eqb-true _ _ q)); ty =
-          refl; long = refl })
+          (record {
+            node = _;
+            holds = alone (full_entry s) (gathered s root) h;
+            on_rank = ap (rank_at s) (sym (eqb-true _ _ q));
+            ty =
+                refl;
+            long = refl;
+          })
       at_root false q e = cc
   holder_node (Allgather a b) r h i c l e = found c _ (rank_at s i) (count s * s.length) e
       (record { node = _; holds = collected_at h i l; on_rank = refl; ty = refl; long = refl })
@@ -305,8 +352,14 @@ module _ (P : ℕ → NewCell → Type 0) (s : StepContext) (pos : 0 < count s) 
       at_root : (t : Bool) → (i == root) ≡ t → (cond t (giving (further s 0)) (passing (entry s i))).holder ≡ Some c →
           Holder P s.ty c (rank_at s i) (length s.holding * s.length)
       at_root true q e = found c _ (rank_at s i) (length s.holding * s.length) e
-          (record { node = _; holds = alone (held_entry s) (concatenated s root) h; on_rank = ap (rank_at s) (sym (eqb-true _ _ q)); ty =
-          refl; long = refl })
+          (record {
+            node = _;
+            holds = alone (held_entry s) (concatenated s root) h;
+            on_rank = ap (rank_at s) (sym (eqb-true _ _ q));
+            ty =
+                refl;
+            long = refl;
+          })
       at_root false q e = cc
 
 -- ---- what the holders hold
@@ -346,7 +399,7 @@ module _ (k : ℕ → Cell) (val : ℕ → List ℕ) (s : StepContext) (xs : Lis
   fold_long o e =
       ap length (sym (fold_all o e))
       ∙ length-folded o s.ty (map (at xs) (from_to 0 (count s))) (starting o s.ty s.length)
-          (ap (λ n. n % bytes_of s.ty) (length-repeated o s.ty s.length whole) ∙ whole)
+      (ap (λ n. n % bytes_of s.ty) (length-repeated o s.ty s.length whole) ∙ whole)
       ∙ length-repeated o s.ty s.length whole
 
   len_at : (i : ℕ) → HasValue i → length (at xs i) ≡ s.length
@@ -369,7 +422,7 @@ module _ (k : ℕ → Cell) (val : ℕ → List ℕ) (s : StepContext) (xs : Lis
   step-value (Broadcast root a b) root_in asks known i l = Holds _ (broadcast-value k s root root_in val pos asks.1 known i l ∙ asks.0)
   step-value (Reduce root o a b) root_in asks known i l =
       rooted (i == root) (up_number s 0) (up_number s (unturned s root i)) (reduced o s.ty (length xs) xs)
-          (reduce-value k val (at xs) s root o root_in whole asks known ∙ fold_all o (len_at 0 (asks 0 pos)))
+      (reduce-value k val (at xs) s root o root_in whole asks known ∙ fold_all o (len_at 0 (asks 0 pos)))
   step-value (Allreduce o a b) root_in asks known i l = Holds _ (allreduce-value k s o val (at xs) pos whole asks known i l
       ∙ fold_all o (len_at 0 (asks 0 pos)))
   step-value (Gather root a b) root_in asks known i l = rooted (i == root) (further s 0) (entry s i) (joined_lists xs)
@@ -384,11 +437,11 @@ module _ (k : ℕ → Cell) (val : ℕ → List ℕ) (s : StepContext) (xs : Lis
       ∙ ap (part (i * block_length s) (block_length s)) asks.0.0 ∙ block_is i (at xs root) (len_at root asks.0))
   step-value (Reducescatter o a b) root_in asks known i l =
       Holds _ (reducescatter-value k s o val (at xs) pos whole asks.1.all asks.0 known i l
-          ∙ ap (part (i * block_length s) (block_length s)) (fold_all o (len_at 0 (asks.0 0 pos)))
+      ∙ ap (part (i * block_length s) (block_length s)) (fold_all o (len_at 0 (asks.0 0 pos)))
       ∙ block_is i (reduced o s.ty (length xs) xs) (fold_long o (len_at 0 (asks.0 0 pos))))
   step-value (Exscan o a b) root_in asks known zero l = IsEmpty refl
   step-value (Exscan o a b) root_in asks known (suc j) l = Holds _ (exscan-value k s o val (at xs) small whole asks known j l
       ∙ fold_is o (suc j) (len_at 0 (asks 0 pos)))
   step-value (Gatherv root a b) root_in asks known i l =
       rooted (i == root) (further s 0) (entry s i) (joined_lists xs)
-          (gatherv-value k s root asks.0.test asks.0.is val (at xs) asks.1 asks.2 known ∙ joined)
+      (gatherv-value k s root asks.0.test asks.0.is val (at xs) asks.1 asks.2 known ∙ joined)

@@ -1,7 +1,7 @@
 -- The plan of a shape is sound, and the cells that hold its buffers hold what they mean.
-use Rattle.std.proofs.Common.{ℕ, zero, suc, Bool, true, false, cond, ◌+◌, ◌-◌, ◌*◌, ◌/◌, ◌%◌, ◌^◌, div-add-mod', mod-lt, ◌≡◌, ◌≤◌, ◌<◌, ◌⊎◌,
-    inl, inr, eq-or-lt_of_le, List, [], ◌∷◌, refl, length, get_or, ap, ap₂, ◌∙◌, sym, subst, arith, Option, Some, None, nat_lt, sum_by,
-    le_of_suc-le-suc}
+use Rattle.std.proofs.Common.{ℕ, zero, suc, Bool, true, false, cond, ◌+◌, ◌-◌, ◌*◌, ◌/◌, ◌%◌, ◌^◌, div-add-mod', mod-lt, ◌≡◌, ◌≤◌, ◌<◌, ◌⊎◌}
+use Rattle.std.proofs.Common.{inl, inr, eq-or-lt_of_le, List, [], ◌∷◌, refl, length, get_or, ap, ap₂, ◌∙◌, sym, subst, arith, Option, Some}
+use Rattle.std.proofs.Common.{None, nat_lt, sum_by, le_of_suc-le-suc}
 use Rattle.std.proofs.Math.Nat.{mul-le-mul_right, mul-le-mul_left, lt_of_mul-lt-mul_right}
 use Rattle.std.proofs.lemmas.Bool.{ltb-false}
 use Rattle.std.proofs.lemmas.List.Sums.{sum_by-cons}
@@ -96,8 +96,11 @@ record Meant (o : Outline) (inputs : Inputs) (m : ℕ) (d : Drawing) (lists : Li
 meant_all : (o : Outline) (inputs : Inputs) → IsWellFormed o → AreInputs o inputs → (k : ℕ) → k ≤ length o.steps →
     Meant o inputs (made_upto o k) (drawn_upto o k) (meant_upto o inputs k)
 unfolding drawn_upto meant_upto
-meant_all o inputs a ins zero h = record { fit = fit_begin o inputs a ins; means = means-begun o inputs (drawn_inputs o o.inputs).plan
-    (drawn_inputs o o.inputs).held (drawn_inputs o o.inputs).exits ins.many (begins o a) }
+meant_all o inputs a ins zero h = record {
+  fit = fit_begin o inputs a ins;
+  means = means-begun o inputs (drawn_inputs o o.inputs).plan
+      (drawn_inputs o o.inputs).held (drawn_inputs o o.inputs).exits ins.many (begins o a);
+}
 meant_all o inputs a ins (suc k) h =
     let d = drawn_upto o k in
     let g = group_at o k in
@@ -119,7 +122,7 @@ inputs_fit o inputs a ins = (meant_all o inputs a ins (length o.steps) (omega ar
 
 pub meaning : (o : Outline) (inputs : Inputs) → IsWellFormed o → AreInputs o inputs
     → (b r : ℕ) → b < length o.buffers → r < o.ranks → IsResult (value (plan_of o) inputs) (at (lists_of (meaning_of o inputs) b) r)
-        (held_cell (drawing_of o).held b r)
+    (held_cell (drawing_of o).held b r)
 unfolding drawing_of meaning_of
 meaning o inputs a ins b r k l = (meant_all o inputs a ins (length o.steps) (omega arith)).means.lists b r
     (let w = a.all in omega (arith, w, k)) l
@@ -157,7 +160,7 @@ small_enough p inputs b at_most small = record {
   few_cells = (let m = b.many_links in let n = b.few_ranks in omega arith);
   few_together = (let m = b.many_links in let n = b.few_ranks in omega arith);
   few_bytes = (let s = sum_le p.links 1073741824 (λ l h. let k = b.links_sound l h in let w = k.within_source in let up = k.rising in
-                     let top = k.cells in let i = member_le (λ k. k.length) p.cells (link p l).source (omega arith) in omega arith) in
+      let top = k.cells in let i = member_le (λ k. k.length) p.cells (link p l).source (omega arith) in omega arith) in
       let t : length p.links * 1073741824 ≤ MOST_LINKS * 1073741824 = mul-le-mul_right 1073741824 at_most in omega arith);
 }
 
@@ -190,7 +193,7 @@ none_refused o (suc n) k w e = by (judged (footprint o k)) refl e (λ v f. none_
   where
     by : (x : Option Excess) → judged (footprint o k) ≡ x → refused_at k x (refusal_from o (suc k) n) ≡ None
         → (Within (drawn_upto o (suc k)).plan → refusal_from o (suc k) n ≡ None → Within (drawn_upto o (suc k + n)).plan) →
-            Within (drawn_upto o (k + suc n)).plan
+        Within (drawn_upto o (k + suc n)).plan
     by None j f later = subst (λ v. Within (drawn_upto o v).plan) (let z : suc k + n ≡ k + suc n = omega arith in z)
         (later (judged_within (drawn_upto o (suc k)).plan j) f)
     by (Some name) j f later = absurd (no_refusal f)
@@ -257,7 +260,7 @@ sound o a none =
     let f = fine_upto o a (length o.steps) (omega arith) in
     let w = within o a none in
     small_enough (drawn_upto o (length o.steps)).plan o.inputs (subst (λ v. WellBuilt (drawn_upto o (length o.steps)).plan (o.inputs * v))
-        (sym f.ranks) f.built) w.links w.bytes
+    (sym f.ranks) f.built) w.links w.bytes
 
 -- ---- barriers
 extends_steps : (o : Outline) (inputs : Inputs) (n k : ℕ) → Extends (drawn_upto o k).plan (drawn_upto o (k + n)).plan inputs
@@ -271,7 +274,7 @@ extends_steps o inputs (suc n) k =
     subst (λ v. Extends d.plan (drawn_upto o v).plan inputs) (let z : suc k + n ≡ k + suc n = omega arith in z)
     (extends-trans d.plan (drawn_upto o (suc k)).plan (drawn_upto o (suc k + n)).plan inputs
     (subst (λ v. Extends d.plan v inputs) (sym (add_all-with d.plan (cells_of (site o d t g) t)))
-        (extends-all d.plan (cells_of (site o d t g) t) inputs))
+    (extends-all d.plan (cells_of (site o d t g) t) inputs))
     (extends_steps o inputs n (suc k)))
 
 dummies : ℕ → Inputs
@@ -293,14 +296,14 @@ record AreRounds (q : Plan) (s : StepContext) : Type 0 where
 barrier_now : (o : Outline) (m : ℕ) (p : Plan) (h : HeldCells) (e : List ℕ) (g : List ℕ) → (fine : Fine o m p h e) →
     (fits : StepFits o m g Barrier)
     → AreRounds (with_cells p (cells_of (Rattle.plan_steps.specs.Beginning.site_of o p h e None g) Barrier))
-        (Rattle.plan_steps.specs.Beginning.site_of o p h e None g)
+    (Rattle.plan_steps.specs.Beginning.site_of o p h e None g)
 barrier_now o m p h e g fine fits =
     let s = Rattle.plan_steps.specs.Beginning.site_of o p h e None g in
     let q = with_cells p (cells_of s Barrier) in
     let ins = dummies o.inputs in
     let c : length (dummies o.inputs) * p.ranks ≡ o.inputs * o.ranks = ap₂ (λ u v. u * v) (length-dummies o.inputs) fine.ranks in
     let dr = drawn_all p (cells_of s Barrier) ins (subst (WellBuilt p) (sym c) fine.built) (let b = fine.behind in let r = fine.ranks in
-          omega (arith, b, r, c)) (sound_cells o m p h e g fine Barrier fits) in record {
+    omega (arith, b, r, c)) (sound_cells o m p h e g fine Barrier fits) in record {
       stays = λ j r t l. round-stays q ins s fits.members.some fits.members.at_most dr j r t l;
       comes = λ j m r t k l z. round-comes q ins s fits.members.some fits.members.at_most dr j m r t k l z;
       inside = λ j r t l. round-inside q ins s fits.members.some fits.members.at_most dr j r t l;
@@ -325,11 +328,11 @@ barrier_of o a k h is =
     let f = fine_upto o a k (omega arith) in
     let fits : StepFits o (made_upto o k) g Barrier = subst (StepFits o (made_upto o k) g) is (a.fits k h) in
     let now : AreRounds (drawn_upto o (suc k)).plan s = subst (λ v. AreRounds v s) (sym (plan_next o k is))
-          (barrier_now o (made_upto o k) d.plan d.held d.exits g f fits) in
+    (barrier_now o (made_upto o k) d.plan d.held d.exits g f fits) in
     let ins = dummies 0 in
     let more : Extends (drawn_upto o (suc k)).plan (drawn_upto o (length o.steps)).plan ins =
-          subst (λ w. Extends (drawn_upto o (suc k)).plan (drawn_upto o w).plan ins) (left k (length o.steps) h)
-          (extends_steps o ins (steps_left k (length o.steps)) (suc k)) in
+    subst (λ w. Extends (drawn_upto o (suc k)).plan (drawn_upto o w).plan ins) (left k (length o.steps) h)
+    (extends_steps o ins (steps_left k (length o.steps)) (suc k)) in
     record {
       rounds_are = record {
         stays = λ j r t l. comes-extends (drawn_upto o (suc k)).plan (drawn_upto o (length o.steps)).plan ins more (in_row s j r)
@@ -348,15 +351,19 @@ barrier_of o a k h is =
 
 pub barrier-rounds : (o : Outline) → IsWellFormed o → (k : ℕ) → k < length o.steps → step_at o k ≡ Barrier
     → IsRounds (plan_of o) (length (group_at o k)) (rounds (length (group_at o k)))
-        (in_row (site o (drawn_upto o k) Barrier (group_at o k)))
+    (in_row (site o (drawn_upto o k) Barrier (group_at o k)))
 barrier-rounds o a k h is =
     let b = (barrier_of o a k h is).rounds_are in
-    record { stays = λ j r t l. b.stays j r t l; comes = λ j m r t u l z. b.comes j m r t u l z; enough =
-        rounds-enough (length (group_at o k)) (a.shape.members k h).at_most }
+    record {
+      stays = λ j r t l. b.stays j r t l;
+      comes = λ j m r t u l z. b.comes j m r t u l z;
+      enough =
+          rounds-enough (length (group_at o k)) (a.shape.members k h).at_most;
+    }
 
 pub barrier-cells : (o : Outline) → IsWellFormed o → (k : ℕ) → k < length o.steps → step_at o k ≡ Barrier
     → (j r : ℕ) → j ≤ rounds (length (group_at o k)) → r < length (group_at o k) → in_row (site o (drawn_upto o k) Barrier (group_at o k))
-        j r < length (plan_of o).cells
+    j r < length (plan_of o).cells
 barrier-cells o a k h is j r t l = (barrier_of o a k h is).rounds_are.inside j r t l
 
 -- ---- the cells that hold buffers
@@ -399,11 +406,11 @@ long_upto o a (suc k) h b r l i = by (kind_of (step_at o k)) (λ b r l i. long_u
             let n = fits.next y res in
             let e' : b ≡ y = omega (arith, e, n) in
             let makes : buffer_at o b ≡ named (buffer_at o y).name
-                  (buffer_after (group_at o k) (step_at o k) (read_buffer o (source_of (step_at o k)))) = ap (buffer_at o) e'
-                  ∙ fits.makes y res in
+            (buffer_after (group_at o k) (step_at o k) (read_buffer o (source_of (step_at o k)))) = ap (buffer_at o) e'
+            ∙ fits.makes y res in
             let long = after-long (group_at o k) (step_at o k) (read_buffer o (source_of (step_at o k))) fits.members.some fits.reads
-                  (λ q j. subst (λ v. In q (read_buffer o v).spread.holders → 1 ≤ (read_buffer o v).spread.length) (sym src)
-                  (before x q (fits.source x src)) j) r (subst (λ (v : Buffer). In r v.spread.holders) makes i) in
+            (λ q j. subst (λ v. In q (read_buffer o v).spread.holders → 1 ≤ (read_buffer o v).spread.length) (sym src)
+            (before x q (fits.source x src)) j) r (subst (λ (v : Buffer). In r v.spread.holders) makes i) in
             subst (λ (v : Buffer). 1 ≤ v.spread.length) (sym makes) long
 
 pub held-long : (o : Outline) → IsWellFormed o → (b r : ℕ) → b < length o.buffers → In r (buffer_at o b).spread.holders →

@@ -1,6 +1,6 @@
 -- A step keeps what is kept.
-use Rattle.std.proofs.Common.{ℕ, suc, ◌+◌, ◌*◌, ◌≡◌, ◌≤◌, ◌<◌, ◌⊎◌, List, [], refl, length, get_or, ap, ◌∙◌, sym, subst, inl, inr, arith,
-    Option, Some, None, eq-or-lt_of_le, le_of_suc-le-suc}
+use Rattle.std.proofs.Common.{ℕ, suc, ◌+◌, ◌*◌, ◌≡◌, ◌≤◌, ◌<◌, ◌⊎◌, List, [], refl, length, get_or, ap, ◌∙◌, sym, subst, inl, inr, arith}
+use Rattle.std.proofs.Common.{Option, Some, None, eq-or-lt_of_le, le_of_suc-le-suc}
 use Rattle.coll_shape.specs.Collectives.{result_of, source_of, buffer_after, named}
 use Rattle.coll_shape.specs.Meaning.{at_place, place_from}
 use Rattle.coll_shape.specs.Outline.{Outline, buffer_at, list_bytes, read_buffer}
@@ -13,8 +13,8 @@ use Rattle.plan_core.specs.Plan.{Plan, cell}
 use Rattle.plan_core.specs.declared.Cell.{Cell}
 use Rattle.plan_steps.proofs.Drawn.{Extends, extends-all, grows_all}
 use Rattle.plan_steps.proofs.Entries.{get_or-each}
-use Rattle.plan_steps.proofs.Settled.{exits_by-rank, exits_by-stays, held_by-member, held_by-stays, length-exits_by, many-held_by,
-    buffers-held_by, ranks-held_by, rows-apart}
+use Rattle.plan_steps.proofs.Settled.{exits_by-rank, exits_by-stays, held_by-member, held_by-stays, length-exits_by, many-held_by}
+use Rattle.plan_steps.proofs.Settled.{buffers-held_by, ranks-held_by, rows-apart}
 use Rattle.plan_steps.specs.Beginning.{held_after}
 use Rattle.plan_steps.specs.StepContext.{StepContext}
 use Rattle.plan_steps.specs.Sounding.{EachAt, with_cells}
@@ -125,8 +125,8 @@ module _ (o : Outline) (m : ℕ) (p : Plan) (h : HeldCells) (e : List ℕ) (g : 
   held_old b r k l =
       ap (λ v. get_or h'.cells (b * v + r) None) (ranks-held_by h g ends m (length g))
       ∙ held_by-stays h g ends m (length g) (b * h.ranks + r)
-          (λ i w z. rows-apart h.ranks m b (get_or g i 0) r (low (get_or g i 0) (fits.members.ranks i w)) (low r l)
-          (λ y. absurd (omega (arith, y, k))) z)
+      (λ i w z. rows-apart h.ranks m b (get_or g i 0) r (low (get_or g i 0) (fits.members.ranks i w)) (low r l)
+      (λ y. absurd (omega (arith, y, k))) z)
 
   module _ (a : ℕ) (src : source_of step ≡ Some a) (res : result_of step ≡ Some m) where
     room : (r : ℕ) → r < h.ranks → m * h.ranks + r < length h.cells
@@ -146,13 +146,13 @@ module _ (o : Outline) (m : ℕ) (p : Plan) (h : HeldCells) (e : List ℕ) (g : 
             None v
         by None f =
             held_by-stays h g ends m (length g) (m * h.ranks + r)
-                (λ i w z. no-place o.ranks g r fits.members f i w (let y : get_or g i 0 ≡ r = omega (arith, z) in y))
+            (λ i w z. no-place o.ranks g r fits.members f i w (let y : get_or g i 0 ≡ r = omega (arith, z) in y))
             ∙ fine.unheld m r (omega arith) l
         by (Some i) f =
             let w = place-of g r i f in
             ap (λ v. get_or h'.cells (m * h.ranks + v) None) (sym w.there)
             ∙ held_by-member h g ends m members' room (λ u k. fine.unheld m u (omega arith) (let n = fine.held_ranks in
-                omega (arith, k, n))) (length g) i w.below (omega arith)
+            omega (arith, k, n))) (length g) i w.below (omega arith)
             ∙ ap (λ (v : StepExit). v.holder) (end_is i w.below)
 
     at_some : {v : Option ℕ} {i : ℕ} → v ≡ Some i → (f : ℕ → Option ℕ) → at_place f None v ≡ f i
@@ -167,9 +167,9 @@ module _ (o : Outline) (m : ℕ) (p : Plan) (h : HeldCells) (e : List ℕ) (g : 
     new_holder : (r : ℕ) → r < o.ranks → In r (buffer_at o m).spread.holders → HeldCell q h' m r (buffer_at o m)
     new_holder r l i =
         let x = held_here g r s step a src fits.root (read_buffer o (source_of step))
-              (subst (λ (v : Buffer). In r v.spread.holders) made i) in
+        (subst (λ (v : Buffer). In r v.spread.holders) made i) in
         let place : place_from 0 g r ≡ Some x.place = subst (λ v. place_from 0 g v ≡ Some x.place) x.is.there
-              (place-is o.ranks g x.place fits.members x.is.below) in
+        (place-is o.ranks g x.place fits.members x.is.below) in
         let y = holder_node (Inside q) s fits.members.some step fits.root insides x.place x.cell x.is.below x.holder in
         record {
           number = x.cell;
@@ -226,8 +226,8 @@ module _ (o : Outline) (m : ℕ) (p : Plan) (h : HeldCells) (e : List ℕ) (g : 
       ];
       unheld = λ b r k l. ap (λ v. get_or h'.cells (b * v + r) None) (ranks-held_by h g ends m (length g))
           ∙ held_by-stays h g ends m (length g) (b * h.ranks + r)
-              (λ i w z. rows-apart h.ranks m b (get_or g i 0) r (low (get_or g i 0) (fits.members.ranks i w)) (low r l)
-              (λ y. absurd (omega (arith, y, k))) z)
+          (λ i w z. rows-apart h.ranks m b (get_or g i 0) r (low (get_or g i 0) (fits.members.ranks i w)) (low r l)
+          (λ y. absurd (omega (arith, y, k))) z)
           ∙ fine.unheld b r (omega (arith, k)) l;
     }
 
@@ -239,4 +239,4 @@ module _ (o : Outline) (m : ℕ) (p : Plan) (h : HeldCells) (e : List ℕ) (g : 
       by (Makes a b src res) =
           let is_m : Some b ≡ Some m = ap (λ v. Some v) (fits.next b res) in
           subst (λ v. Fine o (and_one v m) q (held_after v h g ends) (exits_by e g ends (length g))) (sym (res ∙ is_m))
-              (fine_makes a src (res ∙ is_m))
+          (fine_makes a src (res ∙ is_m))

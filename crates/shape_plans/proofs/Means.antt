@@ -1,6 +1,6 @@
 -- What the held cells hold is what the buffers mean, and a step keeps that.
-use Rattle.std.proofs.Common.{ℕ, suc, true, false, ◌+◌, ◌*◌, ◌/◌, ◌%◌, ◌≡◌, ◌<◌, List, [], ◌∷◌, refl, length, get_or, ap, ◌∙◌, sym, subst,
-    inl, inr, arith, Option, Some, None}
+use Rattle.std.proofs.Common.{ℕ, suc, true, false, ◌+◌, ◌*◌, ◌/◌, ◌%◌, ◌≡◌, ◌<◌, List, [], ◌∷◌, refl, length, get_or, ap, ◌∙◌, sym, subst}
+use Rattle.std.proofs.Common.{inl, inr, arith, Option, Some, None}
 use Rattle.std.proofs.lemmas.List.{get_or_append_left, get_or_at, length_push}
 use Rattle.plan_core.specs.declared.Cell.{Cell}
 use Rattle.plan_core.specs.Draw.{HeldCells, held_cell}
@@ -10,8 +10,8 @@ use Rattle.plan_core.specs.Values.{Inputs, value}
 use Rattle.plan_core.specs.Sound.{AreInputsOf}
 use Rattle.plan_core.proofs.Lists.{length-map'}
 use Rattle.coll_shape.specs.declared.types.CollStep.{CollStep}
-use Rattle.coll_shape.specs.declared.types.CollStep.TheVariants.{Barrier, Broadcast, Reduce, Allreduce, Gather, Allgather, Alltoall, Scan,
-    Scatter, Reducescatter, Exscan, Gatherv}
+use Rattle.coll_shape.specs.declared.types.CollStep.TheVariants.{Barrier, Broadcast, Reduce, Allreduce, Gather, Allgather, Alltoall, Scan}
+use Rattle.coll_shape.specs.declared.types.CollStep.TheVariants.{Scatter, Reducescatter, Exscan, Gatherv}
 use Rattle.coll_shape.specs.Outline.{Outline, buffer_at, read_buffer}
 use Rattle.coll_shape.specs.Collectives.{result_of, source_of, is_in, AllHold, list_after}
 use Rattle.plan_steps.specs.StepContext.{StepContext, source_at}
@@ -73,11 +73,11 @@ module _ (o : Outline) (inputs : Inputs) (all : length inputs ≡ o.inputs) (m :
   pub fit_after : AreInputsOf q inputs
   fit_after i l =
       let c = fine.built.input_cells i (let w = input_count in let z : i < length inputs * p.ranks =
-                                                                     subst (λ v. i < length inputs * v) grown.ranks l in
-                                                                     omega (arith, w, z)) in
+      subst (λ v. i < length inputs * v) grown.ranks l in
+      omega (arith, w, z)) in
       ap (λ v. length (get_or (get_or inputs (i / v) []) (i % v) [])) grown.ranks
-          ∙ fit i (subst (λ v. i < length inputs * v) grown.ranks l)
-          ∙ sym (ap (λ v. (cell q (v + i)).length) grown.ranks ∙ ap (λ (k : Cell). k.length) (grown.same_cell (p.ranks + i) c.0))
+      ∙ fit i (subst (λ v. i < length inputs * v) grown.ranks l)
+      ∙ sym (ap (λ v. (cell q (v + i)).length) grown.ranks ∙ ap (λ (k : Cell). k.length) (grown.same_cell (p.ranks + i) c.0))
 
   lens : (c : ℕ) → c < length q.cells → length (value q inputs c) ≡ (cell q c).length
   lens c l = length-value q inputs (o.inputs * o.ranks) (fine_after o m p h e g step fine fits).built fit_after c l
@@ -117,7 +117,7 @@ module _ (o : Outline) (inputs : Inputs) (all : length inputs ≡ o.inputs) (m :
   none_a a i f l w =
       taken-at a i l
       ∙ result-none (value p inputs) (at (lists_of means a) (get_or g i 0)) (held_cell h a (get_or g i 0)) no_cell
-          (meant.lists a (get_or g i 0) (fits.source a f) (fits.members.ranks i l))
+      (meant.lists a (get_or g i 0) (fits.source a f) (fits.members.ranks i l))
     where
       clash : false ≡ true → ⊥
       clash z = cc
@@ -126,7 +126,7 @@ module _ (o : Outline) (inputs : Inputs) (all : length inputs ≡ o.inputs) (m :
       no_cell c z =
           let x = fine.held_in a (get_or g i 0) c (fits.source a f) (fits.members.ranks i l) z in
           clash (sym w ∙ test_is o m p h e g step fine fits i l ∙ In-is_in (get_or g i 0) (read_buffer o (source_of step)).spread.holders
-              (subst (λ v. In (get_or g i 0) (read_buffer o v).spread.holders) (sym f) x.1))
+          (subst (λ v. In (get_or g i 0) (read_buffer o v).spread.holders) (sym f) x.1))
 
   -- ---- buffers that were there
   old_lists : (b r : ℕ) → b < m → r < o.ranks → IsResult (value q inputs) (at (lists_of means b) r) (held_cell h b r)
@@ -149,7 +149,7 @@ module _ (o : Outline) (inputs : Inputs) (all : length inputs ≡ o.inputs) (m :
   abbrev Asked : (step : CollStep) → StepFits o m g step → ℕ → Type 0
   Asked step fits a =
       AsksValues (cell (after step fits)) (value (after step fits) inputs) (site step fits) (taken g (lists_of means a)) fits.members.some
-          fits.members.at_most
+      fits.members.at_most
       (taken-many o inputs all m p h e means g step fine fit meant fits a) (whole_site o m p h e g step fine fits) step
 
   asks_values : (step : CollStep) (fits : StepFits o m g step) (a : ℕ) → source_of step ≡ Some a → Asked step fits a
@@ -179,9 +179,10 @@ module _ (o : Outline) (inputs : Inputs) (all : length inputs ≡ o.inputs) (m :
     where
       one : {a b : ℕ} → Some a ≡ Some b → a ≡ b
       one h = cc
-  asks_values (Alltoall a' b) fits a f = subst (λ v. Asked (Alltoall a' b) fits v) (one f)
-      (all_a o inputs all m p h e means g (Alltoall a' b) fine fit meant fits a' refl fits.reads.0,
-      blocks o m p h e g (Alltoall a' b) fine fits fits.reads.1)
+  asks_values (Alltoall a' b) fits a f = subst (λ v. Asked (Alltoall a' b) fits v) (one f) (
+    all_a o inputs all m p h e means g (Alltoall a' b) fine fit meant fits a' refl fits.reads.0,
+    blocks o m p h e g (Alltoall a' b) fine fits fits.reads.1,
+  )
     where
       one : {a b : ℕ} → Some a ≡ Some b → a ≡ b
       one h = cc
@@ -190,15 +191,17 @@ module _ (o : Outline) (inputs : Inputs) (all : length inputs ≡ o.inputs) (m :
     where
       one : {a b : ℕ} → Some a ≡ Some b → a ≡ b
       one h = cc
-  asks_values (Scatter root a' b) fits a f = subst (λ v. Asked (Scatter root a' b) fits v) (one f)
-      (value_a o inputs all m p h e means g (Scatter root a' b) fine fit meant fits a' root refl fits.root fits.reads.0,
-      blocks o m p h e g (Scatter root a' b) fine fits fits.reads.1)
+  asks_values (Scatter root a' b) fits a f = subst (λ v. Asked (Scatter root a' b) fits v) (one f) (
+    value_a o inputs all m p h e means g (Scatter root a' b) fine fit meant fits a' root refl fits.root fits.reads.0,
+    blocks o m p h e g (Scatter root a' b) fine fits fits.reads.1,
+  )
     where
       one : {a b : ℕ} → Some a ≡ Some b → a ≡ b
       one h = cc
-  asks_values (Reducescatter op a' b) fits a f = subst (λ v. Asked (Reducescatter op a' b) fits v) (one f)
-      (all_a o inputs all m p h e means g (Reducescatter op a' b) fine fit meant fits a' refl fits.reads.0,
-      blocks o m p h e g (Reducescatter op a' b) fine fits fits.reads.1)
+  asks_values (Reducescatter op a' b) fits a f = subst (λ v. Asked (Reducescatter op a' b) fits v) (one f) (
+    all_a o inputs all m p h e means g (Reducescatter op a' b) fine fit meant fits a' refl fits.reads.0,
+    blocks o m p h e g (Reducescatter op a' b) fine fits fits.reads.1,
+  )
     where
       one : {a b : ℕ} → Some a ≡ Some b → a ≡ b
       one h = cc
@@ -235,13 +238,13 @@ module _ (o : Outline) (inputs : Inputs) (all : length inputs ≡ o.inputs) (m :
           (at (made_lists o.ranks g (type_read o step) step (lists_of means a)) r) (held_cell h' m r)
       new_lists r l =
           subst (IsResult (value (after step fits) inputs) (at (made_lists o.ranks g (type_read o step) step (lists_of means a)) r))
-              (sym (held_new o m p h e g step fine fits a src res r l))
+          (sym (held_new o m p h e g step fine fits a src res r l))
           (subst (λ x. IsResult (value (after step fits) inputs) x
-              (at_place (λ i. (end_of (site step fits) step i).holder) None (place_from 0 g r)))
+          (at_place (λ i. (end_of (site step fits) step i).holder) None (place_from 0 g r)))
           (sym (get_or-each (λ r. at_place (list_after (type_read o step) step (taken g (lists_of means a))) [] (place_from 0 g r)) [] 0
-              o.ranks r l
+          o.ranks r l
           ∙ ap (λ r. at_place (list_after (type_read o step) step (taken g (lists_of means a))) [] (place_from 0 g r))
-              (let z : 0 + r ≡ r = omega arith in z)))
+          (let z : 0 + r ≡ r = omega arith in z)))
           (by (place_from 0 g r) refl))
         where
           by : (v : Option ℕ) → place_from 0 g r ≡ v → IsResult (value (after step fits) inputs)
@@ -250,9 +253,9 @@ module _ (o : Outline) (inputs : Inputs) (all : length inputs ≡ o.inputs) (m :
           by None f = IsEmpty refl
           by (Some i) f =
               step-value (cell (after step fits)) (value (after step fits) inputs) (site step fits) (taken g (lists_of means a))
-                  fits.members.some fits.members.at_most
+              fits.members.some fits.members.at_most
               (taken-many o inputs all m p h e means g step fine fit meant fits a) (whole_site o m p h e g step fine fits) step fits.root
-                  (asks_values step fits a src)
+              (asks_values step fits a src)
               (known o inputs all m p h e means g step fine fit meant fits) i (place-of g r i f).below
 
       means_makes : Means o inputs (suc m) (after step fits) h' (with_step o.ranks g (type_read o step) step means (Some a))
@@ -265,8 +268,8 @@ module _ (o : Outline) (inputs : Inputs) (all : length inputs ≡ o.inputs) (m :
               (subst (λ v. IsResult (value (after step fits) inputs) (at v r) (held_cell h' m r)) (sym (means_new a)) (new_lists r l))
           | inr w ↦ subst (λ v. IsResult (value (after step fits) inputs) (at v r) (held_cell h' b r)) (sym (means_old a b w))
               (subst (IsResult (value (after step fits) inputs) (at (lists_of means b) r))
-                  (sym (held_old o m p h e g step fine fits b r w l))
-                  (old_lists o inputs all m p h e means g step fine fit meant fits b r w l))
+              (sym (held_old o m p h e g step fine fits b r w l))
+              (old_lists o inputs all m p h e means g step fine fit meant fits b r w l))
         ];
       }
 
@@ -280,14 +283,14 @@ module _ (o : Outline) (inputs : Inputs) (all : length inputs ≡ o.inputs) (m :
             (with_step o.ranks g (type_read o step) step means (source_of step))
         by (Plain src res) =
             subst (λ v. Means o inputs (and_one (result_of step) m) (after step fits)
-                (held_after (result_of step) h g (ends_of (site step fits) step)) (with_step o.ranks g (type_read o step) step means v))
-                (sym src)
+            (held_after (result_of step) h g (ends_of (site step fits) step)) (with_step o.ranks g (type_read o step) step means v))
+            (sym src)
             (subst (λ v. Means o inputs (and_one v m) (after step fits) (held_after v h g (ends_of (site step fits) step)) means)
-                (sym res) (means_plain o inputs all m p h e means g step fine fit meant fits))
+            (sym res) (means_plain o inputs all m p h e means g step fine fit meant fits))
         by (Makes a b src res) =
             let is_m : Some b ≡ Some m = ap (λ v. Some v) (fits.next b res) in
             subst (λ v. Means o inputs (and_one (result_of step) m) (after step fits)
-                (held_after (result_of step) h g (ends_of (site step fits) step)) (with_step o.ranks g (type_read o step) step means v))
-                (sym src)
+            (held_after (result_of step) h g (ends_of (site step fits) step)) (with_step o.ranks g (type_read o step) step means v))
+            (sym src)
             (subst (λ v. Means o inputs (and_one v m) (after step fits) (held_after v h g (ends_of (site step fits) step))
-                (with_step o.ranks g (type_read o step) step means (Some a))) (sym (res ∙ is_m)) (means_makes a src (res ∙ is_m)))
+            (with_step o.ranks g (type_read o step) step means (Some a))) (sym (res ∙ is_m)) (means_makes a src (res ∙ is_m)))

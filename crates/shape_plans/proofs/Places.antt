@@ -1,6 +1,6 @@
 -- The places of ranks among the members.
-use Rattle.std.proofs.Common.{ℕ, zero, suc, Bool, true, false, cond, ◌+◌, ◌-◌, ◌≡◌, ◌≤◌, ◌<◌, ◌==◌, List, [], ◌∷◌, refl, length, get_or, ap,
-    ◌∙◌, sym, subst, inl, inr, arith, Some, None, eqb-true, eq-eqb, le_of_suc-le-suc}
+use Rattle.std.proofs.Common.{ℕ, zero, suc, Bool, true, false, cond, ◌+◌, ◌-◌, ◌≡◌, ◌≤◌, ◌<◌, ◌==◌, List, [], ◌∷◌, refl, length, get_or, ap}
+use Rattle.std.proofs.Common.{◌∙◌, sym, subst, inl, inr, arith, Some, None, eqb-true, eq-eqb, le_of_suc-le-suc}
 use Rattle.std.proofs.lemmas.Bool.{ne_eqb}
 use Rattle.plan_core.specs.Members.{In}
 use Rattle.coll_shape.specs.WellFormed.{AreMembers}
@@ -24,9 +24,11 @@ place-some (m ∷ ms) k r i e = go (m == r) refl e (λ f. place-some ms (suc k) 
         let e : k ≡ i = some_one f in
         (omega arith, omega arith, ap (λ j. get_or (m ∷ ms) j 0) (let z : i - k ≡ 0 = omega arith in z) ∙ eqb-true _ _ q)
     go false q f later =
-        let l = later f in
-        (let a = l.0 in omega arith, let a = l.0 in let b = l.1 in omega arith,
-            ap (λ j. get_or (m ∷ ms) j 0) (let a = l.0 in let z : i - k ≡ suc (i - suc k) = omega arith in z) ∙ l.2)
+        let l = later f in (
+          let a = l.0 in omega arith,
+          let a = l.0 in let b = l.1 in omega arith,
+          ap (λ j. get_or (m ∷ ms) j 0) (let a = l.0 in let z : i - k ≡ suc (i - suc k) = omega arith in z) ∙ l.2,
+        )
 
 pub place-of : (g : List ℕ) (r i : ℕ) → place_from 0 g r ≡ Some i → PlaceOf g r i
 place-of g r i e =

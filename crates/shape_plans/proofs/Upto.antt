@@ -1,6 +1,6 @@
 -- The drawing after some inputs, and after some steps: its tables, and room for the next step.
-use Rattle.std.proofs.Common.{ℕ, zero, suc, Bool, true, false, cond, nat_lt, Err, ◌+◌, ◌-◌, ◌*◌, ◌≡◌, ◌<◌, ◌≤◌, List, Option, Some, None,
-    refl, length, map, get_or, ap, ◌∙◌, sym, subst, arith}
+use Rattle.std.proofs.Common.{ℕ, zero, suc, Bool, true, false, cond, nat_lt, Err, ◌+◌, ◌-◌, ◌*◌, ◌≡◌, ◌<◌, ◌≤◌, List, Option, Some, None}
+use Rattle.std.proofs.Common.{refl, length, map, get_or, ap, ◌∙◌, sym, subst, arith}
 use Rattle.std.proofs.Math.Nat.{mul-le-mul_right}
 use Rattle.std.proofs.lemmas.Bool.{ltb-false}
 use Rattle.std.proofs.lemmas.List.{get_or_read_under}
@@ -19,8 +19,8 @@ use Rattle.plan_steps.proofs.Settled.{buffers-held_by, length-exits_by, ranks-he
 use Rattle.plan_steps.proofs.StepSizes.{links-row}
 use Rattle.shape_plans.specs.declared.footprints.Size.{Size}
 use Rattle.shape_plans.specs.Steps.{cells_of, ends_of}
-use Rattle.shape_plans.specs.Drawing.{Drawing, drawing_of, drawn_input, drawn_inputs, drawn_step, drawn_upto, hold_row, input_cell, opened,
-    site}
+use Rattle.shape_plans.specs.Drawing.{Drawing, drawing_of, drawn_input, drawn_inputs, drawn_step, drawn_upto, hold_row, input_cell, opened}
+use Rattle.shape_plans.specs.Drawing.{site}
 use Rattle.shape_plans.specs.declared.faults.CompileFault.{CompileFault}
 use Rattle.shape_plans.specs.declared.faults.CompileFault.TheVariants.{TooMany, TooLarge, NoMemory}
 use Rattle.shape_plans.specs.Footprint.{judged}
@@ -179,7 +179,7 @@ size-grows o (suc n) k =
 
 pub size-most : (o : Outline) (k : ℕ) → k ≤ length o.steps → (size_upto o k).links ≤ (size_upto o (length o.steps)).links
 size-most o k h = let a = size-grows o (left k (length o.steps)) k in let e = ap (λ v. (size_upto o v).links) (there k (length o.steps) h)
-                                                                            in omega (arith, a, e)
+    in omega (arith, a, e)
   where
     left : ℕ → ℕ → ℕ
     left k n = n - k
@@ -248,7 +248,7 @@ found-at_most o (suc n) k w e = by (judged (size_upto o (suc k))) refl e (λ v f
     by : (x : Option Rattle.shape_plans.specs.Footprint.Excess) → judged (size_upto o (suc k)) ≡ x →
         Rattle.shape_plans.specs.Footprint.refused_at k x (found_from o (suc k) n) ≡ None
         → ((size_upto o (suc k)).links ≤ MOST_LINKS → found_from o (suc k) n ≡ None → (size_upto o (suc k + n)).links ≤ MOST_LINKS) →
-            (size_upto o (k + suc n)).links ≤ MOST_LINKS
+        (size_upto o (k + suc n)).links ≤ MOST_LINKS
     by None j f later = subst (λ v. (size_upto o v).links ≤ MOST_LINKS) (let z : suc k + n ≡ k + suc n = omega arith in z)
         (later (judged-at_most (size_upto o (suc k)) j) f)
     by (Some name) j f later = absurd (no-refusal f)
@@ -257,9 +257,9 @@ pub not-refused : (o : Outline) → IsShape o → found_from o 0 (length o.steps
 not-refused o shape e =
     subst (λ v. (size_upto o v).links ≤ MOST_LINKS) (let z : 0 + length o.steps ≡ length o.steps = omega arith in z)
     (found-at_most o (length o.steps) 0 (let l = (at_most-inputs o shape o.inputs (omega arith)).0 in let s =
-                                                                                                            ap (λ (z : Size). z.links)
-                                                                                                            (size-inputs o o.inputs) in
-                                                                                                            omega (arith, l, s)) e)
+    ap (λ (z : Size). z.links)
+    (size-inputs o o.inputs) in
+    omega (arith, l, s)) e)
 
 -- what is judged is answered
 pub judged-fault : (o : Outline) → AreSteps o → (f : CompileFault) → Judges o (Err f) → Draws o (Err f)

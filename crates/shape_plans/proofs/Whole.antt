@@ -1,6 +1,6 @@
 -- What is kept from step to step, and why each step's cells are sound.
-use Rattle.std.proofs.Common.{ℕ, Bool, true, ◌+◌, ◌-◌, ◌*◌, ◌/◌, ◌%◌, ◌≡◌, ◌≤◌, ◌<◌, List, [], ◌∷◌, refl, length, get_or, ap, ◌∙◌, sym,
-    subst, arith, Some, None, div-add-mod'}
+use Rattle.std.proofs.Common.{ℕ, Bool, true, ◌+◌, ◌-◌, ◌*◌, ◌/◌, ◌%◌, ◌≡◌, ◌≤◌, ◌<◌, List, [], ◌∷◌, refl, length, get_or, ap, ◌∙◌, sym}
+use Rattle.std.proofs.Common.{subst, arith, Some, None, div-add-mod'}
 use Rattle.std.proofs.Math.Nat.{mod-eq_of_lt, add-mul-mod_self_right, mul-div_right}
 use Rattle.op_laws.proofs.Bytes.{bytes-pos}
 use Rattle.ptl_types.specs.Operations.{bytes_of}
@@ -10,8 +10,8 @@ use Rattle.plan_core.specs.Members.{In}
 use Rattle.plan_core.specs.Plan.{Plan, cell}
 use Rattle.coll_shape.specs.declared.types.Buffer.{Buffer}
 use Rattle.coll_shape.specs.declared.types.CollStep.{CollStep}
-use Rattle.coll_shape.specs.declared.types.CollStep.TheVariants.{Barrier, Broadcast, Reduce, Allreduce, Gather, Allgather, Alltoall, Scan,
-    Scatter, Reducescatter, Exscan, Gatherv}
+use Rattle.coll_shape.specs.declared.types.CollStep.TheVariants.{Barrier, Broadcast, Reduce, Allreduce, Gather, Allgather, Alltoall, Scan}
+use Rattle.coll_shape.specs.declared.types.CollStep.TheVariants.{Scatter, Reducescatter, Exscan, Gatherv}
 use Rattle.coll_shape.specs.Outline.{Outline, buffer_at, list_bytes, read_buffer}
 use Rattle.coll_shape.specs.Collectives.{source_of, is_in, AllHold, HasBlocks}
 use Rattle.plan_steps.specs.StepContext.{StepContext, exit_at, source_at}
@@ -171,20 +171,29 @@ module _ (o : Outline) (m : ℕ) (p : Plan) (h : HeldCells) (e : List ℕ) (g : 
   asks (Allreduce op a b) fits = all_have o m p h e g (Allreduce op a b) fine fits a refl fits.reads
   asks (Gather root a b) fits = all_have o m p h e g (Gather root a b) fine fits a refl fits.reads
   asks (Allgather a b) fits = all_have o m p h e g (Allgather a b) fine fits a refl fits.reads
-  asks (Alltoall a b) fits = (all_have o m p h e g (Alltoall a b) fine fits a refl fits.reads.0,
-      blocks o m p h e g (Alltoall a b) fine fits fits.reads.1)
+  asks (Alltoall a b) fits = (
+    all_have o m p h e g (Alltoall a b) fine fits a refl fits.reads.0,
+    blocks o m p h e g (Alltoall a b) fine fits fits.reads.1,
+  )
   asks (Scan op a b) fits = all_have o m p h e g (Scan op a b) fine fits a refl fits.reads
-  asks (Scatter root a b) fits = (has o m p h e g (Scatter root a b) fine fits a root refl fits.root fits.reads.0,
-      blocks o m p h e g (Scatter root a b) fine fits fits.reads.1)
-  asks (Reducescatter op a b) fits = (all_have o m p h e g (Reducescatter op a b) fine fits a refl fits.reads.0,
-      blocks o m p h e g (Reducescatter op a b) fine fits fits.reads.1)
+  asks (Scatter root a b) fits = (
+    has o m p h e g (Scatter root a b) fine fits a root refl fits.root fits.reads.0,
+    blocks o m p h e g (Scatter root a b) fine fits fits.reads.1,
+  )
+  asks (Reducescatter op a b) fits = (
+    all_have o m p h e g (Reducescatter op a b) fine fits a refl fits.reads.0,
+    blocks o m p h e g (Reducescatter op a b) fine fits fits.reads.1,
+  )
   asks (Exscan op a b) fits = all_have o m p h e g (Exscan op a b) fine fits a refl fits.reads
-  asks (Gatherv root a b) fits = (holding o m p h e g (Gatherv root a b) fine fits, λ i l w. has o m p h e g (Gatherv root a b) fine fits
-      a i refl l (does_hold o m p h e g (Gatherv root a b) fine fits a i refl l w))
+  asks (Gatherv root a b) fits = (
+    holding o m p h e g (Gatherv root a b) fine fits,
+    λ i l w. has o m p h e g (Gatherv root a b) fine fits
+        a i refl l (does_hold o m p h e g (Gatherv root a b) fine fits a i refl l w),
+  )
 
   pub sound_cells : (step : CollStep) → (fits : StepFits o m g step) → EachAt (SoundNewCell p.ranks (cell (q o m p h e g step fine fits)))
       (length p.cells) (cells_of (s o m p h e g step fine fits) step)
   sound_cells step fits =
       step-sound p.ranks (cell (q o m p h e g step fine fits)) (s o m p h e g step fine fits) (ground o m p h e g step fine fits)
-          (whole_site o m p h e g step fine fits) step fits.root (asks step fits)
+      (whole_site o m p h e g step fine fits) step fits.root (asks step fits)
       (cells_all p (cells_of (s o m p h e g step fine fits) step))

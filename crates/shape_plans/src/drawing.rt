@@ -10,7 +10,7 @@ ghost use Rattle.shape_plans.specs.Judging.{AreSteps, size_upto};
 ghost use Rattle.shape_plans.specs.declared.judging.TheConstants.{MOST_LINKS};
 
 use coll_shape::{Buffer, MOST_RANKS, Shape};
-use plan_core::{Frontier, BufferCells, Part, Plan};
+use plan_core::{BufferCells, Frontier, Part, Plan};
 use plan_steps::{Drawing, add_step, bump};
 use ptl_types::{NoMemory, Rank};
 use std::alloc::Global;

@@ -34,8 +34,8 @@ use Rattle.plan_steps.specs.Scatter.{scatter_put, scattered}
 use Rattle.plan_steps.specs.Barrier.{barrier_cells, round_rows}
 use Rattle.plan_steps.specs.Rounds.{rounds}
 use Rattle.plan_steps.specs.Scan.{scan_cell, scan_number, scan_rows}
-use Rattle.plan_steps.specs.StepContext.{StepContext, atomic, bare_entry, bump, count, entry, exit_at, full_entry, further, in_row, places,
-    put_whole}
+use Rattle.plan_steps.specs.StepContext.{StepContext, atomic, bare_entry, bump, count, entry, exit_at, full_entry, further, in_row, places}
+use Rattle.plan_steps.specs.StepContext.{put_whole}
 use Rattle.plan_steps.specs.StepContext.{rows}
 use Rattle.plan_steps.specs.Steps.{giving, passing}
 use Rattle.plan_steps.specs.Allreduce.{result_cell}

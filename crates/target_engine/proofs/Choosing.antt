@@ -1,6 +1,6 @@
 -- The entry that takes a message is the one that its handle names.
-use Rattle.std.proofs.Common.{◌≡◌, ℕ, ◌+◌, ◌<◌, ◌≤◌, Bool, true, false, List, [], ◌∷◌, Option, Some, None, find, if◌then◌else◌, refl, ap,
-    arith}
+use Rattle.std.proofs.Common.{◌≡◌, ℕ, ◌+◌, ◌<◌, ◌≤◌, Bool, true, false, List, [], ◌∷◌, Option, Some, None, find, if◌then◌else◌, refl, ap}
+use Rattle.std.proofs.Common.{arith}
 use Rattle.ptl_types.specs.declared.handles.Handle.{Handle}
 use Rattle.ptl_types.specs.declared.headers.Header.{Header}
 use Rattle.ptl_types.specs.Handles.{same_handle}
@@ -34,7 +34,7 @@ find-named p k (y ∷ ys) x e one =
       | false ↦ λ is.
           let there = is_linked-some x.handle k ys (find-linked p ys x is) in
           let s : same_handle y.handle x.handle ≡ false = other-one (same_handle y.handle x.handle) (entries_by (is_handle x.handle) k ys)
-                one there in
+          one there in
           rw s (find-named p k ys x is (omega (arith, one)))
     ] e
 
@@ -43,7 +43,7 @@ chosen_at-named : (h : Header) (k : ℕ) (o : Option Index) (f : Found) → ((me
 chosen_at-named h k None f at_most e = cc
 chosen_at-named h k (Some i) f at_most e =
     cases_has (λ (x : Linked). linked_in x.handle (Some i) ≡ Some x) (is_put_or_atomic h.kind) (find (fits h) i.priority)
-        (find (fits h) i.overflow) f
+    (find (fits h) i.overflow) f
     (λ x is.
     let one = at_most x.handle in
     let named = find-named (fits h) k i.priority x is (omega arith) in

@@ -1,6 +1,6 @@
 -- The rows of counts through each call: what linked entries and indices name, and where headers wait.
-use Rattle.std.proofs.Common.{◌≡◌, ℕ, zero, suc, ◌+◌, ◌-◌, ◌<◌, ◌≤◌, ◌^◌, Bool, true, false, ◌&&◌, List, [], ◌∷◌, ◌++◌, Option, Some, None,
-    length, take, drop, get_or, set, if◌then◌else◌, nat_lt, zero-add, refl, sym, ap, subst, ◌∙◌, arith, replicate}
+use Rattle.std.proofs.Common.{◌≡◌, ℕ, zero, suc, ◌+◌, ◌-◌, ◌<◌, ◌≤◌, ◌^◌, Bool, true, false, ◌&&◌, List, [], ◌∷◌, ◌++◌, Option, Some, None}
+use Rattle.std.proofs.Common.{length, take, drop, get_or, set, if◌then◌else◌, nat_lt, zero-add, refl, sym, ap, subst, ◌∙◌, arith, replicate}
 use Rattle.std.specs.Prelude.{All, IfSome, slice_set, slice_get, is_some}
 use Rattle.std.proofs.Math.Seq.{take-append_seam}
 use Rattle.std.proofs.lemmas.Option.{get_or_from_slice_get, slice_get_within}
@@ -23,15 +23,16 @@ use Rattle.ni_model.specs.Headers.{UnexpectedList, unexpected_list, is_of, heade
 use Rattle.ni_model.specs.Refusals.{entry_names_ct, index_names_ct, index_names_eq}
 use Rattle.ni_objects.specs.users.Rows.{count_at, one_if_slot, one_at, incremented, more, fewer, Counts, IsAlone}
 use Rattle.ni_objects.specs.users.Sums.{sum_of, named_as}
-use Rattle.ni_objects.proofs.users.RowLemmas.{counts-none, counts-same, counts-incremented, counts-decremented, counts-more, counts-fewer,
-    counts-at_most, add-room, one-at_most, names-step}
+use Rattle.ni_objects.proofs.users.RowLemmas.{counts-none, counts-same, counts-incremented, counts-decremented, counts-more, counts-fewer}
+use Rattle.ni_objects.proofs.users.RowLemmas.{counts-at_most, add-room, one-at_most, names-step}
 use Rattle.ni_objects.proofs.users.SumLemmas.{one_if, sum-split, sum-push, sum-at_most}
 use Rattle.target_engine.specs.declared.index.Index.{Index as PortalEntry}
 use Rattle.target_engine.specs.declared.entry_records.EntryRecord.{EntryRecord}
 use Rattle.target_engine.specs.declared.entry_records.Records.{Records}
-use Rattle.target_engine.specs.PortalTable.{seen, seen_in, linked_as, linked_by, entries_by, headers_by, is_at, counts_at, ct_users,
-    eq_users, waiting_at, linked_ct, not_linked, one_more, one_fewer, changed_by, recorded_by, recorded_anew, all_with_header,
-    without_header, linked_records, unlinked_records, records_after, AreRecorded, AreCounted, IsKept, IsWhole}
+use Rattle.target_engine.specs.PortalTable.{seen, seen_in, linked_as, linked_by, entries_by, headers_by, is_at, counts_at, ct_users}
+use Rattle.target_engine.specs.PortalTable.{eq_users, waiting_at, linked_ct, not_linked, one_more, one_fewer, changed_by, recorded_by}
+use Rattle.target_engine.specs.PortalTable.{recorded_anew, all_with_header, without_header, linked_records, unlinked_records, records_after}
+use Rattle.target_engine.specs.PortalTable.{AreRecorded, AreCounted, IsKept, IsWhole}
 use Rattle.target_engine.specs.Sides.{EntriesAlone}
 use Rattle.target_engine.proofs.Headers.{unexpected-at_most, unexpected-append, unexpected-of}
 use Rattle.target_engine.proofs.Counting.{or-sum}
@@ -124,8 +125,11 @@ counted-none limit a n = record {
 
 -- a header comes
 counted-more : (a : IndexedHeader) (hs : List IndexedHeader) (r : Records) → AreCounted hs r → AreOnce r.by_entry
-    → AreCounted (hs ++ a ∷ []) (record r { by_entry = recorded_by a.header.entry one_more r.by_entry; waiting =
-        incremented a.pt r.waiting })
+    → AreCounted (hs ++ a ∷ []) (record r {
+      by_entry = recorded_by a.header.entry one_more r.by_entry;
+      waiting =
+          incremented a.pt r.waiting;
+    })
 counted-more a hs r u once = record {
   cts = counts-same (ct_users r.by_entry) (ct_users (recorded_by a.header.entry one_more r.by_entry)) r.cts u.cts
       (λ k. ct-more k a.header.entry r.by_entry once);
@@ -136,12 +140,23 @@ pub counted-unexpected : (f : Found) (h : Header) (hs : UnexpectedList) (r : Rec
     AreCounted (headers_after f h hs).unexpected (all_with_header f h r)
 counted-unexpected f h hs r u once =
     let me : Handle = f.linked.handle in
-    let a : IndexedHeader = record { pt = h.pt; header = record { entry = me; place = place f.linked h; delivered =
-          delivered f.linked h; header = h } } in
+    let a : IndexedHeader = record {
+      pt = h.pt;
+      header = record {
+        entry = me;
+        place = place f.linked h;
+        delivered =
+            delivered f.linked h;
+        header = h;
+      };
+    } in
     elim f.list as (λ l. AreCounted (elim l as (λ _. UnexpectedList)
-        [ Priority ↦ hs | Overflow ↦ unexpected_list (hs.unexpected ++ a ∷ []) hs.limit ]).unexpected
-    (record r { by_entry = elim l [ Priority ↦ r.by_entry | Overflow ↦ recorded_by me one_more r.by_entry ]; waiting =
-        elim l [ Priority ↦ r.waiting | Overflow ↦ incremented h.pt r.waiting ] })) [
+    [ Priority ↦ hs | Overflow ↦ unexpected_list (hs.unexpected ++ a ∷ []) hs.limit ]).unexpected
+    (record r {
+      by_entry = elim l [ Priority ↦ r.by_entry | Overflow ↦ recorded_by me one_more r.by_entry ];
+      waiting =
+          elim l [ Priority ↦ r.waiting | Overflow ↦ incremented h.pt r.waiting ];
+    })) [
       | Priority ↦ u
       | Overflow ↦ counted-more a hs.unexpected r u once
     ]
@@ -156,8 +171,11 @@ long-unexpected f h r =
 -- there is room to count it
 pub counted-index : (pt limit : ℕ) (hs : List IndexedHeader) (r : Records) → AreCounted hs r → length hs ≤ limit → limit < 2 ^ 32 →
     count_at pt r.waiting < 2 ^ 64 - 1
-counted-index pt limit hs r u le small = omega (arith, counts-at_most (waiting_at hs) (length hs) pt r.waiting u.waiting
-    (unexpected-at_most (is_of pt) hs))
+counted-index pt limit hs r u le small = omega (
+  arith,
+  counts-at_most (waiting_at hs) (length hs) pt r.waiting u.waiting
+      (unexpected-at_most (is_of pt) hs),
+)
 
 -- a header goes
 pub counted-gone : (a : IndexedHeader) (hs left : List IndexedHeader) (r : Records) → AreCounted hs r → AreOnce r.by_entry →
@@ -203,7 +221,7 @@ pub counted-room : (most linked : ℕ) (is : List PortalEntry) (hs : UnexpectedL
     → IfSome ct (λ h. count_at h.slot r.cts < 2 ^ 64 - 1)
 counted-room most linked is hs r ct k u small =
     add-room (ct_users r.by_entry) (length r.by_entry.live) r.cts ct u.cts
-        (λ s. sum-at_most (linked_as (counts_at s)) r.by_entry.live (λ h v. one-linked (v.linked && is_at s v.ct)))
+    (λ s. sum-at_most (linked_as (counts_at s)) r.by_entry.live (λ h v. one-linked (v.linked && is_at s v.ct)))
     (omega (arith, recorded-at_most (seen_in is) hs.unexpected r.by_entry k.recorded, k.count, k.held, k.small))
 
 -- an entry isn't linked any more
@@ -220,9 +238,11 @@ pub counted-settled : (f : Found) (h : Header) (hs : List IndexedHeader) (r : Re
     AreCounted hs (records_after f h r)
 counted-settled f h hs r u once =
     let me : Handle = f.linked.handle in
-    elim (is_over f.linked h) as (λ b. AreCounted hs (record r
-        { by_entry = if b then recorded_by me not_linked r.by_entry else r.by_entry; cts =
-        if b then fewer (linked_ct (lookup me r.by_entry.live)) r.cts else r.cts })) [
+    elim (is_over f.linked h) as (λ b. AreCounted hs (record r {
+      by_entry = if b then recorded_by me not_linked r.by_entry else r.by_entry;
+      cts =
+          if b then fewer (linked_ct (lookup me r.by_entry.live)) r.cts else r.cts;
+    })) [
       | true ↦ counted-unlinked me hs r u once
       | false ↦ u
     ]
@@ -296,7 +316,7 @@ queues-room is e eq u small = add-room (eq_users (seen_in is)) (length is) e eq 
 pub whole-lent : (most n linked : ℕ) (is was new : List PortalEntry) (after : List (Option Index)) (r : Records) (hs : UnexpectedList)
     (e : List ℕ) → was ≡ is → length new ≡ length was → length new ≡ n
     → IsKept most (take n (new ++ drop (length new) is)) linked r.by_entry hs → AreCounted hs.unexpected r → seen_in new ≡ after →
-        Counts (eq_users after) e → length r.waiting ≡ length is → length is < 2 ^ 32
+    Counts (eq_users after) e → length r.waiting ≡ length is → length is < 2 ^ 32
     → IsWhole most (take n (new ++ drop (length new) is)) linked r hs e
 whole-lent most n linked is was new after r hs e same stays len kept counted shown queues long small =
     let back : take n (new ++ drop (length new) is) ≡ new = rw (← len) (take-append_seam new (drop (length new) is)) in
@@ -317,7 +337,7 @@ entry-names : (ct : Handle) (k : ℕ) (xs : List Linked) → All (λ (x : Linked
 entry-names ct k [] alone = refl
 entry-names ct k (x ∷ xs) alone =
     names-step ct x.entry.ct (entry_names_ct ct xs) (entries_by (counts_at ct.slot) k xs)
-        (All-head (λ (y : Linked). IsAlone ct y.entry.ct) x xs alone)
+    (All-head (λ (y : Linked). IsAlone ct y.entry.ct) x xs alone)
     (entry-names ct k xs (All-tail (λ (y : Linked). IsAlone ct y.entry.ct) x xs alone))
     ∙ ap (λ m. nat_lt 0 (m + entries_by (counts_at ct.slot) k xs)) (sym (at-linked true x.entry.ct ct.slot))
 
@@ -328,13 +348,13 @@ index-names ct k (None ∷ is) alone = rw zero-add (index-names ct (k + 1) is (A
 index-names ct k (Some i ∷ is) alone =
     let here = All-head (EntriesAlone ct) (Some i) is alone in
     or-sum _ _ _ _ (or-sum _ _ _ _ (entry-names ct k i.priority here.0) (entry-names ct k i.overflow here.1))
-        (index-names ct (k + 1) is (All-tail (EntriesAlone ct) (Some i) is alone))
+    (index-names ct (k + 1) is (All-tail (EntriesAlone ct) (Some i) is alone))
 
 pub names-ct : (ct : Handle) (n : ℕ) (is : List (Option Index)) (hs : List IndexedHeader) (r : Records) → AreRecorded is hs r.by_entry →
     AreCounted hs r → slice_get r.cts ct.slot ≡ Some n → All (EntriesAlone ct) is → nat_lt 0 n ≡ index_names_ct ct is
 names-ct ct n is hs r a u at alone =
     let users : n ≡ ct_users r.by_entry ct.slot = sym (get_or_from_slice_get r.cts ct.slot n 0 at)
-          ∙ u.cts ct.slot (slice_get_within r.cts ct.slot n at) in
+    ∙ u.cts ct.slot (slice_get_within r.cts ct.slot n at) in
     ap (λ m. nat_lt 0 m) users ∙ sym (index-names ct 0 is alone ∙ ap (λ m. nat_lt 0 m) (a.same (counts_at ct.slot)))
 
 queue-names : (eq : Handle) (is : List (Option Index)) → All (λ (o : Option Index). IsAlone eq (queue_of o)) is →
@@ -345,7 +365,7 @@ queue-names eq (None ∷ is) alone =
     queue-names eq is (All-tail (λ (o : Option Index). IsAlone eq (queue_of o)) None is alone) ∙ ap (λ n. nat_lt 0 n) (sym s)
 queue-names eq (Some i ∷ is) alone =
     names-step eq i.eq (index_names_eq eq is) (eq_users is eq.slot)
-        (All-head (λ (o : Option Index). IsAlone eq (queue_of o)) (Some i) is alone)
+    (All-head (λ (o : Option Index). IsAlone eq (queue_of o)) (Some i) is alone)
     (queue-names eq is (All-tail (λ (o : Option Index). IsAlone eq (queue_of o)) (Some i) is alone))
     ∙ ap (λ n. nat_lt 0 n) (sym (sum_by-cons (by_queue eq.slot) (Some i) is))
 

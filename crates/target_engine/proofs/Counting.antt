@@ -1,6 +1,6 @@
 -- Counting the linked entries by a test of handle and index.
-use Rattle.std.proofs.Common.{◌≡◌, ℕ, zero, suc, ◌+◌, ◌<◌, Bool, true, false, not, ◌||◌, ◌&&◌, List, [], ◌∷◌, ◌++◌, Option, Some, None, map,
-    find, length, get_or, set, if◌then◌else◌, nat_lt, nat_eq, refl, ap, arith, zero-add}
+use Rattle.std.proofs.Common.{◌≡◌, ℕ, zero, suc, ◌+◌, ◌<◌, Bool, true, false, not, ◌||◌, ◌&&◌, List, [], ◌∷◌, ◌++◌, Option, Some, None, map}
+use Rattle.std.proofs.Common.{find, length, get_or, set, if◌then◌else◌, nat_lt, nat_eq, refl, ap, arith, zero-add}
 use Rattle.std.specs.Prelude.{sum_by}
 use Rattle.std.proofs.lemmas.List.Sums.{sum_by-cons}
 use Rattle.std.proofs.lemmas.Bool.Decides.{nat_tests}
@@ -95,7 +95,7 @@ entries-unlinked : (me : Handle) (p : Handle → Option Handle → ℕ → Bool)
 entries-unlinked me p k [] = refl
 entries-unlinked me p k (x ∷ xs) =
     elim (same_handle x.handle me) as (λ s. entries_by p k (if not s then x ∷ unlinked me xs else unlinked me xs)
-        ≡ (if p x.handle x.entry.ct k && not s then 1 else 0) + entries_by (but me p) k xs) [
+    ≡ (if p x.handle x.entry.ct k && not s then 1 else 0) + entries_by (but me p) k xs) [
       | true ↦ one-but (p x.handle x.entry.ct k) true _ _ (entries-unlinked me p k xs)
       | false ↦ one-but (p x.handle x.entry.ct k) false _ _ (entries-unlinked me p k xs)
     ]
@@ -159,7 +159,7 @@ entries-elsewhere : (me : Handle) (pt k : ℕ) (xs : List Linked) → nat_eq k p
 entries-elsewhere me pt k [] e = refl
 entries-elsewhere me pt k (x ∷ xs) e =
     elim (same_handle x.handle me) as (λ s. (if s && not (nat_eq k pt) then 1 else 0) + entries_by (elsewhere me pt) k xs
-        ≡ (if s then 1 else 0) + entries_by (is_handle me) k xs) [
+    ≡ (if s then 1 else 0) + entries_by (is_handle me) k xs) [
       | true ↦ rw (e, entries-elsewhere me pt k xs e) refl
       | false ↦ rw (entries-elsewhere me pt k xs e) refl
     ]

@@ -1,6 +1,6 @@
 -- What is delivered lies in the entry's part, and comes in whole elements.
-use Rattle.std.proofs.Common.{◌≡◌, ℕ, zero, ◌+◌, ◌-◌, ◌*◌, ◌/◌, ◌%◌, ◌<◌, ◌≤◌, ◌^◌, nat_eq, nat_lt, ◌⊎◌, Bool, true, false, List, length,
-    refl, ap, sym, ◌∙◌, arith, inl, inr, if◌then◌else◌, min, subst}
+use Rattle.std.proofs.Common.{◌≡◌, ℕ, zero, ◌+◌, ◌-◌, ◌*◌, ◌/◌, ◌%◌, ◌<◌, ◌≤◌, ◌^◌, nat_eq, nat_lt, ◌⊎◌, Bool, true, false, List, length}
+use Rattle.std.proofs.Common.{refl, ap, sym, ◌∙◌, arith, inl, inr, if◌then◌else◌, min, subst}
 use Rattle.std.proofs.Math.Nat.{div-add-mod', mul-mod_left, mod-eq_of_lt, div_self, zero-div}
 use Rattle.std.proofs.Math.Seq.{take-append_seam}
 use Rattle.std.proofs.lemmas.List.{append-nil, take_all, length-take}
@@ -47,7 +47,7 @@ place-within n x h part = place-cases (delivered x h) (offset_in x h) x.entry.st
 pub delivered-whole : (x : Linked) (h : Header) → has_elements h.kind ≡ true → delivered x h % bytes_of h.ty ≡ 0
 delivered-whole x h is =
     let P : Bool → Type 0 = λ b. (if b then min h.length (space_in x h) - min h.length (space_in x h) % bytes_of h.ty else min h.length
-          (space_in x h)) % bytes_of h.ty ≡ 0 in
+    (space_in x h)) % bytes_of h.ty ≡ 0 in
     subst P (sym is) (cut-whole (min h.length (space_in x h)) (bytes_of h.ty))
 
 one-or-none : (d w : ℕ) → d ≤ w → d % w ≡ 0 → (d ≡ 0) ⊎ (d ≡ w)
@@ -66,15 +66,17 @@ by_element-comm : (f : ℕ → ℕ → ℕ) (w n : ℕ) (xs ys : List ℕ) → (
     by_element f w n xs ys ≡ by_element f w n ys xs
 by_element-comm f w zero xs ys c = refl
 by_element-comm f w (suc n) xs ys c =
-    rw (c (pattern (take w xs)) (pattern (take w ys)) (pattern-lt w xs) (pattern-lt w ys),
-        by_element-comm f w n (drop w xs) (drop w ys) c) refl
+    rw (
+      c (pattern (take w xs)) (pattern (take w ys)) (pattern-lt w xs) (pattern-lt w ys),
+      by_element-comm f w n (drop w xs) (drop w ys) c,
+    ) refl
 
 pub combined-comm : (o : AtomicOp) (ty : ElemType) (xs ys : List ℕ) → length xs ≡ length ys → combined o ty xs ys ≡ combined o ty ys xs
 combined-comm o ty xs ys e =
     rw e
     (by_element-comm (op o ty) (bytes_of ty) (length ys / bytes_of ty) xs ys
     (λ x y lx ly. commutes o ty x y (let P : ℕ → Type 0 = λ n. x < n in subst P (sym (span-is ty)) lx) (let P : ℕ → Type 0 = λ n. y < n in
-        subst P (sym (span-is ty)) ly)))
+    subst P (sym (span-is ty)) ly)))
 
 -- one element
 pub one-element : (f : ℕ → ℕ → ℕ) (ty : ElemType) (xs ys : List ℕ) → length xs ≡ bytes_of ty → length ys ≡ bytes_of ty →

@@ -1,6 +1,6 @@
 -- Counting headers by a test.
-use Rattle.std.proofs.Common.{◌≡◌, ℕ, ◌+◌, ◌≤◌, Bool, true, false, not, List, [], ◌∷◌, ◌++◌, Some, length, if◌then◌else◌, nat_lt, refl, ap,
-    ◌∙◌, arith}
+use Rattle.std.proofs.Common.{◌≡◌, ℕ, ◌+◌, ◌≤◌, Bool, true, false, not, List, [], ◌∷◌, ◌++◌, Some, length, if◌then◌else◌, nat_lt, refl, ap}
+use Rattle.std.proofs.Common.{◌∙◌, arith}
 use Rattle.ptl_types.specs.declared.handles.Handle.{Handle}
 use Rattle.ptl_types.specs.declared.entries.Entry.{Entry}
 use Rattle.ptl_types.specs.Handles.{same_handle}
@@ -40,7 +40,7 @@ pub unexpected-oldest : (p : IndexedHeader → Bool) (pt : ℕ) (e : Entry) (hs 
 unexpected-oldest p pt e [] a is = cc
 unexpected-oldest p pt e (x ∷ hs) a is =
     elim (finds pt e x) as (λ b. (if b then Some x else oldest pt e hs) ≡ Some a →
-        (if p x then 1 else 0) + headers_by p hs ≡ (if p a then 1 else 0) + headers_by p (if b then hs else x ∷ without_oldest pt e hs)) [
+    (if p x then 1 else 0) + headers_by p hs ≡ (if p a then 1 else 0) + headers_by p (if b then hs else x ∷ without_oldest pt e hs)) [
       | true ↦ λ f. let g : x ≡ a = cc in ap (λ (y : IndexedHeader). (if p y then 1 else 0) + headers_by p hs) g
       | false ↦ λ f. omega (arith, unexpected-oldest p pt e hs a f)
     ] is
@@ -51,7 +51,7 @@ pub unexpected-both : (p : IndexedHeader → Bool) (pt : ℕ) (e : Entry) (hs : 
 unexpected-both p pt e [] = refl
 unexpected-both p pt e (x ∷ hs) =
     elim (finds pt e x) as (λ b. headers_by p (if not b then x ∷ left_in pt e hs else left_in pt e hs) + headers_by p
-        (if b then x ∷ found_in pt e hs else found_in pt e hs) ≡ (if p x then 1 else 0) + headers_by p hs) [
+    (if b then x ∷ found_in pt e hs else found_in pt e hs) ≡ (if p x then 1 else 0) + headers_by p hs) [
       | true ↦ omega (arith, unexpected-both p pt e hs)
       | false ↦ omega (arith, unexpected-both p pt e hs)
     ]
@@ -65,7 +65,7 @@ pub unexpected-of : (pt : ℕ) (hs : List IndexedHeader) → length (headers_of 
 unexpected-of pt [] = refl
 unexpected-of pt (x ∷ hs) =
     elim (is_of pt x) as (λ b. length (if b then x ∷ headers_of pt hs else headers_of pt hs) ≡ (if b then 1 else 0) + headers_by
-        (is_of pt) hs) [
+    (is_of pt) hs) [
       | true ↦ omega (arith, unexpected-of pt hs)
       | false ↦ omega (arith, unexpected-of pt hs)
     ]

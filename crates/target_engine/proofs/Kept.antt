@@ -1,6 +1,6 @@
 -- What a target keeps of its indices, its records and its headers, through each call.
-use Rattle.std.proofs.Common.{◌≡◌, ℕ, ◌+◌, ◌-◌, ◌<◌, ◌≤◌, ◌^◌, Bool, true, false, not, List, [], ◌∷◌, ◌++◌, Option, Some, None, take, drop,
-    length, if◌then◌else◌, replicate, refl, ap, arith, nat_lt, map, subst, sym, ◌∙◌}
+use Rattle.std.proofs.Common.{◌≡◌, ℕ, ◌+◌, ◌-◌, ◌<◌, ◌≤◌, ◌^◌, Bool, true, false, not, List, [], ◌∷◌, ◌++◌, Option, Some, None, take, drop}
+use Rattle.std.proofs.Common.{length, if◌then◌else◌, replicate, refl, ap, arith, nat_lt, map, subst, sym, ◌∙◌}
 use Rattle.std.specs.Prelude.{All, slice_set, is_some, sum_by, nat_le, ◌||◌}
 use Rattle.ptl_types.specs.Handles.{top}
 use Rattle.std.proofs.lemmas.Bool.Decides.{nat_tests}
@@ -24,13 +24,15 @@ use Rattle.ni_model.specs.Append.{fresh, linked_at}
 use Rattle.ni_model.specs.Calls.{unlinked_in, slot_in, entry_slot}
 use Rattle.target_engine.specs.declared.index.Index.{Index as PortalEntry}
 use Rattle.target_engine.specs.declared.entry_records.EntryRecord.{EntryRecord}
-use Rattle.target_engine.specs.PortalTable.{index, seen, seen_in, settled_in, HasLists, IsPortalEntry, IsUnused, MayLink, AreRecorded,
-    IsKept, lies_in, headers_in, frees_at, recorded_by, not_linked, records_with_header, unlinked_after, linked_after, one_more, one_fewer}
+use Rattle.target_engine.specs.PortalTable.{index, seen, seen_in, settled_in, HasLists, IsPortalEntry, IsUnused, MayLink, AreRecorded}
+use Rattle.target_engine.specs.PortalTable.{IsKept, lies_in, headers_in, frees_at, recorded_by, not_linked, records_with_header}
+use Rattle.target_engine.specs.PortalTable.{unlinked_after, linked_after, one_more, one_fewer}
 use Rattle.target_engine.proofs.Headers.{is_entry, unexpected-at_most, unexpected-all, unexpected-oldest, unexpected-both}
 use Rattle.target_engine.proofs.Records.{given-by, limit-by}
-use Rattle.target_engine.proofs.Recorded.{recorded-slot, settled-handle, recorded-at_most, recorded-headers, recorded-more, recorded-fewer,
-    recorded-frees, recorded-none, many-none, recorded-settled, many-settled, recorded-empty, many-empty, recorded-unlinked, one-off,
-    recorded-linked, many-linked, fresh_at, recorded-on, linked-anywhere, unlinked-at}
+use Rattle.target_engine.proofs.Recorded.{recorded-slot, settled-handle, recorded-at_most, recorded-headers, recorded-more, recorded-fewer}
+use Rattle.target_engine.proofs.Recorded.{recorded-frees, recorded-none, many-none, recorded-settled, many-settled, recorded-empty}
+use Rattle.target_engine.proofs.Recorded.{many-empty, recorded-unlinked, one-off, recorded-linked, many-linked, fresh_at, recorded-on}
+use Rattle.target_engine.proofs.Recorded.{linked-anywhere, unlinked-at}
 use Rattle.target_engine.proofs.Views.{seen-on, seen-off, portal_entries-lists, unused-portal_entries, unused-seen}
 
 or-none : (a b : Bool) → (a || b) ≡ false → (a ≡ false) × (b ≡ false)
@@ -58,8 +60,13 @@ may-off : (slot most records given : ℕ) (i : PortalEntry) (is : List (Option I
 may-off slot most records given i is off k lt free below keys =
     let s = sum_by-cons entries_in None is in
     let none = k.empty off in (
-      record { room = omega (arith, k.limit, ap length none.0, ap length none.1); below = omega (arith, k.slots); free =
-          rw (none.0, none.1) refl; keys = omega (arith, k.at_most) },
+      record {
+        room = omega (arith, k.limit, ap length none.0, ap length none.1);
+        below = omega (arith, k.slots);
+        free =
+            rw (none.0, none.1) refl;
+        keys = omega (arith, k.at_most);
+      },
       omega arith,
       free,
     )
@@ -81,7 +88,7 @@ may-all slot most records given [] all lt free below keys = All-nil (MayLink slo
 may-all slot most records given (i ∷ is) all lt free below keys =
     let one = may-one slot most records given i (seen_in is) (All-head (IsPortalEntry most records given) i is all) lt free below keys in
     All-cons (MayLink slot) i is one.0 (may-all slot most records given is (All-tail (IsPortalEntry most records given) i is all) one.1
-        one.2 below keys)
+    one.2 below keys)
 
 not-full : (most n given : ℕ) → (nat_le most n || nat_le top given) ≡ false → (n < most) × (given < top)
 not-full most n given e = let both = or-none (nat_le most n) (nat_le top given) e in
@@ -93,7 +100,7 @@ pub kept-may_link : (slot most linked : ℕ) (is : List PortalEntry) (t : Table 
 kept-may_link slot most linked is t hs k room below free =
     let at_most = not-full most (sum_by entries_in (seen_in is)) t.given room in
     may-all slot most (most + hs.limit) t.given is k.portal_entries at_most.0
-        (recorded-slot slot (seen_in is) hs.unexpected t k.recorded free) (omega (arith, k.limit)) at_most.1
+    (recorded-slot slot (seen_in is) hs.unexpected t k.recorded free) (omega (arith, k.limit)) at_most.1
 
 pub kept-lists : (most linked : ℕ) (is : List PortalEntry) (t : Table EntryRecord) (hs : UnexpectedList) → IsKept most is linked t hs →
     All HasLists is
@@ -106,8 +113,15 @@ pub kept-lent : (most n linked : ℕ) (is new : List PortalEntry) (after : List 
     length hs.unexpected ≤ hs.limit → hs.limit < 2 ^ 32 → IsKept most (take n (new ++ drop (length new) is)) linked u hs
 kept-lent most n linked is new after u hs len e recorded portal_entries limit count at_most small =
     let whole : take n (new ++ drop (length new) is) ≡ new = rw (← len) (take-append_seam new (drop (length new) is)) in
-    rw whole (record { recorded = rw e recorded; portal_entries = portal_entries; limit = limit; count = rw e count; held =
-        at_most; small = small })
+    rw whole (record {
+      recorded = rw e recorded;
+      portal_entries = portal_entries;
+      limit = limit;
+      count = rw e count;
+      held =
+          at_most;
+      small = small;
+    })
 
 -- all places keep their lists
 abbrev pub KeepsPortalEntries : List PortalEntry → List PortalEntry → Type 0
@@ -119,7 +133,7 @@ still-portal_entries : (most linked : ℕ) (is was new : List PortalEntry) (t u 
     All (IsPortalEntry most (most + hs.limit) u.given) new
 still-portal_entries most linked is was new t u hs k e keeps given =
     subst (λ g. All (IsPortalEntry most (most + hs.limit) g) new) (sym given)
-        (keeps most (most + hs.limit) t.given (subst (All (IsPortalEntry most (most + hs.limit) t.given)) (sym e) k.portal_entries))
+    (keeps most (most + hs.limit) t.given (subst (All (IsPortalEntry most (most + hs.limit) t.given)) (sym e) k.portal_entries))
 
 same-portal_entries : (most linked : ℕ) (is : List PortalEntry) (t u : Table EntryRecord) (hs : UnexpectedList) →
     IsKept most is linked t hs → u.given ≡ t.given → All (IsPortalEntry most (most + hs.limit) u.given) is
@@ -156,31 +170,36 @@ given-after f h t = elim (is_over f.linked h) as (λ b. (if b then recorded_by f
 pub seen-settled : (most linked : ℕ) (f : Found) (h : Header) (is was new : List PortalEntry) (t : Table EntryRecord)
     (hs : UnexpectedList) (s : List (Option Index)) → IsKept most is linked t hs → was ≡ is
     → seen_in new ≡ slice_set (seen_in was) h.pt (settled_in f h (index_at h.pt (seen_in was))) → seen_in is ≡ s →
-        is_linked_at f.list f.linked.handle (index_at h.pt s) ≡ true → seen_in new ≡ indices_after f h (seen_in is)
+    is_linked_at f.list f.linked.handle (index_at h.pt s) ≡ true → seen_in new ≡ indices_after f h (seen_in is)
 seen-settled most linked f h is was new t hs s k e after seen_as there =
     let at : is_linked_at f.list f.linked.handle (index_at h.pt (seen_in is)) ≡ true = rw seen_as there in
     after ∙ ap (λ x. slice_set (seen_in x) h.pt (settled_in f h (index_at h.pt (seen_in x)))) e
-        ∙ settled-handle f h (seen_in is) hs.unexpected t k.recorded at
+    ∙ settled-handle f h (seen_in is) hs.unexpected t k.recorded at
 
 pub kept-settled : (most n linked : ℕ) (f : Found) (h : Header) (is was new : List PortalEntry) (t u : Table EntryRecord)
     (hs : UnexpectedList) (s : List (Option Index)) → IsKept most is linked t hs → was ≡ is → length new ≡ n
     → seen_in new ≡ slice_set (seen_in was) h.pt (settled_in f h (index_at h.pt (seen_in was))) → KeepsPortalEntries was new →
-        u ≡ unlinked_after f h t → seen_in is ≡ s → is_linked_at f.list f.linked.handle (index_at h.pt s) ≡ true
+    u ≡ unlinked_after f h t → seen_in is ≡ s → is_linked_at f.list f.linked.handle (index_at h.pt s) ≡ true
     → IsKept most (take n (new ++ drop (length new) is)) (linked_after f h linked) u hs
 kept-settled most n linked f h is was new t u hs s k e len after keeps gone seen_as there =
     let at : is_linked_at f.list f.linked.handle (index_at h.pt (seen_in is)) ≡ true = rw seen_as there in
     let recorded : AreRecorded (indices_after f h (seen_in is)) hs.unexpected u =
-          rw gone (recorded-settled f h (seen_in is) hs.unexpected t k.recorded at) in
+    rw gone (recorded-settled f h (seen_in is) hs.unexpected t k.recorded at) in
     let given : u.given ≡ t.given = ap (λ (x : Table EntryRecord). x.given) gone ∙ given-after f h t in
     kept-lent most n (linked_after f h linked) is new (indices_after f h (seen_in is)) u hs len
-        (seen-settled most linked f h is was new t hs s k e after seen_as there) recorded
+    (seen-settled most linked f h is was new t hs s k e after seen_as there) recorded
     (still-portal_entries most linked is was new t u hs k e keeps given) (ap (λ (x : Table EntryRecord). x.limit) gone ∙ limit-after f h t
-        ∙ k.limit) (ap (linked_after f h) k.count ∙ many-settled f h (seen_in is) hs.unexpected t k.recorded at) k.held k.small
+    ∙ k.limit) (ap (linked_after f h) k.count ∙ many-settled f h (seen_in is) hs.unexpected t k.recorded at) k.held k.small
 
 pub kept-at_most : (most linked : ℕ) (is : List PortalEntry) (t : Table EntryRecord) (hs : UnexpectedList) (me : Handle) →
     IsKept most is linked t hs → headers_in (lookup me t.live) < 2 ^ 32
-kept-at_most most linked is t hs me k = omega (arith, recorded-headers me (seen_in is) hs.unexpected t k.recorded,
-    unexpected-at_most (lies_in (is_entry me)) hs.unexpected, k.held, k.small)
+kept-at_most most linked is t hs me k = omega (
+  arith,
+  recorded-headers me (seen_in is) hs.unexpected t k.recorded,
+  unexpected-at_most (lies_in (is_entry me)) hs.unexpected,
+  k.held,
+  k.small,
+)
 
 -- a header comes
 kept-more : (most linked : ℕ) (a : IndexedHeader) (is : List PortalEntry) (t : Table EntryRecord) (hs : UnexpectedList) →
@@ -202,16 +221,24 @@ pub kept-unexpected : (most linked : ℕ) (f : Found) (h : Header) (is : List Po
     IsKept most is linked u gs
 kept-unexpected most linked f h is t u hs gs s k room seen_as there eg eu =
     let me : Handle = f.linked.handle in
-    let a : IndexedHeader = record { pt = h.pt; header = record { entry = me; place = place f.linked h; delivered =
-          delivered f.linked h; header = h } } in
+    let a : IndexedHeader = record {
+      pt = h.pt;
+      header = record {
+        entry = me;
+        place = place f.linked h;
+        delivered =
+            delivered f.linked h;
+        header = h;
+      };
+    } in
     let at : is_linked_at f.list me (index_at h.pt (seen_in is)) ≡ true = rw seen_as there in
     rw (eg, eu)
     (elim f.list as (λ l. HasRoom l hs → is_linked_at l me (index_at h.pt (seen_in is)) ≡ true →
-        IsKept most is linked (elim l [ Priority ↦ t | Overflow ↦ recorded_by me one_more t ])
-        (elim l [ Priority ↦ hs | Overflow ↦ unexpected_list (hs.unexpected ++ a ∷ []) hs.limit ])) [
+    IsKept most is linked (elim l [ Priority ↦ t | Overflow ↦ recorded_by me one_more t ])
+    (elim l [ Priority ↦ hs | Overflow ↦ unexpected_list (hs.unexpected ++ a ∷ []) hs.limit ])) [
       | Priority ↦ λ r l. k
       | Overflow ↦ λ r l. let w = recorded-on me (seen_in is) hs.unexpected t k.recorded (linked-anywhere Overflow me h.pt (seen_in is) l)
-                                in kept-more most linked a is t hs k w.0 w.1 r
+          in kept-more most linked a is t hs k w.0 w.1 r
     ] room at)
 
 -- the oldest header that an entry finds goes
@@ -251,8 +278,13 @@ kept-left most linked pt e is t u hs gs k recorded limit given eg =
       portal_entries = same-portal_entries most linked is t u hs k given;
       limit = limit ∙ k.limit;
       count = k.count;
-      held = omega (arith, unexpected-both (lies_in (λ h. true)) pt e hs.unexpected, k.held, unexpected-all hs.unexpected,
-          unexpected-all (left_in pt e hs.unexpected));
+      held = omega (
+        arith,
+        unexpected-both (lies_in (λ h. true)) pt e hs.unexpected,
+        k.held,
+        unexpected-all hs.unexpected,
+        unexpected-all (left_in pt e hs.unexpected),
+      );
       small = k.small;
     })
 
@@ -261,51 +293,51 @@ kept-left most linked pt e is t u hs gs k recorded limit given eg =
 pub kept-put : (most n pt linked : ℕ) (is was new : List PortalEntry) (o : Option Index) (t : Table EntryRecord) (hs : UnexpectedList) →
     IsKept most is linked t hs → was ≡ is → length new ≡ n → seen_in new ≡ slice_set (seen_in was) pt o
     → KeepsPortalEntries was new → entries_in o ≡ 0 → entries_in (index_at pt (seen_in is)) ≡ 0 →
-        IsKept most (take n (new ++ drop (length new) is)) linked t hs
+    IsKept most (take n (new ++ drop (length new) is)) linked t hs
 kept-put most n pt linked is was new o t hs k e len after keeps none had =
     kept-lent most n linked is new (slice_set (seen_in is) pt o) t hs len (after ∙ ap (λ x. slice_set (seen_in x) pt o) e)
-        (recorded-empty pt (seen_in is) hs.unexpected t o k.recorded none had)
+    (recorded-empty pt (seen_in is) hs.unexpected t o k.recorded none had)
     (still-portal_entries most linked is was new t t hs k e keeps refl) k.limit (k.count ∙ sym (many-empty pt (seen_in is) o none had))
-        k.held k.small
+    k.held k.small
 
 -- ---- an entry goes
 
 pub kept-unlinked : (most n linked : ℕ) (me : Handle) (w : EntryRecord) (is was new : List PortalEntry) (t u : Table EntryRecord)
     (hs : UnexpectedList) → IsKept most is linked t hs → was ≡ is → length new ≡ n
     → seen_in new ≡ slice_set (seen_in was) w.pt (unlinked_in me (index_at w.pt (seen_in was))) → KeepsPortalEntries was new →
-        u ≡ recorded_by me not_linked t → lookup me t.live ≡ Some w → w.linked ≡ true
+    u ≡ recorded_by me not_linked t → lookup me t.live ≡ Some w → w.linked ≡ true
     → IsKept most (take n (new ++ drop (length new) is)) (linked - 1) u hs
 kept-unlinked most n linked me w is was new t u hs k e len after keeps gone at on =
     let recorded : AreRecorded (map (unlinked_in me) (seen_in is)) hs.unexpected u =
-          rw gone (recorded-unlinked me w (seen_in is) hs.unexpected t k.recorded at) in
+    rw gone (recorded-unlinked me w (seen_in is) hs.unexpected t k.recorded at) in
     let given : u.given ≡ t.given = ap (λ (x : Table EntryRecord). x.given) gone ∙ given-by me not_linked t in
     kept-lent most n (linked - 1) is new (map (unlinked_in me) (seen_in is)) u hs len
     (after ∙ ap (λ x. slice_set (seen_in x) w.pt (unlinked_in me (index_at w.pt (seen_in x)))) e
-        ∙ sym (unlinked-at me w (seen_in is) hs.unexpected t k.recorded at)) recorded
+    ∙ sym (unlinked-at me w (seen_in is) hs.unexpected t k.recorded at)) recorded
     (still-portal_entries most linked is was new t u hs k e keeps given) (ap (λ (x : Table EntryRecord). x.limit) gone
-        ∙ limit-by me not_linked t ∙ k.limit) (omega (arith, k.count, one-off me w (seen_in is) hs.unexpected t k.recorded at on)) k.held
-        k.small
+    ∙ limit-by me not_linked t ∙ k.limit) (omega (arith, k.count, one-off me w (seen_in is) hs.unexpected t k.recorded at on)) k.held
+    k.small
 
 -- ---- an entry comes
 
 pub kept-linked : (most n pt slot linked : ℕ) (list : EntryList) (entry : Entry) (me : Handle) (is was new : List PortalEntry)
     (t u : Table EntryRecord) (hs : UnexpectedList) → IsKept most is linked t hs → was ≡ is → length new ≡ n
     → seen_in new ≡ slice_set (seen_in was) pt (linked_at list (fresh me entry) (index_at pt (seen_in was))) →
-        ((most records given : ℕ) → All (IsPortalEntry most records given) was → All (IsPortalEntry most records (given + 1)) new)
+    ((most records given : ℕ) → All (IsPortalEntry most records given) was → All (IsPortalEntry most records (given + 1)) new)
     → u ≡ with_new slot (fresh_at pt entry.ct) t → me ≡ handle slot t.given → is_some (index_at pt (seen_in is)) ≡ true →
-        has_slot slot t.live ≡ false → IsKept most (take n (new ++ drop (length new) is)) (linked + 1) u hs
+    has_slot slot t.live ≡ false → IsKept most (take n (new ++ drop (length new) is)) (linked + 1) u hs
 kept-linked most n pt slot linked list entry me is was new t u hs k e len after keeps more named there free =
     let ks : List (Option Index) = slice_set (seen_in is) pt (linked_at list (fresh me entry) (index_at pt (seen_in is))) in
     let recorded : AreRecorded ks hs.unexpected u = rw (more, named)
-          (recorded-linked slot pt list entry (seen_in is) hs.unexpected t k.recorded there free) in
+    (recorded-linked slot pt list entry (seen_in is) hs.unexpected t k.recorded there free) in
     let many : sum_by entries_in ks ≡ sum_by entries_in (seen_in is) + 1 =
-          rw named (many-linked slot pt t.given list entry (seen_in is) there) in
+    rw named (many-linked slot pt t.given list entry (seen_in is) there) in
     let given : u.given ≡ t.given + 1 = ap (λ (x : Table EntryRecord). x.given) more in
     let portal_entries : All (IsPortalEntry most (most + hs.limit) u.given) new =
     subst (λ g. All (IsPortalEntry most (most + hs.limit) g) new) (sym given)
-        (keeps most (most + hs.limit) t.given (subst (All (IsPortalEntry most (most + hs.limit) t.given)) (sym e) k.portal_entries)) in
+    (keeps most (most + hs.limit) t.given (subst (All (IsPortalEntry most (most + hs.limit) t.given)) (sym e) k.portal_entries)) in
     kept-lent most n (linked + 1) is new ks u hs len (after ∙ ap
-        (λ x. slice_set (seen_in x) pt (linked_at list (fresh me entry) (index_at pt (seen_in x)))) e) recorded
+    (λ x. slice_set (seen_in x) pt (linked_at list (fresh me entry) (index_at pt (seen_in x)))) e) recorded
     portal_entries (ap (λ (x : Table EntryRecord). x.limit) more ∙ k.limit) (omega (arith, k.count, many)) k.held k.small
 
 pub none-in : (o : Option Index) → is_some o ≡ false → entries_in o ≡ 0
@@ -328,7 +360,7 @@ pub full-kept : (most linked : ℕ) (is : List PortalEntry) (t : Table EntryReco
     (nat_le most linked || is_full t) ≡ (nat_le most (sum_by entries_in (seen_in is)) || nat_le top t.given)
 full-kept most linked is t hs k =
     rw (← k.count) (full-by most linked (length t.live) t.limit (nat_le top t.given)
-        (omega (arith, recorded-at_most (seen_in is) hs.unexpected t k.recorded, k.count, k.held, k.limit)) (omega (arith, k.limit)))
+    (omega (arith, recorded-at_most (seen_in is) hs.unexpected t k.recorded, k.count, k.held, k.limit)) (omega (arith, k.limit)))
 
 pub or-right : (a b : Bool) → (a || b) ≡ false → b ≡ false
 or-right true b e = cc
@@ -344,7 +376,7 @@ pub linked-at_most : (most linked : ℕ) (is : List PortalEntry) (t : Table Entr
     IsKept most is linked t hs → (nat_le most (sum_by entries_in (seen_in is)) || nat_le top t.given) ≡ false → linked < most
 linked-at_most most linked is t hs k e =
     elim (nat_le most (sum_by entries_in (seen_in is))) as (λ b. nat_le most (sum_by entries_in (seen_in is)) ≡ b →
-        (b || nat_le top t.given) ≡ false → linked < most) [
+    (b || nat_le top t.given) ≡ false → linked < most) [
       | true ↦ λ f g. cc
       | false ↦ λ f g. let lt : sum_by entries_in (seen_in is) < most = grind (arith, nat_tests) in omega (arith, k.count)
     ] refl e

@@ -1,6 +1,6 @@
 -- The records and the linked entries and headers agree, before and after each call.
-use Rattle.std.proofs.Common.{◌≡◌, ℕ, zero, suc, ◌+◌, ◌-◌, ◌<◌, ◌≤◌, Bool, true, false, not, ◌||◌, ◌&&◌, List, [], ◌∷◌, ◌++◌, Option, Some,
-    None, map, length, get_or, set, if◌then◌else◌, nat_lt, nat_le, nat_eq, refl, sym, ap, ◌∙◌, arith, replicate}
+use Rattle.std.proofs.Common.{◌≡◌, ℕ, zero, suc, ◌+◌, ◌-◌, ◌<◌, ◌≤◌, Bool, true, false, not, ◌||◌, ◌&&◌, List, [], ◌∷◌, ◌++◌, Option, Some}
+use Rattle.std.proofs.Common.{None, map, length, get_or, set, if◌then◌else◌, nat_lt, nat_le, nat_eq, refl, sym, ap, ◌∙◌, arith, replicate}
 use Rattle.std.specs.Prelude.{sum_by, is_some, slice_set}
 use Rattle.std.proofs.lemmas.Bool.Decides.{nat_tests}
 use Rattle.ptl_types.specs.declared.handles.Handle.{Handle}
@@ -22,12 +22,12 @@ use Rattle.ni_model.specs.Calls.{slot_in, entry_slot, unlinked_in}
 use Rattle.ni_objects.specs.users.Sums.{sum_of}
 use Rattle.ni_objects.proofs.users.SumLemmas.{one_if, same-self, number_at, sum-split, but-zero, but-same, sum-push, once-new}
 use Rattle.target_engine.specs.declared.entry_records.EntryRecord.{EntryRecord}
-use Rattle.target_engine.specs.PortalTable.{entries_by, index_by, linked_by, headers_by, lies_in, linked_as, headers_as, idle_as, is_idle,
-    is_on, where_on, headers_in, frees_at, one_more, one_fewer, not_linked, recorded_anew, changed_by, recorded_by, unlinked_after,
-    linked_after, advanced_in, settled_in, AreRecorded}
-use Rattle.target_engine.proofs.Counting.{any_handle, is_handle, is_slot, but, elsewhere, is_linked_anywhere-count, entry_slot-count,
-    linked-all, linked-unlinked, entries-push, entries-advanced, linked-set, linked-same, linked-split, unlinked-none, advanced-none,
-    map-at}
+use Rattle.target_engine.specs.PortalTable.{entries_by, index_by, linked_by, headers_by, lies_in, linked_as, headers_as, idle_as, is_idle}
+use Rattle.target_engine.specs.PortalTable.{is_on, where_on, headers_in, frees_at, one_more, one_fewer, not_linked, recorded_anew}
+use Rattle.target_engine.specs.PortalTable.{changed_by, recorded_by, unlinked_after, linked_after, advanced_in, settled_in, AreRecorded}
+use Rattle.target_engine.proofs.Counting.{any_handle, is_handle, is_slot, but, elsewhere, is_linked_anywhere-count, entry_slot-count}
+use Rattle.target_engine.proofs.Counting.{linked-all, linked-unlinked, entries-push, entries-advanced, linked-set, linked-same}
+use Rattle.target_engine.proofs.Counting.{linked-split, unlinked-none, advanced-none, map-at}
 use Rattle.target_engine.proofs.Headers.{is_entry, names-count, unexpected-all, unexpected-append}
 use Rattle.target_engine.proofs.Records.{sum-anew, named-anew, busy-anew}
 
@@ -52,7 +52,7 @@ pub recorded-anywhere : (me : Handle) (is : List (Option Index)) (hs : List Inde
 recorded-anywhere me is hs t a =
     is_linked_anywhere-count me 0 is
     ∙ ap (λ n. nat_lt 0 n) (a.same (is_handle me) ∙ there-alone (linked_as (is_handle me)) me is hs t a
-        (λ h v e. apart-linked v.linked (same_handle h me) e))
+    (λ h v e. apart-linked v.linked (same_handle h me) e))
     ∙ on-number me (lookup me t.live)
 
 pub on-none : (o : Option EntryRecord) → where_on o ≡ None → is_on o ≡ false
@@ -84,7 +84,7 @@ slot-unlinked : (s : ℕ) (xs : List (Live EntryRecord)) → has_slot s xs ≡ f
 slot-unlinked s [] e = refl
 slot-unlinked s (x ∷ xs) e =
     elim (nat_eq x.handle.slot s) as (λ b. (b || has_slot s xs) ≡ false →
-        (if x.value.linked && b then 1 else 0) + sum_of (linked_as (is_slot s)) xs ≡ 0) [
+    (if x.value.linked && b then 1 else 0) + sum_of (linked_as (is_slot s)) xs ≡ 0) [
       | true ↦ λ f. cc
       | false ↦ λ f. omega (arith, apart-linked x.value.linked false refl, slot-unlinked s xs f)
     ] e
@@ -112,8 +112,14 @@ live-at_most (x ∷ xs) e = omega (arith, live-at_most xs (omega arith), needed 
 
 pub recorded-at_most : (is : List (Option Index)) (hs : List IndexedHeader) (t : Table EntryRecord) → AreRecorded is hs t →
     length t.live ≤ sum_by entries_in is + length hs
-recorded-at_most is hs t a = omega (arith, live-at_most t.live a.busy, a.same any_handle, a.lies (λ h. true), linked-all 0 is,
-    unexpected-all hs)
+recorded-at_most is hs t a = omega (
+  arith,
+  live-at_most t.live a.busy,
+  a.same any_handle,
+  a.lies (λ h. true),
+  linked-all 0 is,
+  unexpected-all hs,
+)
 
 -- ---- a record is put in the place of the old one
 
@@ -187,7 +193,7 @@ fewer-by : (gone : IndexedHeader) (is : List (Option Index)) (hs left : List Ind
 fewer-by gone is hs left t None a one at le = absurd (omega arith)
 fewer-by gone is hs left t (Some w) a one at le =
     recorded-anew gone.header.entry w (one_fewer w) is is hs left t a at (λ p. refl)
-        (λ p. omega (arith, one (lies_in p), less-header p gone.header.entry w le))
+    (λ p. omega (arith, one (lies_in p), less-header p gone.header.entry w le))
 
 pub recorded-fewer : (gone : IndexedHeader) (is : List (Option Index)) (hs left : List IndexedHeader) (t : Table EntryRecord) →
     AreRecorded is hs t → HasOneOf gone hs left → AreRecorded is left (recorded_by gone.header.entry one_fewer t)
@@ -211,7 +217,7 @@ recorded-frees gone is hs left t a one =
     let me : Handle = gone.header.entry in
     let n : nat_le (headers_in (lookup me t.live)) 1 ≡ not (names_entry me left) =
     ap (λ k. nat_le k 1) (one-there gone is hs left t a one) ∙ last-one (headers_by (lies_in (is_entry me)) left)
-        ∙ ap not (sym (names-count me left)) in
+    ∙ ap not (sym (names-count me left)) in
     rw n (both-not (names_entry me left) (is_linked_at Overflow me (index_at gone.pt is)))
 
 -- other headers that lie in the same entries
@@ -233,7 +239,7 @@ pub unlinked-at : (me : Handle) (w : EntryRecord) (is : List (Option Index)) (hs
     AreRecorded is hs t → lookup me t.live ≡ Some w → map (unlinked_in me) is ≡ set is w.pt (unlinked_in me (get_or is w.pt None))
 unlinked-at me w is hs t a at =
     let n = rw at at (there-alone (linked_as (elsewhere me w.pt)) me is hs t a
-          (λ h v e. apart-elsewhere v.linked (same_handle h me) (not (nat_eq v.pt w.pt)) e)) in
+    (λ h v e. apart-elsewhere v.linked (same_handle h me) (not (nat_eq v.pt w.pt)) e)) in
     let z : linked_as (elsewhere me w.pt) me w ≡ 0 = rw (same-self me) (there-zero w.linked w.pt) in
     map-at me w.pt 0 w.pt is (omega arith) (a.same (elsewhere me w.pt) ∙ n ∙ z)
 
@@ -263,7 +269,7 @@ pub recorded-unlinked : (me : Handle) (w : EntryRecord) (is : List (Option Index
 recorded-unlinked me w is hs t a at =
     rw at
     (recorded-anew me w (not_linked w) is (map (unlinked_in me) is) hs hs t a at (λ p. omega (arith, off-sum me w p is hs t a at))
-        (λ p. refl))
+    (λ p. refl))
 
 -- one entry fewer is linked then
 pub one-off : (me : Handle) (w : EntryRecord) (is : List (Option Index)) (hs : List IndexedHeader) (t : Table EntryRecord) →
@@ -344,16 +350,16 @@ list-kept : (list : EntryList) (x : Linked) (h : Header) (i : Index) → is_over
 list-kept Priority x h i over =
     rw (entries-kept x h i.priority over)
     (elim x.entry.manage_local as (λ b. with_list Priority (λ xs. if b then advanced x.handle (running_after x h) i.priority else
-        i.priority) i ≡ (if b then with_list Priority (advanced x.handle (running_after x h)) i else i)) [ true ↦ refl | false ↦ refl ])
+    i.priority) i ≡ (if b then with_list Priority (advanced x.handle (running_after x h)) i else i)) [ true ↦ refl | false ↦ refl ])
 list-kept Overflow x h i over =
     rw (entries-kept x h i.overflow over)
     (elim x.entry.manage_local as (λ b. with_list Overflow (λ xs. if b then advanced x.handle (running_after x h) i.overflow else
-        i.overflow) i ≡ (if b then with_list Overflow (advanced x.handle (running_after x h)) i else i)) [ true ↦ refl | false ↦ refl ])
+    i.overflow) i ≡ (if b then with_list Overflow (advanced x.handle (running_after x h)) i else i)) [ true ↦ refl | false ↦ refl ])
 
 kept-at : (f : Found) (h : Header) (k : ℕ) (i : Index) → is_over f.linked h ≡ false → is_linked_at f.list f.linked.handle (Some i) ≡ true
     → index_by (is_handle f.linked.handle) k (Some i) ≤ 1
     → (if f.linked.entry.manage_local then advanced_in f.linked.handle (running_after f.linked h) (Some i) else Some i) ≡ settled_at f h
-        (Some i)
+    (Some i)
 kept-at f h k i over e one =
     ap (λ o. if f.linked.entry.manage_local then o else Some i) (one-advanced f.list f.linked.handle (running_after f.linked h) k i e one)
     ∙ some-if f.linked.entry.manage_local (with_list f.list (advanced f.linked.handle (running_after f.linked h)) i) i
@@ -367,9 +373,9 @@ settled-alone : (f : Found) (h : Header) (k : ℕ) (i : Index) → is_linked_at 
     index_by (is_handle f.linked.handle) k (Some i) ≤ 1 → settled_in f h (Some i) ≡ settled_at f h (Some i)
 settled-alone f h k i e one =
     elim (is_over f.linked h) as (λ b. is_over f.linked h ≡ b →
-        (if b then unlinked_in f.linked.handle (Some i) else
-        (if f.linked.entry.manage_local then advanced_in f.linked.handle (running_after f.linked h) (Some i) else Some i)) ≡ settled_at f
-        h (Some i)) [
+    (if b then unlinked_in f.linked.handle (Some i) else
+    (if f.linked.entry.manage_local then advanced_in f.linked.handle (running_after f.linked h) (Some i) else Some i)) ≡ settled_at f
+    h (Some i)) [
       | true ↦ λ over. sym (over-at f h k (Some i) over e one)
       | false ↦ λ over. kept-at f h k i over e one
     ] refl
@@ -386,8 +392,13 @@ number-at_most me (Some v) = elim (v.linked && same_handle me me) as (λ b. (if 
 
 at_most-at : (me : Handle) (pt : ℕ) (is : List (Option Index)) (hs : List IndexedHeader) (t : Table EntryRecord) → AreRecorded is hs t →
     linked_by (is_handle me) 0 is ≤ 1
-at_most-at me pt is hs t a = omega (arith, a.same (is_handle me), there-alone (linked_as (is_handle me)) me is hs t a
-    (λ h v e. apart-linked v.linked (same_handle h me) e), number-at_most me (lookup me t.live))
+at_most-at me pt is hs t a = omega (
+  arith,
+  a.same (is_handle me),
+  there-alone (linked_as (is_handle me)) me is hs t a
+      (λ h v e. apart-linked v.linked (same_handle h me) e),
+  number-at_most me (lookup me t.live),
+)
 
 pub at_most-here : (me : Handle) (pt : ℕ) (is : List (Option Index)) (hs : List IndexedHeader) (t : Table EntryRecord) →
     AreRecorded is hs t → index_by (is_handle me) pt (get_or is pt None) ≤ 1
@@ -465,7 +476,7 @@ pub recorded-settled : (f : Found) (h : Header) (is : List (Option Index)) (hs :
 recorded-settled f h is hs t a e =
     let w = recorded-on f.linked.handle is hs t a (linked-anywhere f.list f.linked.handle h.pt is e) in
     elim (is_over f.linked h) as (λ b. is_over f.linked h ≡ b →
-        AreRecorded (indices_after f h is) hs (if b then recorded_by f.linked.handle not_linked t else t)) [
+    AreRecorded (indices_after f h is) hs (if b then recorded_by f.linked.handle not_linked t else t)) [
       | true ↦ λ over. rw (settled-over f h is hs t a e over) (recorded-unlinked f.linked.handle w.0 is hs t a w.1)
       | false ↦ λ over. recorded-same h.pt is hs t (settled_at f h (get_or is h.pt None)) a
           (λ p. index-stays f h p h.pt (get_or is h.pt None) over)
@@ -477,7 +488,7 @@ pub many-settled : (f : Found) (h : Header) (is : List (Option Index)) (hs : Lis
 many-settled f h is hs t a e =
     let w = recorded-on f.linked.handle is hs t a (linked-anywhere f.list f.linked.handle h.pt is e) in
     elim (is_over f.linked h) as (λ b. is_over f.linked h ≡ b → (if b then sum_by entries_in is - 1 else sum_by entries_in is) ≡ sum_by
-        entries_in (indices_after f h is)) [
+    entries_in (indices_after f h is)) [
       | true ↦ λ over. rw (settled-over f h is hs t a e over) (omega (arith, one-off f.linked.handle w.0 is hs t a w.1 w.2))
       | false ↦ λ over. sym (same-many h.pt is (settled_at f h (get_or is h.pt None))
           (λ p. index-stays f h p h.pt (get_or is h.pt None) over))
@@ -592,8 +603,11 @@ all_slots (Some i ∷ is) = slots_of i.priority + slots_of i.overflow + all_slot
 entry_slot-past : (s : ℕ) (is : List (Option Index)) → all_slots is ≤ s → entry_slot is s ≡ false
 entry_slot-past s [] le = refl
 entry_slot-past s (None ∷ is) le = entry_slot-past s is le
-entry_slot-past s (Some i ∷ is) le = rw (slot_in-past s i.priority (omega arith), slot_in-past s i.overflow (omega arith),
-    entry_slot-past s is (omega arith)) refl
+entry_slot-past s (Some i ∷ is) le = rw (
+  slot_in-past s i.priority (omega arith),
+  slot_in-past s i.overflow (omega arith),
+  entry_slot-past s is (omega arith),
+) refl
 
 pub free_slot : (is : List (Option Index)) → (s : ℕ) × (entry_slot is s ≡ false)
 free_slot is = (all_slots is, entry_slot-past (all_slots is) is (omega arith))

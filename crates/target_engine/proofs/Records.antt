@@ -14,7 +14,7 @@ pub sum-anew : (me : Handle) (f : Handle → EntryRecord → ℕ) (t : Table Ent
     sum_of f (recorded_anew me v t).live ≡ sum_of (but_of me f) t.live + f me v
 sum-anew me f t w v one at zero =
     elim (is_idle v) as (λ b. is_idle v ≡ b → sum_of f (if b then without me t else changed me (λ _. v) t).live ≡ sum_of (but_of me f)
-        t.live + f me v) [
+    t.live + f me v) [
       | true ↦ λ e. omega (arith, sum-without me f t.live, zero e)
       | false ↦ λ e. sum-changed me f (λ _. v) t.live w one at
     ] refl

@@ -1,6 +1,6 @@
 -- One header that an entry takes, with its record.
-use Rattle.std.proofs.Common.{◌≡◌, ℕ, ◌+◌, ◌<◌, Bool, true, false, not, List, Option, [], ◌∷◌, ◌++◌, length, take, drop, get_or, set,
-    if◌then◌else◌, refl, ap, sym, ◌∙◌, arith, add-one, drop-cons, append-nil}
+use Rattle.std.proofs.Common.{◌≡◌, ℕ, ◌+◌, ◌<◌, Bool, true, false, not, List, Option, [], ◌∷◌, ◌++◌, length, take, drop, get_or, set}
+use Rattle.std.proofs.Common.{if◌then◌else◌, refl, ap, sym, ◌∙◌, arith, add-one, drop-cons, append-nil}
 use Rattle.std.proofs.lemmas.List.{get_or-drop, get_or_default}
 use Rattle.std.proofs.lemmas.List.Elements.{filter_more}
 use Rattle.std.proofs.lemmas.List.Filters.{FiltersInPlace, FiltersInPlace-more_no, FiltersInPlace-more_set}
@@ -27,7 +27,7 @@ pub taken-told : (is : List (Option Index)) (left found : List IndexedHeader) (x
     (x ∷ found) eqs
 taken-told is left found x t eqs a =
     ap (λ b. each_gone (side 0 0 is 0 (unexpected_list [] 0)) left found (gone_events (kind_taken x.header.header.kind) is b x eqs))
-        (recorded-frees x is (left ++ x ∷ found) (left ++ found) t a (one-between left found x))
+    (recorded-frees x is (left ++ x ∷ found) (left ++ found) t a (one-between left found x))
 
 pub taken-recorded : (is : List (Option Index)) (left found : List IndexedHeader) (x : IndexedHeader) (t : Table EntryRecord) →
     AreRecorded is (left ++ x ∷ found) t → AreRecorded is (left ++ found) (recorded_by x.header.entry one_fewer t)

@@ -1,6 +1,6 @@
 -- A portal table entry is seen as its index, where one is allocated: in the table, and after a change of one place.
-use Rattle.std.proofs.Common.{◌≡◌, ℕ, ◌+◌, ◌<◌, ◌≤◌, Bool, true, false, List, Option, Some, None, length, get_or, set, ◌++◌, [], ◌∷◌,
-    if◌then◌else◌, refl, ap, sym, ◌∙◌, arith, replicate}
+use Rattle.std.proofs.Common.{◌≡◌, ℕ, ◌+◌, ◌<◌, ◌≤◌, Bool, true, false, List, Option, Some, None, length, get_or, set, ◌++◌, [], ◌∷◌}
+use Rattle.std.proofs.Common.{if◌then◌else◌, refl, ap, sym, ◌∙◌, arith, replicate}
 use Rattle.std.specs.Prelude.{All, is_some}
 use Rattle.std.proofs.lemmas.List.{map-set, get_or-map, get_or_past, length-map}
 use Rattle.std.proofs.lemmas.List.Elements.{All-head, All-tail, All-nil, All-cons, All-get_or, All-set}
@@ -16,8 +16,8 @@ use Rattle.ni_model.specs.Append.{linked_at}
 use Rattle.ni_model.specs.Calls.{new_index, unlinked_in}
 use Rattle.match_lists.specs.Lists.{Both, linked_as, with_entries, without_entry, advanced_to}
 use Rattle.target_engine.specs.declared.index.Index.{Index as PortalEntry}
-use Rattle.target_engine.specs.PortalTable.{index, seen, seen_in, linked_in, advanced_in, settled_lists, settled_in, AreEmpty, HasLists,
-    IsPortalEntry, IsUnused}
+use Rattle.target_engine.specs.PortalTable.{index, seen, seen_in, linked_in, advanced_in, settled_lists, settled_in, AreEmpty, HasLists}
+use Rattle.target_engine.specs.PortalTable.{IsPortalEntry, IsUnused}
 
 -- ---- one place
 
@@ -34,7 +34,7 @@ on-seen i e = elim i.allocated as (λ b. is_some (if b then Some (index i.eq i.l
 pub linked-seen : (me : Handle) (x : Linked) (i : PortalEntry) → linked_in me (seen i) ≡ Some x → linked_as me i.lists ≡ Some x
 linked-seen me x i e =
     elim i.allocated as (λ b. linked_in me (if b then Some (index i.eq i.lists) else None) ≡ Some x → linked_as me i.lists ≡ Some x)
-        [ true ↦ λ f. f | false ↦ λ f. cc ] e
+    [ true ↦ λ f. f | false ↦ λ f. cc ] e
 
 no-length : {A : Type 0} (xs : List A) → length xs ≡ 0 → xs ≡ []
 no-length [] e = refl
@@ -63,15 +63,15 @@ pub linked-index : (list : EntryList) (x : Linked) (n : ℕ) (i : PortalEntry) �
     seen (with_lists i (with_entries list (λ xs. xs ++ x ∷ []) n i.lists)) ≡ linked_at list x (seen i)
 linked-index Priority x n i =
     elim i.allocated as (λ b. (if b then Some (index i.eq (with_entries Priority (λ xs. xs ++ x ∷ []) n i.lists)) else None) ≡ linked_at
-        Priority x (if b then Some (index i.eq i.lists) else None)) [ true ↦ refl | false ↦ refl ]
+    Priority x (if b then Some (index i.eq i.lists) else None)) [ true ↦ refl | false ↦ refl ]
 linked-index Overflow x n i =
     elim i.allocated as (λ b. (if b then Some (index i.eq (with_entries Overflow (λ xs. xs ++ x ∷ []) n i.lists)) else None) ≡ linked_at
-        Overflow x (if b then Some (index i.eq i.lists) else None)) [ true ↦ refl | false ↦ refl ]
+    Overflow x (if b then Some (index i.eq i.lists) else None)) [ true ↦ refl | false ↦ refl ]
 
 pub unlinked-index : (me : Handle) (i : PortalEntry) → seen (with_lists i (without_entry me i.lists)) ≡ unlinked_in me (seen i)
 unlinked-index me i =
     elim i.allocated as (λ b. (if b then Some (index i.eq (without_entry me i.lists)) else None) ≡ unlinked_in me
-        (if b then Some (index i.eq i.lists) else None)) [ true ↦ refl | false ↦ refl ]
+    (if b then Some (index i.eq i.lists) else None)) [ true ↦ refl | false ↦ refl ]
 
 abbrev settled_more : Found → Header → Option Index → Option Index
 settled_more f h o = if f.linked.entry.manage_local then advanced_in f.linked.handle (running_after f.linked h) o else o
@@ -80,8 +80,8 @@ settled-here : (f : Found) (h : Header) (eq : Option Handle) (b : Both) → Some
     (Some (index eq b))
 settled-here f h eq b =
     elim (is_over f.linked h) as (λ o. Some (index eq (if o then without_entry f.linked.handle b else
-        (if f.linked.entry.manage_local then advanced_to f.linked.handle (running_after f.linked h) b else b)))
-        ≡ (if o then unlinked_in f.linked.handle (Some (index eq b)) else settled_more f h (Some (index eq b)))) [
+    (if f.linked.entry.manage_local then advanced_to f.linked.handle (running_after f.linked h) b else b)))
+    ≡ (if o then unlinked_in f.linked.handle (Some (index eq b)) else settled_more f h (Some (index eq b)))) [
       | true ↦ refl
       | false ↦ elim f.linked.entry.manage_local as (λ m. Some
           (index eq (if m then advanced_to f.linked.handle (running_after f.linked h) b else b))
@@ -100,7 +100,7 @@ settled-none f h =
 pub settled-index : (f : Found) (h : Header) (i : PortalEntry) → seen (with_lists i (settled_lists f h i.lists)) ≡ settled_in f h (seen i)
 settled-index f h i =
     elim i.allocated as (λ b. (if b then Some (index i.eq (settled_lists f h i.lists)) else None) ≡ settled_in f h
-        (if b then Some (index i.eq i.lists) else None)) [
+    (if b then Some (index i.eq i.lists) else None)) [
       | true ↦ settled-here f h i.eq i.lists
       | false ↦ sym (settled-none f h)
     ]
@@ -116,8 +116,13 @@ record StaysPortalEntry (b c : Both) : Type 0 where
 
 stays-portal_entry : (i : PortalEntry) (c : Both) (most slots given : ℕ) → StaysPortalEntry i.lists c → IsPortalEntry most slots given i →
     IsPortalEntry most slots given (with_lists i c)
-stays-portal_entry i c most slots given s k = record { limit = s.limit ∙ k.limit; slots = s.slots ∙ k.slots; at_most =
-    omega (arith, s.at_most, k.at_most); empty = λ off. s.empty (k.empty off) }
+stays-portal_entry i c most slots given s k = record {
+  limit = s.limit ∙ k.limit;
+  slots = s.slots ∙ k.slots;
+  at_most =
+      omega (arith, s.at_most, k.at_most);
+  empty = λ off. s.empty (k.empty off);
+}
 
 unlinked-stays : (me : Handle) (b : Both) → StaysPortalEntry b (without_entry me b)
 unlinked-stays me b = record { limit = refl; slots = refl; at_most = refl; empty = λ e. (rw e.0 refl, rw e.1 refl) }
@@ -131,13 +136,13 @@ same-stays b = record { limit = refl; slots = refl; at_most = refl; empty = λ e
 settled-stays : (f : Found) (h : Header) (b : Both) → StaysPortalEntry b (settled_lists f h b)
 settled-stays f h b =
     elim (is_over f.linked h) as (λ o. StaysPortalEntry b (if o then without_entry f.linked.handle b else
-        (if f.linked.entry.manage_local then advanced_to f.linked.handle (running_after f.linked h) b else b))) [
+    (if f.linked.entry.manage_local then advanced_to f.linked.handle (running_after f.linked h) b else b))) [
       | true ↦ unlinked-stays f.linked.handle b
       | false ↦ elim f.linked.entry.manage_local as (λ m. StaysPortalEntry b
           (if m then advanced_to f.linked.handle (running_after f.linked h) b else b)) [
-        | true ↦ advanced-stays f.linked.handle (running_after f.linked h) b
-        | false ↦ same-stays b
-      ]
+            | true ↦ advanced-stays f.linked.handle (running_after f.linked h) b
+            | false ↦ same-stays b
+          ]
     ]
 
 pub unlinked-portal_entry : (me : Handle) (i : PortalEntry) (most slots given : ℕ) → IsPortalEntry most slots given i →
@@ -153,10 +158,20 @@ settled-portal_entry f h i most slots given k = stays-portal_entry i (settled_li
 pub linked-portal_entry : (list : EntryList) (x : Linked) (i : PortalEntry) (most slots given : ℕ) → i.allocated ≡ true →
     IsPortalEntry most slots given i → IsPortalEntry most slots (given + 1)
     (with_lists i (with_entries list (λ xs. xs ++ x ∷ []) (i.lists.appended + 1) i.lists))
-linked-portal_entry Priority x i most slots given on k = record { limit = k.limit; slots = k.slots; at_most =
-    omega (arith, k.at_most); empty = λ off. let both : true ≡ false = sym on ∙ off in cc }
-linked-portal_entry Overflow x i most slots given on k = record { limit = k.limit; slots = k.slots; at_most =
-    omega (arith, k.at_most); empty = λ off. let both : true ≡ false = sym on ∙ off in cc }
+linked-portal_entry Priority x i most slots given on k = record {
+  limit = k.limit;
+  slots = k.slots;
+  at_most =
+      omega (arith, k.at_most);
+  empty = λ off. let both : true ≡ false = sym on ∙ off in cc;
+}
+linked-portal_entry Overflow x i most slots given on k = record {
+  limit = k.limit;
+  slots = k.slots;
+  at_most =
+      omega (arith, k.at_most);
+  empty = λ off. let both : true ≡ false = sym on ∙ off in cc;
+}
 
 pub recorded-portal_entry : (allocated : Bool) (eq : Option Handle) (i : PortalEntry) (most slots given : ℕ) → AreEmpty i.lists →
     IsPortalEntry most slots given i → IsPortalEntry most slots given (record { allocated = allocated; eq = eq; lists = i.lists })
@@ -173,23 +188,28 @@ pub portal_entries-more : (is : List PortalEntry) (most slots m n : ℕ) → m �
 portal_entries-more [] most slots m n le all = All-nil (IsPortalEntry most slots n)
 portal_entries-more (i ∷ is) most slots m n le all =
     All-cons (IsPortalEntry most slots n) i is (portal_entry-more i most slots m n le (All-head (IsPortalEntry most slots m) i is all))
-        (portal_entries-more is most slots m n le (All-tail (IsPortalEntry most slots m) i is all))
+    (portal_entries-more is most slots m n le (All-tail (IsPortalEntry most slots m) i is all))
 
 pub portal_entries-lists : (is : List PortalEntry) (most slots given : ℕ) → All (IsPortalEntry most slots given) is → All HasLists is
 portal_entries-lists [] most slots given all = All-nil HasLists
 portal_entries-lists (i ∷ is) most slots given all =
     All-cons HasLists i is ((All-head (IsPortalEntry most slots given) i is all).empty)
-        (portal_entries-lists is most slots given (All-tail (IsPortalEntry most slots given) i is all))
+    (portal_entries-lists is most slots given (All-tail (IsPortalEntry most slots given) i is all))
 
 unused-portal_entry : (most slots : ℕ) (i : PortalEntry) → IsUnused most slots i → IsPortalEntry most slots 0 i
-unused-portal_entry most slots i u = record { limit = rw u.lists refl; slots = rw u.lists refl; at_most =
-    rw u.lists (omega arith); empty = λ off. rw u.lists (refl, refl) }
+unused-portal_entry most slots i u = record {
+  limit = rw u.lists refl;
+  slots = rw u.lists refl;
+  at_most =
+      rw u.lists (omega arith);
+  empty = λ off. rw u.lists (refl, refl);
+}
 
 pub unused-portal_entries : (most slots : ℕ) (is : List PortalEntry) → All (IsUnused most slots) is → All (IsPortalEntry most slots 0) is
 unused-portal_entries most slots [] all = All-nil (IsPortalEntry most slots 0)
 unused-portal_entries most slots (i ∷ is) all =
     All-cons (IsPortalEntry most slots 0) i is (unused-portal_entry most slots i (All-head (IsUnused most slots) i is all))
-        (unused-portal_entries most slots is (All-tail (IsUnused most slots) i is all))
+    (unused-portal_entries most slots is (All-tail (IsUnused most slots) i is all))
 
 pub unused-seen : (most slots : ℕ) (is : List PortalEntry) → All (IsUnused most slots) is → seen_in is ≡ replicate (length is) None
 unused-seen most slots [] all = refl
@@ -223,7 +243,7 @@ pub set-portal_entry : (is : List PortalEntry) (k : ℕ) (d i : PortalEntry) (mo
     → All (IsPortalEntry most records m) is → All (IsPortalEntry most records n) (set is k i)
 set-portal_entry is k d i most records m n le lt keeps all =
     All-set (IsPortalEntry most records n) is k i (keeps (All-get_or (IsPortalEntry most records m) is k d lt all))
-        (portal_entries-more is most records m n le all)
+    (portal_entries-more is most records m n le all)
 
 -- where no entry is linked the lists are empty
 pub empty-at : (is : List PortalEntry) (k : ℕ) (d : PortalEntry) → k < length is → All HasLists is →

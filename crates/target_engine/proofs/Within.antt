@@ -1,6 +1,6 @@
 -- The chosen entry's part lies in the region.
-use Rattle.std.proofs.Common.{arith, subst, ◌≡◌, ℕ, zero, suc, Bool, true, false, ◌||◌, List, [], ◌∷◌, Option, Some, None, find,
-    if◌then◌else◌, refl, get_or}
+use Rattle.std.proofs.Common.{arith, subst, ◌≡◌, ℕ, zero, suc, Bool, true, false, ◌||◌, List, [], ◌∷◌, Option, Some, None, find}
+use Rattle.std.proofs.Common.{if◌then◌else◌, refl, get_or}
 use Rattle.std.specs.Prelude.{All}
 use Rattle.std.proofs.lemmas.List.Elements.{All-head, All-tail}
 use Rattle.ptl_types.specs.declared.headers.Header.{Header}
@@ -46,7 +46,7 @@ pub chosen_at-within : (n : ℕ) (h : Header) (o : Option Index) (f : Found) →
 chosen_at-within n h None f has e = cc
 chosen_at-within n h (Some i) f has e =
     cases_has (IsPartIn n) (is_put_or_atomic h.kind) (find (fits h) i.priority) (find (fits h) i.overflow) f
-        (λ x is. find_has (IsPartIn n) (fits h) i.priority x has.0 is) (λ x is. find_has (IsPartIn n) (fits h) i.overflow x has.1 is) e
+    (λ x is. find_has (IsPartIn n) (fits h) i.priority x has.0 is) (λ x is. find_has (IsPartIn n) (fits h) i.overflow x has.1 is) e
 
 pub chosen-within : (n : ℕ) (h : Header) (is : List (Option Index)) (f : Found) → All (HasPartsIn n) is → chosen h is ≡ Some f →
     IsPartIn n f.linked
@@ -67,13 +67,13 @@ either-linked : (i : Index) (a b : Option Linked) (f : Found) → ((x : Linked) 
     is_linked_at f.list f.linked.handle (Some i) ≡ true
 either-linked i None None f pa pb e = cc
 either-linked i None (Some y) f pa pb e = let g : record { list = Overflow; linked = y } ≡ f = cc in let P : Found → Type 0 =
-                                                                                                           λ z. is_linked_at z.list
-                                                                                                           z.linked.handle (Some i) ≡ true
-                                                                                                           in subst P g (pb y refl)
+    λ z. is_linked_at z.list
+    z.linked.handle (Some i) ≡ true
+    in subst P g (pb y refl)
 either-linked i (Some x) b f pa pb e = let g : record { list = Priority; linked = x } ≡ f = cc in let P : Found → Type 0 =
-                                                                                                        λ z. is_linked_at z.list
-                                                                                                        z.linked.handle (Some i) ≡ true in
-                                                                                                        subst P g (pa x refl)
+    λ z. is_linked_at z.list
+    z.linked.handle (Some i) ≡ true in
+    subst P g (pa x refl)
 
 cases-linked : (i : Index) (t : Bool) (a b : Option Linked) (f : Found) →
     ((x : Linked) → a ≡ Some x → is_linked x.handle i.priority ≡ true) →
@@ -86,7 +86,7 @@ chosen_at-linked : (h : Header) (o : Option Index) (f : Found) → chosen_at h o
 chosen_at-linked h None f e = cc
 chosen_at-linked h (Some i) f e =
     cases-linked i (is_put_or_atomic h.kind) (find (fits h) i.priority) (find (fits h) i.overflow) f
-        (λ x is. find-linked (fits h) i.priority x is) (λ x is. find-linked (fits h) i.overflow x is) e
+    (λ x is. find-linked (fits h) i.priority x is) (λ x is. find-linked (fits h) i.overflow x is) e
 
 pub chosen-linked : (h : Header) (is : List (Option Index)) (f : Found) → chosen h is ≡ Some f →
     is_linked_at f.list f.linked.handle (index_at h.pt is) ≡ true

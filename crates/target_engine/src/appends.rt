@@ -7,7 +7,8 @@ ghost use Rattle.ni_model.specs.Arrive.{parts};
 ghost use Rattle.ni_model.specs.Queues.{raised};
 ghost use Rattle.ni_model.specs.Events.{link_event};
 ghost use Rattle.ni_model.specs.Calls.{entry_slot};
-ghost use Rattle.ni_model.specs.Append.{append_fault, is_allocated, linked_count, next_handle, link_side, queue_at, overflow_counter, each_counted, each_gone, with_unexpected, counted_by};
+ghost use Rattle.ni_model.specs.Append.{append_fault, is_allocated, linked_count, next_handle, link_side, queue_at, overflow_counter};
+ghost use Rattle.ni_model.specs.Append.{each_counted, each_gone, with_unexpected, counted_by};
 ghost use Rattle.target_engine.specs.Sides.{has_appended, SlotBelow, AppendsSome};
 
 use crate::calls::is_allocated;
@@ -18,9 +19,9 @@ use crate::takes::{overflow_counter, take_found, take_header};
 use crate::target::Target;
 use ni_objects::counters::Counter;
 use ni_objects::delivery::raise;
-use ni_objects::queues::Queue;
-use ni_objects::handles::{Store, is_live_or_none};
 use ni_objects::descriptors::Region;
+use ni_objects::handles::{Store, is_live_or_none};
+use ni_objects::queues::Queue;
 use ptl_types::{Appended, Entry, EventKind, Handle, List as Place, NiFault};
 
 impl Target {
@@ -73,7 +74,8 @@ impl Target {
     ) -> Option<Handle>
         ensures left { self.new ≡ with_unexpected (left_in pt entry.now self.old.headers.unexpected) self.old }
         ensures counts { cts.new ≡ each_counted (overflow_counter entry.now) (found_in pt entry.now self.old.headers.unexpected) cts.old }
-        ensures events { eqs.new ≡ each_gone self.old (left_in pt entry.now self.old.headers.unexpected) (found_in pt entry.now self.old.headers.unexpected) eqs.old }
+        ensures events { eqs.new ≡ each_gone self.old (left_in pt entry.now self.old.headers.unexpected)
+            (found_in pt entry.now self.old.headers.unexpected) eqs.old }
         ensures counted { result ≡ counted_by entry.now (found_in pt entry.now self.old.headers.unexpected) }
     {
         let records = &mut self.records;
@@ -100,7 +102,8 @@ impl Target {
         requires index { is_allocated pt self.old ≡ true }
         requires room { (nat_le self.old.limit (linked_count self.old) || nat_le top self.old.given) ≡ false }
         requires once { entry.use_once ≡ true }
-        ensures appends { (region : List ℕ) → AppendsSome pt Place.Priority entry (parts self.old region cts.old eqs.old) (has_appended (parts self.new region cts.new eqs.new) result.0 result.1) }
+        ensures appends { (region : List ℕ) → AppendsSome pt Place.Priority entry (parts self.old region cts.old eqs.old)
+            (has_appended (parts self.new region cts.new eqs.new) result.0 result.1) }
         ensures slot { SlotBelow (self.old.limit + self.old.headers.limit) result.0 }
     {
         let unexpected = match self.headers.take_oldest(pt, &entry) {
@@ -143,7 +146,8 @@ impl Target {
         ensures err { IfErr result (λ fault. append_fault pt entry (parts self.old region.now cts.old eqs.old) ≡ Some fault) }
         ensures unchanged { OnErr result ((self.new ≡ self.old) × (cts.new ≡ cts.old) × (eqs.new ≡ eqs.old)) }
         ensures ok { OnOk result (append_fault pt entry (parts self.old region.now cts.old eqs.old) ≡ None) }
-        ensures appended { IfOk result (λ r. AppendsSome pt list entry (parts self.old region.now cts.old eqs.old) (has_appended (parts self.new region.now cts.new eqs.new) r.0 r.1)) }
+        ensures appended { IfOk result (λ r. AppendsSome pt list entry (parts self.old region.now cts.old eqs.old)
+            (has_appended (parts self.new region.now cts.new eqs.new) r.0 r.1)) }
         ensures slot { IfOk result (λ r. SlotBelow (self.old.limit + self.old.headers.limit) r.0) }
     {
         if !is_allocated(&self.indices, pt) || !is_live_or_none(cts, entry.ct) {

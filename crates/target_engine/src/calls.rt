@@ -18,8 +18,8 @@ use crate::gone::{frees, header_event, raise_gone};
 use crate::index::{Index, allocate_at, free_at, portal_entry_at, queue_at};
 use crate::target::Target;
 use ni_objects::delivery::raise;
-use ni_objects::queues::Queue;
 use ni_objects::handles::{Store, is_live_or_none};
+use ni_objects::queues::Queue;
 use ptl_types::{Entry, Event, EventKind, Handle, NiFault, UnexpectedHeader};
 
 /// Whether the index is within the limit and allocated.
@@ -115,7 +115,8 @@ impl Target {
         ensures err { IfErr result (λ fault. (fault ≡ NiFault.Stale) × (is_allocated pt self.old ≡ false)) }
         ensures unchanged { OnErr result ((self.new ≡ self.old) × (eqs.new ≡ eqs.old)) }
         ensures ok { OnOk result (is_allocated pt self.old ≡ true) }
-        ensures searched { IfOk result (λ found. (region : List ℕ) (cts : Table Count) → has_searched (parts self.new region cts eqs.new) found ≡ search pt entry.now delete (parts self.old region cts eqs.old)) }
+        ensures searched { IfOk result (λ found. (region : List ℕ) (cts : Table Count) → has_searched (parts self.new region cts eqs.new)
+            found ≡ search pt entry.now delete (parts self.old region cts eqs.old)) }
     {
         if !is_allocated(&self.indices, pt) {
             return Err(NiFault::Stale);
@@ -143,7 +144,8 @@ impl Target {
         pt: u32,
         entry: &Entry,
     ) -> Option<UnexpectedHeader>
-        ensures { (region : List ℕ) (cts : Table Count) → has_searched (parts self.new region cts eqs.new) result ≡ search pt entry.now true (parts self.old region cts eqs.old) }
+        ensures { (region : List ℕ) (cts : Table Count) → has_searched (parts self.new region cts eqs.new) result ≡ search pt entry.now
+            true (parts self.old region cts eqs.old) }
     {
         let eq = queue_at(&self.indices, pt);
         let unexpected = match self.headers.take_oldest(pt, entry) {

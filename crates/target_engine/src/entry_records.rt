@@ -2,13 +2,14 @@
 
 ghost use Rattle.std.specs.Prelude.{◌≡◌, ◌<◌, ◌^◌};
 ghost use Rattle.ni_model.specs.Tables.{lookup};
-ghost use Rattle.target_engine.specs.PortalTable.{is_idle, recorded_anew, recorded_by, one_more, one_fewer, where_on, headers_in, unlinked_records, records_after, linked_after};
+ghost use Rattle.target_engine.specs.PortalTable.{is_idle, recorded_anew, recorded_by, one_more, one_fewer, where_on, headers_in};
+ghost use Rattle.target_engine.specs.PortalTable.{unlinked_records, records_after, linked_after};
 
 use crate::measures::is_over;
-use ni_objects::handles::{Store, where_set};
 use ni_model::Found;
-use ptl_types::{Handle, Header};
+use ni_objects::handles::{Store, where_set};
 use ni_objects::users::Users;
+use ptl_types::{Handle, Header};
 
 /// A match entry that is linked, or in whose memory unexpected headers lie.
 #[derive(Clone, Copy)]

@@ -5,10 +5,10 @@ ghost use Rattle.ni_model.specs.Events.{kind_delivered, message_event, entry_eve
 ghost use Rattle.ni_model.specs.Arrive.{delivery_raised, events_after};
 
 use crate::measures::{delivered, is_over, place};
-use ni_objects::delivery::raise;
-use ni_objects::queues::Queue;
-use ni_objects::handles::Store;
 use ni_model::Found;
+use ni_objects::delivery::raise;
+use ni_objects::handles::Store;
+use ni_objects::queues::Queue;
 use ptl_types::{Event, EventKind, Handle, Header, List, MessageKind};
 
 /// The event of a message that a priority entry took; a swap is told as a fetch-atomic.

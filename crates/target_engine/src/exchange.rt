@@ -13,8 +13,8 @@ use crate::measures::{delivered, is_put_or_atomic, place};
 use crate::spent::SpareBuffers;
 use crate::swap::swap_element;
 use lane_ops::combine;
-use ni_objects::descriptors::Region;
 use ni_model::Linked;
+use ni_objects::descriptors::Region;
 use ptl_types::{Bytes, Header, Message, MessageKind};
 
 /// A put writes the bytes that are delivered.
@@ -35,7 +35,8 @@ fn write_put(region: &mut Region, linked: &Linked, message: &Message)
 fn read_get(region: &Region, linked: &Linked, message: Message) -> Message
     requires get { message.header.kind ≡ MessageKind.Get }
     requires part { IsPartIn (length region.now) linked.now }
-    ensures { result ≡ sent (reply_header true (delivered linked.now message.header) message.header) (old_bytes linked.now message.header region.now) }
+    ensures { result ≡ sent (reply_header true (delivered linked.now message.header) message.header)
+        (old_bytes linked.now message.header region.now) }
 {
     let _size = region.len();
     let (header, mut bytes) = message.into_parts();
@@ -81,7 +82,8 @@ fn exchange_at(region: &mut Region, at: u64, header: &Header, items: &mut [u8])
     requires swap { is_some header.now.swap ≡ is_swap header.now.kind }
     requires whole { length items.old % bytes_of header.now.ty ≡ 0 }
     requires one { IsTrue (is_swap header.now.kind) → (length items.old ≡ 0) ⊎ (length items.old ≡ bytes_of header.now.ty) }
-    ensures memory { region.new ≡ written at (new_bytes header.now.kind header.now (part at (length items.old) region.old) items.old) region.old }
+    ensures memory { region.new ≡ written at (new_bytes header.now.kind header.now (part at (length items.old) region.old) items.old)
+        region.old }
     ensures old { items.new ≡ part at (length items.old) region.old }
 {
     let from = at as usize;
@@ -96,7 +98,9 @@ fn exchange_part(region: &mut Region, linked: &Linked, header: &Header, bytes: B
     requires part { IsPartIn (length region.old) linked.now }
     requires elements { has_elements header.now.kind ≡ true }
     requires kept { FillsHeader header.now bytes }
-    ensures memory { region.new ≡ written (place linked.now header.now) (new_bytes header.now.kind header.now (old_bytes linked.now header.now region.old) (take (delivered linked.now header.now) bytes.list)) region.old }
+    ensures memory { region.new ≡ written (place linked.now header.now)
+        (new_bytes header.now.kind header.now (old_bytes linked.now header.now region.old)
+        (take (delivered linked.now header.now) bytes.list)) region.old }
     ensures old { result.items ≡ old_bytes linked.now header.now region.old }
     ensures size { length result.items ≡ delivered linked.now header.now }
 {
@@ -118,7 +122,8 @@ fn exchange_elements(
     requires part { IsPartIn (length region.old) linked.now }
     requires elements { has_elements message.header.kind ≡ true }
     ensures memory { region.new ≡ memory_after linked.now message region.old }
-    ensures answer { result ≡ answer true (delivered linked.now message.header) (old_bytes linked.now message.header region.old) message.header }
+    ensures answer { result ≡ answer true (delivered linked.now message.header) (old_bytes linked.now message.header region.old)
+        message.header }
 {
     let (header, bytes) = message.into_parts();
     let count = delivered(linked, &header);
@@ -141,7 +146,8 @@ pub fn exchange(
     requires request { is_answer message.header.kind ≡ false }
     requires part { IsPartIn (length region.old) linked.now }
     ensures memory { region.new ≡ memory_after linked.now message region.old }
-    ensures answer { result ≡ answer true (delivered linked.now message.header) (old_bytes linked.now message.header region.old) message.header }
+    ensures answer { result ≡ answer true (delivered linked.now message.header) (old_bytes linked.now message.header region.old)
+        message.header }
 {
     match message.header().kind {
         MessageKind::Put => {

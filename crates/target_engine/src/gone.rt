@@ -9,10 +9,10 @@ ghost use Rattle.target_engine.specs.PortalTable.{seen_in, frees_at, without_hea
 use crate::entry_records::{Records, drop_header, headers_of};
 use crate::events::{entry_event, message_event};
 use crate::index::{Index, portal_entry_at, queue_at};
-use ni_objects::delivery::raise;
-use ni_objects::queues::Queue;
-use ni_objects::handles::Store;
 use ni_model::IndexedHeader;
+use ni_objects::delivery::raise;
+use ni_objects::handles::Store;
+use ni_objects::queues::Queue;
 use ptl_types::{Event, EventKind, Handle, List as Place, MessageKind};
 
 /// Whether the overflow list of this index holds the entry.

@@ -8,7 +8,8 @@ ghost use Rattle.ni_model.specs.Calls.{unlinked_in, new_index};
 ghost use Rattle.ni_model.specs.Lists.{queue_of, index_at, entries_in, is_linked};
 ghost use Rattle.ni_model.specs.Refusals.{entry_names_ct};
 ghost use Rattle.match_lists.specs.Lists.{with_entries, without_entry, linked_as};
-ghost use Rattle.target_engine.specs.PortalTable.{index, seen, seen_ref, seen_in, linked_in, settled_lists, settled_in, AreEmpty, HasLists, IsPortalEntry, IsUnused, MayAppend, MayLink};
+ghost use Rattle.target_engine.specs.PortalTable.{index, seen, seen_ref, seen_in, linked_in, settled_lists, settled_in, AreEmpty, HasLists};
+ghost use Rattle.target_engine.specs.PortalTable.{IsPortalEntry, IsUnused, MayAppend, MayLink};
 
 use crate::measures::{delivered, is_over, is_put_or_atomic, running_after};
 use chain_list::Steps;
@@ -221,7 +222,8 @@ pub fn allocate_at(indices: &mut [Index], pt: u32, eq: Option<Handle>)
     requires empty { entries_in (index_at pt (seen_in indices.old)) ≡ 0 }
     requires lists { All HasLists indices.old }
     ensures after { seen_in indices.new ≡ slice_set (seen_in indices.old) pt (Some (new_index eq)) }
-    ensures kept { (most slots given : ℕ) → All (IsPortalEntry most slots given) indices.old → All (IsPortalEntry most slots given) indices.new }
+    ensures kept { (most slots given : ℕ) → All (IsPortalEntry most slots given) indices.old →
+        All (IsPortalEntry most slots given) indices.new }
 {
     let at = pt as usize;
     if at < indices.len() {
@@ -234,7 +236,8 @@ pub fn free_at(indices: &mut [Index], pt: u32)
     requires empty { entries_in (index_at pt (seen_in indices.old)) ≡ 0 }
     requires lists { All HasLists indices.old }
     ensures after { seen_in indices.new ≡ slice_set (seen_in indices.old) pt None }
-    ensures kept { (most slots given : ℕ) → All (IsPortalEntry most slots given) indices.old → All (IsPortalEntry most slots given) indices.new }
+    ensures kept { (most slots given : ℕ) → All (IsPortalEntry most slots given) indices.old →
+        All (IsPortalEntry most slots given) indices.new }
 {
     let at = pt as usize;
     if at < indices.len() {
@@ -245,8 +248,10 @@ pub fn free_at(indices: &mut [Index], pt: u32)
 /// What becomes of the entry that took the message, in its list.
 pub fn settle_at(indices: &mut [Index], found: &Found, header: &Header)
     requires { linked_in found.now.linked.handle (index_at header.now.pt (seen_in indices.old)) ≡ Some found.now.linked }
-    ensures after { seen_in indices.new ≡ slice_set (seen_in indices.old) header.now.pt (settled_in found.now header.now (index_at header.now.pt (seen_in indices.old))) }
-    ensures kept { (most slots given : ℕ) → All (IsPortalEntry most slots given) indices.old → All (IsPortalEntry most slots given) indices.new }
+    ensures after { seen_in indices.new ≡ slice_set (seen_in indices.old) header.now.pt
+        (settled_in found.now header.now (index_at header.now.pt (seen_in indices.old))) }
+    ensures kept { (most slots given : ℕ) → All (IsPortalEntry most slots given) indices.old →
+        All (IsPortalEntry most slots given) indices.new }
 {
     let at = header.pt as usize;
     if at < indices.len() {
@@ -258,8 +263,10 @@ pub fn settle_at(indices: &mut [Index], found: &Found, header: &Header)
 pub fn link_at(indices: &mut [Index], pt: u32, list: List, handle: Handle, entry: Entry)
     requires there { is_some (index_at pt (seen_in indices.old)) ≡ true }
     requires may { All (MayLink handle.slot) indices.old }
-    ensures after { seen_in indices.new ≡ slice_set (seen_in indices.old) pt (linked_at list (fresh handle entry) (index_at pt (seen_in indices.old))) }
-    ensures kept { (most slots given : ℕ) → All (IsPortalEntry most slots given) indices.old → All (IsPortalEntry most slots (given + 1)) indices.new }
+    ensures after { seen_in indices.new ≡ slice_set (seen_in indices.old) pt
+        (linked_at list (fresh handle entry) (index_at pt (seen_in indices.old))) }
+    ensures kept { (most slots given : ℕ) → All (IsPortalEntry most slots given) indices.old →
+        All (IsPortalEntry most slots (given + 1)) indices.new }
 {
     let at = pt as usize;
     if at < indices.len() {
@@ -270,7 +277,8 @@ pub fn link_at(indices: &mut [Index], pt: u32, list: List, handle: Handle, entry
 /// Unlinks an entry from this index.
 pub fn unlink_at(indices: &mut [Index], pt: u32, me: Handle)
     ensures after { seen_in indices.new ≡ slice_set (seen_in indices.old) pt (unlinked_in me (index_at pt (seen_in indices.old))) }
-    ensures kept { (most slots given : ℕ) → All (IsPortalEntry most slots given) indices.old → All (IsPortalEntry most slots given) indices.new }
+    ensures kept { (most slots given : ℕ) → All (IsPortalEntry most slots given) indices.old →
+        All (IsPortalEntry most slots given) indices.new }
 {
     let at = pt as usize;
     if at < indices.len() {

@@ -11,13 +11,13 @@ ghost use Rattle.target_engine.specs.Sides.{side};
 use crate::entry_records::Records;
 use crate::gone::{frees, kind_taken, raise_gone};
 use crate::index::Index;
+use match_lists::unexpected::{Headers, finds};
+use ni_model::IndexedHeader;
 use ni_objects::counters::Counter;
 use ni_objects::delivery::{count, successes};
-use ni_objects::queues::Queue;
 use ni_objects::handles::{Store, where_set};
-use ni_model::IndexedHeader;
+use ni_objects::queues::Queue;
 use ptl_types::{Entry, Handle};
-use match_lists::unexpected::{Headers, finds};
 
 /// The counting event of an entry that counts the headers that it takes.
 pub fn overflow_counter(entry: &Entry) -> Option<Handle>
@@ -37,7 +37,8 @@ pub fn take_header(
 )
     ensures counts { cts.new ≡ counted (overflow_counter entry.now) (successes 1) cts.old }
     ensures gone { records.new ≡ without_header gone.now records.old }
-    ensures events { eqs.new ≡ gone_events (kind_taken gone.now.header.header.kind) (seen_in indices.now) (frees_at (seen_in indices.now) records.old.by_entry gone.now) gone.now eqs.old }
+    ensures events { eqs.new ≡ gone_events (kind_taken gone.now.header.header.kind) (seen_in indices.now)
+        (frees_at (seen_in indices.now) records.old.by_entry gone.now) gone.now eqs.old }
 {
     count(cts, overflow_counter(entry), successes(1));
     let freed = frees(indices, records, gone);
@@ -70,7 +71,8 @@ pub fn take_found(
     ensures limit { records.new.by_entry.limit ≡ records.old.by_entry.limit }
     ensures left { headers.new ≡ unexpected_list (left_in pt entry.now headers.old.unexpected) headers.old.limit }
     ensures counts { cts.new ≡ each_counted (overflow_counter entry.now) (found_in pt entry.now headers.old.unexpected) cts.old }
-    ensures events { eqs.new ≡ each_gone (side 0 0 (seen_in indices.now) 0 (unexpected_list [] 0)) (left_in pt entry.now headers.old.unexpected) (found_in pt entry.now headers.old.unexpected) eqs.old }
+    ensures events { eqs.new ≡ each_gone (side 0 0 (seen_in indices.now) 0 (unexpected_list [] 0))
+        (left_in pt entry.now headers.old.unexpected) (found_in pt entry.now headers.old.unexpected) eqs.old }
     ensures counted { result ≡ counted_by entry.now (found_in pt entry.now headers.old.unexpected) }
 {
     let mut kept = 0;

@@ -3,7 +3,8 @@
 ghost use Rattle.std.specs.Prelude.{◌≡◌, ◌+◌, ◌<◌, ◌-◌, ◌^◌, [], None, Some, true, false, IfOk, option_copied, length, All, replicate};
 ghost use Rattle.ptl_types.specs.Kinds.{is_answer};
 ghost use Rattle.ni_model.specs.Headers.{unexpected_list};
-ghost use Rattle.ni_model.specs.Arrive.{parts, received, request, accepted, counts_after, headers_after, indices_after, is_overflow, outcome_in};
+ghost use Rattle.ni_model.specs.Arrive.{parts, received, request, accepted, counts_after, headers_after, indices_after, is_overflow};
+ghost use Rattle.ni_model.specs.Arrive.{outcome_in};
 ghost use Rattle.ni_model.specs.Conditions.{IsPartIn, HasPartsIn, HasRoom};
 ghost use Rattle.ni_model.specs.Lists.{index_at, is_linked_at};
 ghost use Rattle.match_lists.specs.unexpected.Places.{header_at};
@@ -19,17 +20,17 @@ use crate::exchange::exchange;
 use crate::index::{Index, chosen_in, queue_at, settle_at};
 use crate::measures::{delivered, place};
 use crate::spent::SpareBuffers;
+use match_lists::unexpected::{Headers, allows};
+use ni_model::{Arrived, Found, IndexedHeader, Linked};
 use ni_objects::counters::Counter;
 use ni_objects::delivery::{count, successes};
-use ni_objects::queues::Queue;
-use ni_objects::handles::{Store, where_set};
 use ni_objects::descriptors::Region;
-use ni_model::{Arrived, Found, IndexedHeader, Linked};
+use ni_objects::handles::{Store, where_set};
+use ni_objects::queues::Queue;
+use ni_objects::users::Users;
 use ptl_types::{Header, Limits, List, Message, NoMemory, Outcome, Rank, UnexpectedHeader};
 use std::alloc::Global;
 use std::marker::Model;
-use match_lists::unexpected::{Headers, allows};
-use ni_objects::users::Users;
 
 /// One success on the entry's counting event, where it counts communication.
 fn count_message(cts: &mut Store<Counter>, linked: &Linked)
@@ -149,7 +150,8 @@ impl Target {
     /// have a record each whose number has 32 bits.
     pub fn open(alloc: Global, rank: Rank, limits: &Limits) -> Result<Target, NoMemory>
         requires { limits.now.entries + limits.now.unexpected < 2 ^ 32 }
-        ensures makes { IfOk result (λ t. t ≡ side rank limits.now.entries (replicate limits.now.pts None) 0 (unexpected_list [] limits.now.unexpected)) }
+        ensures makes { IfOk result (λ t. t ≡ side rank limits.now.entries (replicate limits.now.pts None) 0
+            (unexpected_list [] limits.now.unexpected)) }
     {
         let records = records(limits);
         let indices = empty_indices(alloc, limits, records)?;
@@ -200,7 +202,8 @@ impl Target {
     ) -> Arrived
         requires request { is_answer message.header.kind ≡ false }
         requires inside { All (HasPartsIn (length region.old)) self.old.indices }
-        ensures does { received (parts self.new region.new cts.new eqs.new) result ≡ request (parts self.old region.old cts.old eqs.old) message }
+        ensures does { received (parts self.new region.new cts.new eqs.new) result ≡ request (parts self.old region.old cts.old eqs.old)
+            message }
     {
         let header = *message.header();
         let found = match chosen_in(&self.indices, &header) {
@@ -251,7 +254,8 @@ impl Target {
         requires room { HasRoom found.now.list self.old.headers }
         requires there { is_linked_at found.now.list found.now.linked.handle (index_at message.header.pt self.old.indices) ≡ true }
         requires entry { linked_in found.now.linked.handle (index_at message.header.pt self.old.indices) ≡ Some found.now.linked }
-        ensures { received (parts self.new region.new cts.new eqs.new) result ≡ accepted (parts self.old region.old cts.old eqs.old) message found.now }
+        ensures { received (parts self.new region.new cts.new eqs.new) result ≡ accepted (parts self.old region.old cts.old eqs.old)
+            message found.now }
     {
         // Brings the bound of the region's length to the proof.
         let _size = region.len();

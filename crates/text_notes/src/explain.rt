@@ -12,13 +12,13 @@ use crate::flaws::{
 };
 use crate::keys::after_key;
 use crate::lines::line_flaw;
+use crate::notes::{About, Cause, FormFlaw, Note, Printable, cut_word};
 use crate::orders::{first_order, order_flaw};
 use crate::places::{strange_place, word_place};
 use crate::standing::{Standing, standing_at};
 use coll_lang::{LONGEST_TEXT, Refusal};
 use coll_shape::Version;
 use coll_text::cut;
-use crate::notes::{About, Cause, FormFlaw, Note, Printable, cut_word};
 use order_lines::LONGEST_CHECK;
 use ptl_types::{Cause as Failure, Rank};
 

@@ -1,8 +1,8 @@
 //! Members of groups.
 
+use crate::notes::GroupFlaw;
 use crate::places::word;
 use coll_text::{Number, Words, cut, is, number_at};
-use crate::notes::GroupFlaw;
 
 /// The first word after a group's name that is no number.
 pub(crate) fn strange_member(line: &[u8]) -> usize {

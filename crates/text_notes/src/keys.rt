@@ -1,10 +1,10 @@
 //! What a line is by its first word.
 
+use crate::notes::{OPERATIONS, TYPES};
 use crate::places::word;
 use coll_lang::{op_word, type_word};
 use coll_shape::StepKind;
 use coll_text::is;
-use crate::notes::{OPERATIONS, TYPES};
 use ptl_types::ElemType;
 
 /// What a line after the first two begins with.

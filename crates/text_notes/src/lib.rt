@@ -2,12 +2,12 @@
 //! expected there. The lines before a refused one are valid, so that they tell which kind of line is due. It takes no memory.
 #![tactic(auto)]
 
-pub mod notes;
 mod explain;
 mod flaws;
 mod groups;
 mod keys;
 mod lines;
+pub mod notes;
 mod orders;
 mod places;
 mod standing;

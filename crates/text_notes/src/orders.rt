@@ -1,8 +1,8 @@
 //! What is wrong with an order line.
 
+use crate::notes::OrderFlaw;
 use crate::places::word;
 use coll_text::{Words, cut, is, number_between};
-use crate::notes::OrderFlaw;
 use ptl_types::Rank;
 
 /// Whether the word is a local step of one of so many ranks.

@@ -2,10 +2,10 @@
 
 use crate::keys::is_operation;
 use crate::lines::extra_word;
+use crate::notes::{LineFlaw, Need};
 use crate::places::word;
 use coll_shape::StepKind;
 use coll_text::is_name;
-use crate::notes::{LineFlaw, Need};
 
 /// Of the names of a step, the first of which is this word.
 fn names_flaw(line: &[u8], number: usize, kind: StepKind) -> (usize, LineFlaw) {

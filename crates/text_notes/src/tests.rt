@@ -1,8 +1,8 @@
 //! Wrong texts, and the lines of their notes, written by hand from the language's page.
 
+use crate::notes::note_text;
 use crate::{explain_fails, explain_text};
 use coll_lang::{ParseFault, parse};
-use crate::notes::note_text;
 use order_lines::parse_check;
 use ptl_types::Cause;
 use std::alloc::Global;

@@ -1,6 +1,6 @@
 -- How operations come on their lists and off them, and which lists a counting event has.
-use Rattle.std.proofs.Common.{◌≡◌, ◌≢◌, ℕ, zero, suc, ◌+◌, ◌*◌, ◌<◌, ◌≤◌, Bool, true, false, cond, nat_eq, List, [], ◌∷◌, ◌++◌, length, set,
-    replicate, Option, Some, None, refl, sym, ap, subst, ◌∙◌, inl, inr, arith, length-set}
+use Rattle.std.proofs.Common.{◌≡◌, ◌≢◌, ℕ, zero, suc, ◌+◌, ◌*◌, ◌<◌, ◌≤◌, Bool, true, false, cond, nat_eq, List, [], ◌∷◌, ◌++◌, length, set}
+use Rattle.std.proofs.Common.{replicate, Option, Some, None, refl, sym, ap, subst, ◌∙◌, inl, inr, arith, length-set}
 use Rattle.std.specs.Prelude.{option_map, slice_get}
 use Rattle.std.proofs.lemmas.Bool.{ne_eqb}
 use Rattle.std.proofs.lemmas.Bool.Decides.{eqb_tells}
@@ -8,12 +8,13 @@ use Rattle.std.proofs.lemmas.List.{append_assoc, append-nil, length-replicate, g
 use Rattle.chain_list.proofs.threads.ThreadLemmas.{on_one}
 use Rattle.ptl_types.specs.declared.handles.Handle.{Handle}
 use Rattle.ptl_types.specs.Handles.{same_handle}
-use Rattle.chain_list.specs.threads.Threads.{Woven, woven, thread, is_on, is_threaded, first_place, without_place, with_place, placed_after,
-    with_place_after}
+use Rattle.chain_list.specs.threads.Threads.{Woven, woven, thread, is_on, is_threaded, first_place, without_place, with_place, placed_after}
+use Rattle.chain_list.specs.threads.Threads.{with_place_after}
 use Rattle.triggered_ops.specs.declared.spots.Wait.{Wait}
 use Rattle.triggered_ops.specs.Hung.{is_stamp, belongs, home, is_home, threshold_of, Ascending, IsHung, IsGap}
-use Rattle.triggered_ops.proofs.Hanging.{on-either, on-here, on-one, first-none, asc-same, asc-above, asc-below, handle-same, belongs-same,
-    home-due, home-waiting, home-stray, home-within, hung-home, home-hung, unhung, rehung, hung-same, put-middle}
+use Rattle.triggered_ops.proofs.Hanging.{on-either, on-here, on-one, first-none, asc-same, asc-above, asc-below, handle-same, belongs-same}
+use Rattle.triggered_ops.proofs.Hanging.{home-due, home-waiting, home-stray, home-within, hung-home, home-hung, unhung, rehung, hung-same}
+use Rattle.triggered_ops.proofs.Hanging.{put-middle}
 use Rattle.triggered_ops.proofs.Moving.{home-back_waiting, home-back_due}
 use Rattle.triggered_ops.proofs.Places.{with_due}
 
@@ -52,7 +53,7 @@ module _ (at : ℕ → Option Wait) (w : Woven) (stamps : List ℕ) (h : IsHung 
         → IsHung (λ q. cond (nat_eq q p) (Some x) (at q)) w2 stamps
     entered k b kh g is low high =
         rehung at w stamps h k p x g.before g.behind w2 kh empty (ap (λ (v : Woven). v.threads) is ∙ ap (set w.threads k) (g.put p)) g.is
-            (record {
+        (record {
           due_below = λ j ej lt q on. g.below q on;
           due_above = λ j ej lt q on. elim (on-either q g.behind (thread (2 * j + 1) w) on) [
             | inl here ↦ g.above q here
@@ -96,23 +97,23 @@ module _ (at : ℕ → Option Wait) (w : Woven) (stamps : List ℕ) (h : IsHung 
       let front = before ++ from ∷ [] in
       let split : thread k w ≡ front ++ behind = s.2 ∙ sym (append_assoc before (from ∷ []) behind) in
       let put : placed_after (Some from) to (thread k w) ≡ front ++ to ∷ behind = ap (placed_after (Some from) to) s.2
-            ∙ put-middle before from to behind s.3 ∙ sym (append_assoc before (from ∷ []) (to ∷ behind)) in
+      ∙ put-middle before from to behind s.3 ∙ sym (append_assoc before (from ∷ []) (to ∷ behind)) in
       let here : threshold_of (at from) ≡ x.threshold = ap threshold_of some in
       let first : (j : ℕ) → k ≡ 2 * j → j < length stamps → Ascending at (before ++ from ∷ (behind ++ thread (2 * j + 1) w)) =
       λ j ej lt. subst (Ascending at) (ap (λ l. l ++ thread (2 * j + 1) w) (ap (λ i. thread i w) (sym ej) ∙ s.2)
-          ∙ append_assoc before (from ∷ behind) (thread (2 * j + 1) w)) (h.ordered j lt) in
+      ∙ append_assoc before (from ∷ behind) (thread (2 * j + 1) w)) (h.ordered j lt) in
       let second : (j : ℕ) → k ≡ 2 * j + 1 → j < length stamps → Ascending at ((thread (2 * j) w ++ before) ++ from ∷ behind) =
       λ j ej lt. subst (Ascending at) (ap (λ l. thread (2 * j) w ++ l) (ap (λ i. thread i w) (sym ej) ∙ s.2)
-          ∙ sym (append_assoc (thread (2 * j) w) before (from ∷ behind))) (h.ordered j lt) in
+      ∙ sym (append_assoc (thread (2 * j) w) before (from ∷ behind))) (h.ordered j lt) in
       let low_of : (xs : List ℕ) (q : ℕ) → ((r : ℕ) → is_on r xs ≡ true → threshold_of (at r) ≤ threshold_of (at from)) →
-            is_on q (xs ++ from ∷ []) ≡ true → threshold_of (at q) ≤ x.threshold =
+      is_on q (xs ++ from ∷ []) ≡ true → threshold_of (at q) ≤ x.threshold =
       λ xs q below on. elim (on-either q xs (from ∷ []) on) [
         | inl there ↦ let le = below q there in omega (arith, le, here)
         | inr last ↦ let same = on-one q from last in let t : threshold_of (at q) ≡ threshold_of (at from) =
-                                                            ap (λ i. threshold_of (at i)) (sym same) in omega (arith, t, here)
+            ap (λ i. threshold_of (at i)) (sym same) in omega (arith, t, here)
       ] in
       let both = rehung at w stamps h k to x front behind w1 kh none (ap (λ (v : Woven). v.threads) is1 ∙ ap (set w.threads k) put) split
-            (record {
+      (record {
         due_below = λ j ej lt q on. low_of before q (asc-below at before from (behind ++ thread (2 * j + 1) w) (first j ej lt)) on;
         due_above = λ j ej lt q on. let le = asc-above at before from (behind ++ thread (2 * j + 1) w) (first j ej lt) q on in
             omega (arith, le, here);
@@ -143,7 +144,7 @@ module _ (at : ℕ → Option Wait) (w : Woven) (stamps : List ℕ) (h : IsHung 
       at p ≡ Some x → same_handle x.ct ct ≡ true → ⊥
   no-stray ct b e p x f is =
       let none : is_on p [] ≡ true = subst (λ l. is_on p l ≡ true) (first-none (thread (2 * length stamps) w) e) (on-strays ct b p x f is)
-            in
+      in
       cc
 
   pub stray-settled : (ct : Handle) (p : ℕ) (x : Wait) (v : Bool) (new : ℕ → Option Wait) → belongs stamps ct ≡ false → at p ≡ Some x →
@@ -153,7 +154,7 @@ module _ (at : ℕ → Option Wait) (w : Woven) (stamps : List ℕ) (h : IsHung 
       let away : belongs stamps x.ct ≡ false = ap (belongs stamps) (handle-same x.ct ct is) ∙ b in
       let homes : home stamps x.ct v ≡ home stamps x.ct x.due = home-stray stamps x.ct v away ∙ sym (home-stray stamps x.ct x.due away) in
       let same : (q k : ℕ) → is_home stamps k (at q) ≡ is_home stamps k (new q) =
-            λ q k. sym (ap (is_home stamps k) (n q) ∙ elim (eqb_tells q p) [
+      λ q k. sym (ap (is_home stamps k) (n q) ∙ elim (eqb_tells q p) [
         | inl a ↦ let here : at q ≡ Some x = ap at a.1 ∙ e in rw (a.0, here) (ap (λ i. nat_eq i k) homes)
         | inr a ↦ rw a.0 refl
       ]) in
@@ -182,7 +183,7 @@ module _ (at : ℕ → Option Wait) (w : Woven) (stamps : List ℕ) (h : IsHung 
       let long = length-set stamps s v in
       let nowhere : (k p : ℕ) (x : Wait) → first_place (thread k w) ≡ None → at p ≡ Some x → home stamps x.ct x.due ≡ k → ⊥ =
       λ k p x e f is. let on : is_on p [] ≡ true = subst (λ l. is_on p l ≡ true) (first-none (thread k w) e)
-                            (home-hung at w stamps h k p x f is) in cc in
+      (home-hung at w stamps h k p x f is) in cc in
       let kept : (p : ℕ) (x : Wait) → at p ≡ Some x → home new x.ct x.due ≡ home stamps x.ct x.due =
       λ p x f. elim (belongs stamps x.ct) as (λ b. belongs stamps x.ct ≡ b → home new x.ct x.due ≡ home stamps x.ct x.due) [
         | true ↦ λ is.
@@ -192,12 +193,12 @@ module _ (at : ℕ → Option Wait) (w : Woven) (stamps : List ℕ) (h : IsHung 
                   ∙ ap (λ i. 2 * i + 1) e)
             ] refl in
             let same : belongs new x.ct ≡ belongs stamps x.ct = ap (λ o. is_stamp o x.ct.stamp) (get-set_other stamps s x.ct.slot v other)
-                  in
+            in
             (λ i. cond (same i) (2 * x.ct.slot + cond x.due 0 1) (2 * long i))
         | false ↦ λ is. absurd (nowhere (2 * length stamps) p x strays f (home-stray stamps x.ct x.due is))
       ] refl in
       let same : (k p : ℕ) (o : Option Wait) → at p ≡ o → is_home stamps k o ≡ is_home new k o =
-            λ k p o. elim o as (λ o. at p ≡ o → is_home stamps k o ≡ is_home new k o) [
+      λ k p o. elim o as (λ o. at p ≡ o → is_home stamps k o ≡ is_home new k o) [
         | None ↦ λ f. refl
         | Some x ↦ λ f. ap (λ i. nat_eq i k) (sym (kept p x f))
       ] in
@@ -231,7 +232,7 @@ entered-threaded at w stamps h from to x k some kh =
     let lt : k < length w.threads = let l = home-within stamps x.ct x.due in omega (arith, l, kh, h.many) in
     let s = split-first from (thread k w) on in
     let put : placed_after (Some from) to (thread k w) ≡ s.0 ++ from ∷ to ∷ s.1 = ap (placed_after (Some from) to) s.2
-          ∙ put-middle s.0 from to s.1 s.3 in
+    ∙ put-middle s.0 from to s.1 s.3 in
     let here : thread k (with_place_after k (Some from) to w) ≡ placed_after (Some from) to (thread k w) =
-          get_or-set_same w.threads k (placed_after (Some from) to (thread k w)) [] lt in
+    get_or-set_same w.threads k (placed_after (Some from) to (thread k w)) [] lt in
     on_one from (set w.threads k (placed_after (Some from) to (thread k w))) k (ap (is_on from) (here ∙ put) ∙ on-here from s.0 (to ∷ s.1))

@@ -1,6 +1,6 @@
 -- Finding operations by their numbers.
-use Rattle.std.proofs.Common.{◌≡◌, ℕ, zero, suc, ◌+◌, ◌<◌, ◌≤◌, true, false, not, List, [], ◌∷◌, filter, find, length, get_or, Option, Some,
-    None, refl, sym, ap, subst, ◌∙◌, inl, inr, arith}
+use Rattle.std.proofs.Common.{◌≡◌, ℕ, zero, suc, ◌+◌, ◌<◌, ◌≤◌, true, false, not, List, [], ◌∷◌, filter, find, length, get_or, Option, Some}
+use Rattle.std.proofs.Common.{None, refl, sym, ap, subst, ◌∙◌, inl, inr, arith}
 use Rattle.std.specs.Prelude.{◌⊎◌, All, AllPairs, is_some}
 use Rattle.std.proofs.lemmas.Bool.{cases_lt, ne_eqb, eq-eqb}
 use Rattle.std.proofs.lemmas.Bool.Decides.{eqb_tells, nat_tests}
@@ -9,8 +9,8 @@ use Rattle.std.proofs.lemmas.List.Elements.{All-head, All-tail, All-nil, All-con
 use Rattle.std.proofs.lemmas.List.Kept.{AllPairs-cons}
 use Rattle.triggered_ops.specs.declared.spots.Spot.{Spot}
 use Rattle.triggered_ops.specs.Operations.{Operation, is_number}
-use Rattle.triggered_ops.specs.Layout.{numbers_of, operation, op_with, before_all, operations_in, op_at, wait_with, wait_at, emptied,
-    is_from}
+use Rattle.triggered_ops.specs.Layout.{numbers_of, operation, op_with, before_all, operations_in, op_at, wait_with, wait_at, emptied}
+use Rattle.triggered_ops.specs.Layout.{is_from}
 use Rattle.triggered_ops.proofs.Rising.{Rises, pairs-head, pairs-tail, is_number-later, filter-absent}
 
 abbrev Lower : ℕ → ℕ → Type 0
@@ -73,7 +73,7 @@ module _ {D : Type 0} where
   found-at (s ∷ ss) t (suc p) all lt e =
       let lower : s.number < get_or (numbers_of ss) p 0 = pairs-head Lower s.number (numbers_of ss) all p 0 (omega (arith, lt)) in
       find-skip t s s.deed (operations_in ss) (λ same. omega (arith, lower, e, same))
-          ∙ found-at ss t p (pairs-tail Lower s.number (numbers_of ss) all) (omega (arith, lt)) e
+      ∙ found-at ss t p (pairs-tail Lower s.number (numbers_of ss) all) (omega (arith, lt)) e
 
   pub found-here : (ss : List (Spot D)) (t p : ℕ) → AllPairs (λ a b. a < b) (numbers_of ss) → (p < length ss) ×
       (get_or (numbers_of ss) p 0 ≡ t) → find (is_number t) (operations_in ss) ≡ op_at ss p

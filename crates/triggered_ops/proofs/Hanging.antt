@@ -1,14 +1,14 @@
 -- Lists of places in the order of their thresholds, and what hangs on them.
-use Rattle.std.proofs.Common.{◌≡◌, ◌≢◌, ℕ, zero, suc, ◌+◌, ◌*◌, ◌<◌, ◌≤◌, Bool, true, false, cond, nat_eq, ◌||◌, List, [], ◌∷◌, ◌++◌,
-    length, get_or, set, Option, Some, None, refl, sym, ap, subst, ◌∙◌, inl, inr, arith, length-set}
+use Rattle.std.proofs.Common.{◌≡◌, ◌≢◌, ℕ, zero, suc, ◌+◌, ◌*◌, ◌<◌, ◌≤◌, Bool, true, false, cond, nat_eq, ◌||◌, List, [], ◌∷◌, ◌++◌}
+use Rattle.std.proofs.Common.{length, get_or, set, Option, Some, None, refl, sym, ap, subst, ◌∙◌, inl, inr, arith, length-set}
 use Rattle.std.specs.Prelude.{◌⊎◌, slice_get, IfSome}
 use Rattle.std.proofs.lemmas.Bool.{ne_eqb, eq-eqb}
 use Rattle.std.proofs.lemmas.Bool.Decides.{eqb_tells}
 use Rattle.std.proofs.lemmas.List.{append_assoc, get_or-set_same, get_or-set_other, length-map, append-nil}
 use Rattle.ptl_types.specs.declared.handles.Handle.{Handle}
 use Rattle.ptl_types.specs.Handles.{same_handle}
-use Rattle.chain_list.specs.threads.Threads.{Woven, thread, is_on, first_place, place_after, last_after, last_place, without, without_place,
-    placed_after, AreApart}
+use Rattle.chain_list.specs.threads.Threads.{Woven, thread, is_on, first_place, place_after, last_after, last_place, without, without_place}
+use Rattle.chain_list.specs.threads.Threads.{placed_after, AreApart}
 use Rattle.chain_list.proofs.threads.ThreadLemmas.{get-map}
 use Rattle.triggered_ops.specs.declared.spots.Wait.{Wait}
 use Rattle.triggered_ops.specs.Hung.{is_stamp, belongs, home, is_home, threshold_of, Ascending, IsHung, rest_after, next_in, IsGap}
@@ -80,7 +80,7 @@ pub without-append : (p : ℕ) (xs ys : List ℕ) → without p (xs ++ ys) ≡ w
 without-append p [] ys = refl
 without-append p (x ∷ xs) ys =
     elim (nat_eq x p) as (λ b. cond b (without p (xs ++ ys)) (x ∷ without p (xs ++ ys)) ≡ cond b (without p xs) (x ∷ without p xs) ++
-        without p ys) [
+    without p ys) [
       | true ↦ without-append p xs ys
       | false ↦ ap (λ r. x ∷ r) (without-append p xs ys)
     ]
@@ -166,7 +166,7 @@ module _ (at : ℕ → Option Wait) where
     λ q on. elim (eqb_tells p q) [
       | inl same ↦ subst (λ i. thr x ≤ thr i) same.1 (low x (ap (λ b. b || is_on x xs) (eq-eqb x x refl)))
       | inr other ↦ a.0 q (let e : is_on q (xs ++ p ∷ ys) ≡ is_on q (xs ++ ys) = on-insert q p xs ys
-                                 ∙ ap (λ b. b || is_on q (xs ++ ys)) other.0 in sym e ∙ on)
+          ∙ ap (λ b. b || is_on q (xs ++ ys)) other.0 in sym e ∙ on)
     ],
     asc-insert p xs ys a.1 (λ q on. low q (or_right (nat_eq x q) (is_on q xs) on)) high,
   )
@@ -241,7 +241,7 @@ pub belongs-same : (stamps : List ℕ) (a b : Handle) → belongs stamps a ≡ t
     same_handle a b ≡ true
 belongs-same stamps a b e f s =
     let stamp : a.stamp ≡ b.stamp = stamp-same (slice_get stamps b.slot) a.stamp b.stamp
-          (subst (λ i. is_stamp (slice_get stamps i) a.stamp ≡ true) s e) f in
+    (subst (λ i. is_stamp (slice_get stamps i) a.stamp ≡ true) s e) f in
     rw (eq-eqb a.stamp b.stamp stamp, eq-eqb a.slot b.slot s) refl
 
 at_most : (due : Bool) → cond due 0 1 ≤ 1
@@ -251,7 +251,7 @@ at_most false = omega arith
 pub home-within : (stamps : List ℕ) (ct : Handle) (due : Bool) → home stamps ct due < 2 * length stamps + 1
 home-within stamps ct due =
     elim (belongs stamps ct) as (λ b. belongs stamps ct ≡ b → cond b (2 * ct.slot + cond due 0 1) (2 * length stamps) < 2 * length stamps
-        + 1) [
+    + 1) [
       | true ↦ λ e. let w = belongs-within stamps ct e in omega (arith, w, at_most due)
       | false ↦ λ e. omega arith
     ] refl
@@ -284,17 +284,17 @@ module _ (at : ℕ → Option Wait) (w : Woven) (stamps : List ℕ) (h : IsHung 
     many = length-map w.threads (without p) ∙ h.many;
     hung = λ k q. ap (is_on q) (thread-without k p w) ∙ on-without q p (thread k w)
         ∙ elim (nat_eq q p) as (λ b. cond b false (is_on q (thread k w)) ≡ is_home stamps k (cond b None (at q))) [
-      | true ↦ refl
-      | false ↦ h.hung k q
-    ];
+          | true ↦ refl
+          | false ↦ h.hung k q
+        ];
     ordered = λ j lt.
         let zs = thread (2 * j) w ++ thread (2 * j + 1) w in
         let is : thread (2 * j) (without_place p w) ++ thread (2 * j + 1) (without_place p w) ≡ without p zs =
         (λ i. thread-without (2 * j) p w i ++ thread-without (2 * j + 1) p w i)
-            ∙ sym (without-append p (thread (2 * j) w) (thread (2 * j + 1) w)) in
+        ∙ sym (without-append p (thread (2 * j) w) (thread (2 * j + 1) w)) in
         subst (Ascending (λ q. cond (nat_eq q p) None (at q))) (sym is)
         (asc-same at (λ q. cond (nat_eq q p) None (at q)) (without p zs)
-            (λ q on. ap (λ b. threshold_of (cond b None (at q))) (left-on q p zs on).0) (asc-without at p zs (h.ordered j lt)));
+        (λ q on. ap (λ b. threshold_of (cond b None (at q))) (left-on q p zs on).0) (asc-without at p zs (h.ordered j lt)));
   }
 
   -- where it stands among those of its slot
@@ -308,113 +308,113 @@ module _ (at : ℕ → Option Wait) (w : Woven) (stamps : List ℕ) (h : IsHung 
 
   module _ (k p : ℕ) (x : Wait) (before behind : List ℕ) (new : Woven) (home_is : k ≡ home stamps x.ct x.due) (empty : at p ≡ None)
       (set_is : new.threads ≡ set w.threads k (before ++ p ∷ behind)) (is : thread k w ≡ before ++ behind) (fit : IsFit x k before behind)
-          where
-    abbrev with_it : ℕ → Option Wait
-    with_it q = cond (nat_eq q p) (Some x) (at q)
+    where
+      abbrev with_it : ℕ → Option Wait
+      with_it q = cond (nat_eq q p) (Some x) (at q)
 
-    within : k < length w.threads
-    within = let lt = home-within stamps x.ct x.due in omega (arith, lt, home_is, h.many)
+      within : k < length w.threads
+      within = let lt = home-within stamps x.ct x.due in omega (arith, lt, home_is, h.many)
 
-    here : thread k new ≡ before ++ p ∷ behind
-    here = ap (λ xss. get_or xss k []) set_is ∙ get_or-set_same w.threads k (before ++ p ∷ behind) [] within
+      here : thread k new ≡ before ++ p ∷ behind
+      here = ap (λ xss. get_or xss k []) set_is ∙ get_or-set_same w.threads k (before ++ p ∷ behind) [] within
 
-    other : (j : ℕ) → j ≢ k → thread j new ≡ thread j w
-    other j n = ap (λ xss. get_or xss j []) set_is ∙ get_or-set_other w.threads k j (before ++ p ∷ behind) [] n
+      other : (j : ℕ) → j ≢ k → thread j new ≡ thread j w
+      other j n = ap (λ xss. get_or xss j []) set_is ∙ get_or-set_other w.threads k j (before ++ p ∷ behind) [] n
 
-    -- at the old places nothing changes
-    apart : (q : ℕ) (j : ℕ) → is_on q (thread j w) ≡ true → nat_eq q p ≡ false
-    apart q j on = elim (eqb_tells q p) [
-      | inl same ↦ let off : false ≡ true = sym (none-on j p empty) ∙ subst (λ i. is_on i (thread j w) ≡ true) same.1 on in cc
-      | inr differ ↦ differ.0
-    ]
-
-    same_at : (q : ℕ) → nat_eq q p ≡ false → threshold_of (with_it q) ≡ threshold_of (at q)
-    same_at q e = ap (λ b. threshold_of (cond b (Some x) (at q))) e
-
-    it : threshold_of (with_it p) ≡ x.threshold
-    it = ap (λ b. threshold_of (cond b (Some x) (at p))) (eq-eqb p p refl)
-
-    rehung-on : (j q : ℕ) → is_on q (thread j new) ≡ is_home stamps j (with_it q)
-    rehung-on j q = elim (eqb_tells j k) [
-      | inl at_k ↦
-          ap (λ i. is_on q (thread i new)) at_k.1 ∙ ap (is_on q) here ∙ on-insert q p before behind
-              ∙ ap (λ l. nat_eq p q || is_on q l) (sym is) ∙ ap (λ b. nat_eq p q || b) (h.hung k q)
-          ∙ elim (eqb_tells q p) [
-            | inl same ↦ let turned : nat_eq p q ≡ true = eq-eqb p q (sym same.1) in let yes : nat_eq (home stamps x.ct x.due) j ≡ true =
-                                                                                           eq-eqb (home stamps x.ct x.due) j
-                                                                                           (sym home_is ∙ sym at_k.1) in
-                                                                                           rw (turned, same.0, yes) refl
-            | inr differ ↦ let turned : nat_eq p q ≡ false = ne_eqb p q (λ e. differ.1 (sym e)) in
-                rw (turned, differ.0) (ap (λ i. is_home stamps i (at q)) (sym at_k.1))
-          ]
-      | inr not_k ↦
-          ap (is_on q) (other j not_k.1) ∙ h.hung j q ∙ elim (eqb_tells q p) [
-            | inl same ↦
-                let none : at q ≡ None = ap at same.1 ∙ empty in
-                let no : nat_eq (home stamps x.ct x.due) j ≡ false =
-                      ne_eqb (home stamps x.ct x.due) j (λ e. not_k.1 (sym e ∙ sym home_is)) in
-                rw (none, same.0, no) refl
-            | inr differ ↦ rw differ.0 refl
-          ]
-    ]
-
-    -- a list of the old places keeps its order
-    kept_order : (zs : List ℕ) → ((q : ℕ) → is_on q zs ≡ true → nat_eq q p ≡ false) → Ascending at zs → Ascending with_it zs
-    kept_order zs away a = asc-same at with_it zs (λ q on. same_at q (away q on)) a
-
-    two-apart : (j : ℕ) (q : ℕ) → is_on q (thread (2 * j) w ++ thread (2 * j + 1) w) ≡ true → nat_eq q p ≡ false
-    two-apart j q on = elim (on-either q (thread (2 * j) w) (thread (2 * j + 1) w) on) [
-      | inl a ↦ apart q (2 * j) a
-      | inr b ↦ apart q (2 * j + 1) b
-    ]
-
-    rehung-ordered : (j : ℕ) → j < length stamps → Ascending with_it (thread (2 * j) new ++ thread (2 * j + 1) new)
-    rehung-ordered j lt = elim (eqb_tells (2 * j) k) [
-      | inl due ↦
-          let first : thread (2 * j) new ≡ before ++ p ∷ behind = ap (λ i. thread i new) due.1 ∙ here in
-          let second : thread (2 * j + 1) new ≡ thread (2 * j + 1) w =
-                other (2 * j + 1) (λ e. let eq : 2 * j + 1 ≡ 2 * j = e ∙ sym due.1 in omega (arith, eq)) in
-          let old : thread (2 * j) w ++ thread (2 * j + 1) w ≡ before ++ (behind ++ thread (2 * j + 1) w) =
-          ap (λ l. l ++ thread (2 * j + 1) w) (ap (λ i. thread i w) due.1 ∙ is) ∙ append_assoc before behind (thread (2 * j + 1) w) in
-          let now : thread (2 * j) new ++ thread (2 * j + 1) new ≡ before ++ p ∷ (behind ++ thread (2 * j + 1) w) =
-                (λ i. first i ++ second i) ∙ append_assoc before (p ∷ behind) (thread (2 * j + 1) w) in
-          let away = λ (q : ℕ) (on : is_on q (before ++ (behind ++ thread (2 * j + 1) w)) ≡ true). two-apart j q (ap (is_on q) old ∙ on) in
-          subst (Ascending with_it) (sym now) (asc-insert with_it p before (behind ++ thread (2 * j + 1) w)
-          (kept_order (before ++ (behind ++ thread (2 * j + 1) w)) away (subst (Ascending at) old (h.ordered j lt)))
-          (λ q on. let le = fit.due_below j (sym due.1) lt q on in let s =
-                                                                         same_at q (away q (on-left q before
-                                                                         (behind ++ thread (2 * j + 1) w) on)) in omega (arith, le, s, it))
-          (λ q on. let le = fit.due_above j (sym due.1) lt q on in let s =
-                                                                         same_at q (away q (on-right q before
-                                                                         (behind ++ thread (2 * j + 1) w) on)) in omega (arith, le, s, it)))
-      | inr not_due ↦ elim (eqb_tells (2 * j + 1) k) [
-        | inl waiting ↦
-            let first : thread (2 * j) new ≡ thread (2 * j) w = other (2 * j) not_due.1 in
-            let second : thread (2 * j + 1) new ≡ before ++ p ∷ behind = ap (λ i. thread i new) waiting.1 ∙ here in
-            let front = thread (2 * j) w ++ before in
-            let old : thread (2 * j) w ++ thread (2 * j + 1) w ≡ front ++ behind =
-            ap (λ l. thread (2 * j) w ++ l) (ap (λ i. thread i w) waiting.1 ∙ is) ∙ sym (append_assoc (thread (2 * j) w) before behind) in
-            let now : thread (2 * j) new ++ thread (2 * j + 1) new ≡ front ++ p ∷ behind = (λ i. first i ++ second i)
-                  ∙ sym (append_assoc (thread (2 * j) w) before (p ∷ behind)) in
-            let away = λ (q : ℕ) (on : is_on q (front ++ behind) ≡ true). two-apart j q (ap (is_on q) old ∙ on) in
-            subst (Ascending with_it) (sym now) (asc-insert with_it p front behind
-            (kept_order (front ++ behind) away (subst (Ascending at) old (h.ordered j lt)))
-            (λ q on. let le = fit.waiting_below j (sym waiting.1) lt q on in let s = same_at q (away q (on-left q front behind on)) in
-                omega (arith, le, s, it))
-            (λ q on. let le = fit.waiting_above j (sym waiting.1) lt q on in let s = same_at q (away q (on-right q front behind on)) in
-                omega (arith, le, s, it)))
-        | inr neither ↦
-            subst (Ascending with_it) (λ i. sym (other (2 * j) not_due.1) i ++ sym (other (2 * j + 1) neither.1) i)
-            (kept_order (thread (2 * j) w ++ thread (2 * j + 1) w) (two-apart j) (h.ordered j lt))
+      -- at the old places nothing changes
+      apart : (q : ℕ) (j : ℕ) → is_on q (thread j w) ≡ true → nat_eq q p ≡ false
+      apart q j on = elim (eqb_tells q p) [
+        | inl same ↦ let off : false ≡ true = sym (none-on j p empty) ∙ subst (λ i. is_on i (thread j w) ≡ true) same.1 on in cc
+        | inr differ ↦ differ.0
       ]
-    ]
 
-    pub rehung : IsHung (λ q. cond (nat_eq q p) (Some x) (at q)) new stamps
-    rehung = record {
-      many = ap length set_is ∙ length-set w.threads k (before ++ p ∷ behind) ∙ h.many;
-      hung = rehung-on;
-      ordered = rehung-ordered;
-    }
+      same_at : (q : ℕ) → nat_eq q p ≡ false → threshold_of (with_it q) ≡ threshold_of (at q)
+      same_at q e = ap (λ b. threshold_of (cond b (Some x) (at q))) e
+
+      it : threshold_of (with_it p) ≡ x.threshold
+      it = ap (λ b. threshold_of (cond b (Some x) (at p))) (eq-eqb p p refl)
+
+      rehung-on : (j q : ℕ) → is_on q (thread j new) ≡ is_home stamps j (with_it q)
+      rehung-on j q = elim (eqb_tells j k) [
+        | inl at_k ↦
+            ap (λ i. is_on q (thread i new)) at_k.1 ∙ ap (is_on q) here ∙ on-insert q p before behind
+            ∙ ap (λ l. nat_eq p q || is_on q l) (sym is) ∙ ap (λ b. nat_eq p q || b) (h.hung k q)
+            ∙ elim (eqb_tells q p) [
+              | inl same ↦ let turned : nat_eq p q ≡ true = eq-eqb p q (sym same.1) in let yes : nat_eq (home stamps x.ct x.due) j ≡ true =
+                  eq-eqb (home stamps x.ct x.due) j
+                  (sym home_is ∙ sym at_k.1) in
+                  rw (turned, same.0, yes) refl
+              | inr differ ↦ let turned : nat_eq p q ≡ false = ne_eqb p q (λ e. differ.1 (sym e)) in
+                  rw (turned, differ.0) (ap (λ i. is_home stamps i (at q)) (sym at_k.1))
+            ]
+        | inr not_k ↦
+            ap (is_on q) (other j not_k.1) ∙ h.hung j q ∙ elim (eqb_tells q p) [
+              | inl same ↦
+                  let none : at q ≡ None = ap at same.1 ∙ empty in
+                  let no : nat_eq (home stamps x.ct x.due) j ≡ false =
+                  ne_eqb (home stamps x.ct x.due) j (λ e. not_k.1 (sym e ∙ sym home_is)) in
+                  rw (none, same.0, no) refl
+              | inr differ ↦ rw differ.0 refl
+            ]
+      ]
+
+      -- a list of the old places keeps its order
+      kept_order : (zs : List ℕ) → ((q : ℕ) → is_on q zs ≡ true → nat_eq q p ≡ false) → Ascending at zs → Ascending with_it zs
+      kept_order zs away a = asc-same at with_it zs (λ q on. same_at q (away q on)) a
+
+      two-apart : (j : ℕ) (q : ℕ) → is_on q (thread (2 * j) w ++ thread (2 * j + 1) w) ≡ true → nat_eq q p ≡ false
+      two-apart j q on = elim (on-either q (thread (2 * j) w) (thread (2 * j + 1) w) on) [
+        | inl a ↦ apart q (2 * j) a
+        | inr b ↦ apart q (2 * j + 1) b
+      ]
+
+      rehung-ordered : (j : ℕ) → j < length stamps → Ascending with_it (thread (2 * j) new ++ thread (2 * j + 1) new)
+      rehung-ordered j lt = elim (eqb_tells (2 * j) k) [
+        | inl due ↦
+            let first : thread (2 * j) new ≡ before ++ p ∷ behind = ap (λ i. thread i new) due.1 ∙ here in
+            let second : thread (2 * j + 1) new ≡ thread (2 * j + 1) w =
+            other (2 * j + 1) (λ e. let eq : 2 * j + 1 ≡ 2 * j = e ∙ sym due.1 in omega (arith, eq)) in
+            let old : thread (2 * j) w ++ thread (2 * j + 1) w ≡ before ++ (behind ++ thread (2 * j + 1) w) =
+            ap (λ l. l ++ thread (2 * j + 1) w) (ap (λ i. thread i w) due.1 ∙ is) ∙ append_assoc before behind (thread (2 * j + 1) w) in
+            let now : thread (2 * j) new ++ thread (2 * j + 1) new ≡ before ++ p ∷ (behind ++ thread (2 * j + 1) w) =
+            (λ i. first i ++ second i) ∙ append_assoc before (p ∷ behind) (thread (2 * j + 1) w) in
+            let away = λ (q : ℕ) (on : is_on q (before ++ (behind ++ thread (2 * j + 1) w)) ≡ true). two-apart j q (ap (is_on q) old ∙ on) in
+            subst (Ascending with_it) (sym now) (asc-insert with_it p before (behind ++ thread (2 * j + 1) w)
+            (kept_order (before ++ (behind ++ thread (2 * j + 1) w)) away (subst (Ascending at) old (h.ordered j lt)))
+            (λ q on. let le = fit.due_below j (sym due.1) lt q on in let s =
+            same_at q (away q (on-left q before
+            (behind ++ thread (2 * j + 1) w) on)) in omega (arith, le, s, it))
+            (λ q on. let le = fit.due_above j (sym due.1) lt q on in let s =
+            same_at q (away q (on-right q before
+            (behind ++ thread (2 * j + 1) w) on)) in omega (arith, le, s, it)))
+        | inr not_due ↦ elim (eqb_tells (2 * j + 1) k) [
+          | inl waiting ↦
+              let first : thread (2 * j) new ≡ thread (2 * j) w = other (2 * j) not_due.1 in
+              let second : thread (2 * j + 1) new ≡ before ++ p ∷ behind = ap (λ i. thread i new) waiting.1 ∙ here in
+              let front = thread (2 * j) w ++ before in
+              let old : thread (2 * j) w ++ thread (2 * j + 1) w ≡ front ++ behind =
+              ap (λ l. thread (2 * j) w ++ l) (ap (λ i. thread i w) waiting.1 ∙ is) ∙ sym (append_assoc (thread (2 * j) w) before behind) in
+              let now : thread (2 * j) new ++ thread (2 * j + 1) new ≡ front ++ p ∷ behind = (λ i. first i ++ second i)
+              ∙ sym (append_assoc (thread (2 * j) w) before (p ∷ behind)) in
+              let away = λ (q : ℕ) (on : is_on q (front ++ behind) ≡ true). two-apart j q (ap (is_on q) old ∙ on) in
+              subst (Ascending with_it) (sym now) (asc-insert with_it p front behind
+              (kept_order (front ++ behind) away (subst (Ascending at) old (h.ordered j lt)))
+              (λ q on. let le = fit.waiting_below j (sym waiting.1) lt q on in let s = same_at q (away q (on-left q front behind on)) in
+              omega (arith, le, s, it))
+              (λ q on. let le = fit.waiting_above j (sym waiting.1) lt q on in let s = same_at q (away q (on-right q front behind on)) in
+              omega (arith, le, s, it)))
+          | inr neither ↦
+              subst (Ascending with_it) (λ i. sym (other (2 * j) not_due.1) i ++ sym (other (2 * j + 1) neither.1) i)
+              (kept_order (thread (2 * j) w ++ thread (2 * j + 1) w) (two-apart j) (h.ordered j lt))
+        ]
+      ]
+
+      pub rehung : IsHung (λ q. cond (nat_eq q p) (Some x) (at q)) new stamps
+      rehung = record {
+        many = ap length set_is ∙ length-set w.threads k (before ++ p ∷ behind) ∙ h.many;
+        hung = rehung-on;
+        ordered = rehung-ordered;
+      }
 
 -- what says the same of each place
 pub hung-same : (at new : ℕ → Option Wait) (w : Woven) (stamps : List ℕ) → ((q : ℕ) → new q ≡ at q) → IsHung at w stamps →
@@ -427,9 +427,9 @@ next-rest None ps = refl
 next-rest (Some q) [] = refl
 next-rest (Some q) (p ∷ ps) = elim (nat_eq p q) as (λ b. cond b (first_place ps) (place_after q ps) ≡ first_place
     (cond b ps (rest_after (Some q) ps))) [
-  | true ↦ refl
-  | false ↦ next-rest (Some q) ps
-]
+      | true ↦ refl
+      | false ↦ next-rest (Some q) ps
+    ]
 
 or_false : (a b : Bool) → (a || b) ≡ false → (a ≡ false) × (b ≡ false)
 or_false true b e = cc
@@ -561,7 +561,7 @@ next-on None (p ∷ ps) q e = let same : p ≡ q = cc in ap (λ b. b || is_on q 
 next-on (Some r) [] q e = cc
 next-on (Some r) (p ∷ ps) q e =
     or_right (nat_eq p q) (is_on q ps) (elim (nat_eq p r) as (λ b. cond b (first_place ps) (place_after r ps) ≡ Some q →
-        is_on q ps ≡ true) [
+    is_on q ps ≡ true) [
       | true ↦ λ f. next-on None ps q f
       | false ↦ λ f. next-on (Some r) ps q f
     ] e)

@@ -1,6 +1,6 @@
 -- What always holds of the pending operations, after each call.
-use Rattle.std.proofs.Common.{◌≡◌, ℕ, suc, ◌+◌, ◌*◌, ◌/◌, ◌^◌, ◌<◌, ◌≤◌, true, false, cond, List, [], ◌∷◌, ◌++◌, map, filter, find, length,
-    get_or, replicate, Option, Some, None, refl, sym, ap, subst, ◌∙◌, inl, inr, arith, length-append}
+use Rattle.std.proofs.Common.{◌≡◌, ℕ, suc, ◌+◌, ◌*◌, ◌/◌, ◌^◌, ◌<◌, ◌≤◌, true, false, cond, List, [], ◌∷◌, ◌++◌, map, filter, find, length}
+use Rattle.std.proofs.Common.{get_or, replicate, Option, Some, None, refl, sym, ap, subst, ◌∙◌, inl, inr, arith, length-append}
 use Rattle.std.specs.Prelude.{All, AllPairs, is_some, option_map, slice_get}
 use Rattle.std.proofs.lemmas.List.{length-map}
 use Rattle.std.proofs.lemmas.List.Elements.{All-nil, All-head, All-tail, All-push, All-weaker}
@@ -12,8 +12,8 @@ use Rattle.chain_list.specs.threads.Threads.{Woven, woven}
 use Rattle.triggered_ops.specs.declared.spots.Spot.{Spot}
 use Rattle.triggered_ops.specs.Operations.{Operation, Operations, IsKept, operation_at, is_number, is_due, is_due_op, waits_on, told_if}
 use Rattle.triggered_ops.specs.Hung.{WaitsOn, IsHung, IsLaid, IsSame, IsThinner}
-use Rattle.triggered_ops.specs.Layout.{Spotted, no_spots, numbers_of, operations_in, operations_of, operation, op_with, before_all, op_at,
-    wait_with, wait_at}
+use Rattle.triggered_ops.specs.Layout.{Spotted, no_spots, numbers_of, operations_in, operations_of, operation, op_with, before_all, op_at}
+use Rattle.triggered_ops.specs.Layout.{wait_with, wait_at}
 use Rattle.triggered_ops.proofs.Found.{all-operations, rising-operations, find-behind, found-here}
 use Rattle.triggered_ops.proofs.Entering.{none-hung}
 use Rattle.triggered_ops.proofs.Places.{same-length, wait-within, waits-is, wait_for, op-wait}
@@ -60,8 +60,8 @@ module _ {D : Type 0} where
   pub laid-posted : (s t u : Spotted D) (w v : Woven) (stamps stamps2 : List ℕ) (given limit : ℕ) → IsLaid s w stamps given limit →
       length (operations_in s.spots) < limit → IsThinner (numbers_of s.spots) (numbers_of t.spots)
       → numbers_of u.spots ≡ numbers_of t.spots ++ given ∷ [] → length t.spots < s.room → u.room ≡ s.room →
-          length (operations_in u.spots) ≡ length (operations_in s.spots) + 1 → IsHung (wait_at u.spots) v stamps2 → v.places ≡ w.places →
-          length stamps2 ≡ length stamps
+      length (operations_in u.spots) ≡ length (operations_in s.spots) + 1 → IsHung (wait_at u.spots) v stamps2 → v.places ≡ w.places →
+      length stamps2 ≡ length stamps
       → IsLaid u v stamps2 (given + 1) limit
   laid-posted s t u w v stamps stamps2 given limit l less thin numbers short room more hung places long =
       let rising = thin.rising l.rising in
@@ -114,7 +114,7 @@ module _ {D : Type 0} where
   first-due [] t all e = cc
   first-due (o ∷ os) t all e =
       elim o.due as (λ b. o.due ≡ b → slice_get (map (λ (p : Operation D). p.number) (cond b (o ∷ filter is_due os) (filter is_due os))) 0
-          ≡ Some t → is_due_op (find (is_number t) (o ∷ os)) ≡ true) [
+      ≡ Some t → is_due_op (find (is_number t) (o ∷ os)) ≡ true) [
         | true ↦ λ d f.
             let number : o.number ≡ t = cc in
             let here : is_number t o ≡ true = eq-eqb o.number t number in
@@ -135,7 +135,7 @@ module _ {D : Type 0} where
   none-due [] e t = refl
   none-due (o ∷ os) e t =
       elim o.due as (λ b. o.due ≡ b → length (cond b (o ∷ filter is_due os) (filter is_due os)) ≡ 0 →
-          is_due_op (find (is_number t) (o ∷ os)) ≡ false) [
+      is_due_op (find (is_number t) (o ∷ os)) ≡ false) [
         | true ↦ λ d f. absurd (omega (arith, f))
         | false ↦ λ d f. elim (is_number t o) as (λ b. is_due_op (cond b (Some o) (find (is_number t) os)) ≡ false) [
           | true ↦ d
@@ -170,12 +170,14 @@ module _ {D : Type 0} where
   -- ---- those that wait on a counting event
   pub waiting-found : (s : Spotted D) (p : ℕ) (ct : Handle) → AllPairs (λ a b. a < b) (numbers_of s.spots) → WaitsOn ct (wait_at s.spots p)
       → (p < length s.spots) × (option_map (waits_on ct) (find (is_number (get_or (numbers_of s.spots) p 0)) (operations_in s.spots))
-          ≡ Some true)
+      ≡ Some true)
   waiting-found s p ct rising on =
       let x = waits-is ct (wait_at s.spots p) on in
-      let lt = wait-within s.spots p (ap is_some x.1) in
-      (lt, ap (option_map (waits_on ct)) (found-here s.spots (get_or (numbers_of s.spots) p 0) p rising (lt, refl))
-          ∙ go (op_at s.spots p) (subst (WaitsOn ct) (op-wait s.spots p) on))
+      let lt = wait-within s.spots p (ap is_some x.1) in (
+        lt,
+        ap (option_map (waits_on ct)) (found-here s.spots (get_or (numbers_of s.spots) p 0) p rising (lt, refl))
+            ∙ go (op_at s.spots p) (subst (WaitsOn ct) (op-wait s.spots p) on),
+      )
     where
       go : (o : Option (Operation D)) → WaitsOn ct (option_map wait_for o) → option_map (waits_on ct) o ≡ Some true
       go None w = absurd w
@@ -191,6 +193,6 @@ module _ {D : Type 0} where
       go None n rest = rest
       go (Some d) n rest = elim (waits_on ct (operation s d)) as (λ b. waits_on ct (operation s d) ≡ b →
           cond b (operation s d ∷ filter (waits_on ct) (operations_in ss)) (filter (waits_on ct) (operations_in ss)) ≡ []) [
-        | true ↦ λ is. absurd (n is)
-        | false ↦ λ is. rest
-      ] refl
+            | true ↦ λ is. absurd (n is)
+            | false ↦ λ is. rest
+          ] refl

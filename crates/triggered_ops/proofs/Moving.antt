@@ -1,20 +1,20 @@
 -- What is known of the lists of a counting event, and what moving an operation between them keeps.
-use Rattle.std.proofs.Common.{◌≡◌, ℕ, ◌+◌, ◌*◌, ◌<◌, ◌≤◌, Bool, true, false, cond, nat_eq, ◌||◌, List, [], ◌∷◌, ◌++◌, length, Option, Some,
-    None, refl, sym, ap, subst, ◌∙◌, inl, inr, arith}
+use Rattle.std.proofs.Common.{◌≡◌, ℕ, ◌+◌, ◌*◌, ◌<◌, ◌≤◌, Bool, true, false, cond, nat_eq, ◌||◌, List, [], ◌∷◌, ◌++◌, length, Option, Some}
+use Rattle.std.proofs.Common.{None, refl, sym, ap, subst, ◌∙◌, inl, inr, arith}
 use Rattle.std.specs.Prelude.{IfSome, is_some, option_map}
 use Rattle.std.proofs.lemmas.Bool.{eq-eqb}
 use Rattle.std.proofs.lemmas.Bool.Decides.{eqb_tells}
 use Rattle.std.proofs.lemmas.List.{append_assoc, append-nil}
 use Rattle.ptl_types.specs.declared.handles.Handle.{Handle}
 use Rattle.ptl_types.specs.Handles.{same_handle}
-use Rattle.chain_list.specs.threads.Threads.{Woven, thread, is_on, is_threaded, first_place, last_place, without, without_place, with_place,
-    with_place_after}
+use Rattle.chain_list.specs.threads.Threads.{Woven, thread, is_on, is_threaded, first_place, last_place, without, without_place, with_place}
+use Rattle.chain_list.specs.threads.Threads.{with_place_after}
 use Rattle.chain_list.proofs.threads.ThreadLemmas.{on_one, off_all}
 use Rattle.triggered_ops.specs.declared.spots.Wait.{Wait}
 use Rattle.triggered_ops.specs.Hung.{belongs, home, threshold_of, Ascending, IsHung, WaitsOn}
-use Rattle.triggered_ops.proofs.Hanging.{on-either, on-here, on-one, left-on, first-cons, first-none, last-snoc, last-none, asc-left,
-    asc-right, asc-above, asc-below, thread-without, handle-same, belongs-within, belongs-same, home-due, home-waiting, home-within,
-    hung-home, home-hung, none-on, unhung, rehung, hung-same}
+use Rattle.triggered_ops.proofs.Hanging.{on-either, on-here, on-one, left-on, first-cons, first-none, last-snoc, last-none, asc-left}
+use Rattle.triggered_ops.proofs.Hanging.{asc-right, asc-above, asc-below, thread-without, handle-same, belongs-within, belongs-same}
+use Rattle.triggered_ops.proofs.Hanging.{home-due, home-waiting, home-within, hung-home, home-hung, none-on, unhung, rehung, hung-same}
 use Rattle.triggered_ops.proofs.Places.{with_due, waits-is, is-waits}
 
 -- ---- which list says what
@@ -22,22 +22,22 @@ module _ (stamps : List ℕ) (c : Handle) (d : Bool) (s : ℕ) where
   pub home-back_waiting : home stamps c d ≡ 2 * s + 1 → (belongs stamps c ≡ true) × (c.slot ≡ s) × (d ≡ false)
   home-back_waiting e = elim (belongs stamps c) as (λ b. belongs stamps c ≡ b → cond b (2 * c.slot + cond d 0 1) (2 * length stamps) ≡ 2 *
       s + 1 → (belongs stamps c ≡ true) × (c.slot ≡ s) × (d ≡ false)) [
-    | true ↦ λ is f. elim d as (λ v. 2 * c.slot + cond v 0 1 ≡ 2 * s + 1 → (belongs stamps c ≡ true) × (c.slot ≡ s) × (v ≡ false)) [
-      | true ↦ λ g. absurd (omega (arith, g))
-      | false ↦ λ g. (is, omega (arith, g), refl)
-    ] f
-    | false ↦ λ is f. absurd (omega (arith, f))
-  ] refl e
+        | true ↦ λ is f. elim d as (λ v. 2 * c.slot + cond v 0 1 ≡ 2 * s + 1 → (belongs stamps c ≡ true) × (c.slot ≡ s) × (v ≡ false)) [
+          | true ↦ λ g. absurd (omega (arith, g))
+          | false ↦ λ g. (is, omega (arith, g), refl)
+        ] f
+        | false ↦ λ is f. absurd (omega (arith, f))
+      ] refl e
 
   pub home-back_due : s < length stamps → home stamps c d ≡ 2 * s → (belongs stamps c ≡ true) × (c.slot ≡ s) × (d ≡ true)
   home-back_due lt e = elim (belongs stamps c) as (λ b. belongs stamps c ≡ b → cond b (2 * c.slot + cond d 0 1) (2 * length stamps) ≡ 2 *
       s → (belongs stamps c ≡ true) × (c.slot ≡ s) × (d ≡ true)) [
-    | true ↦ λ is f. elim d as (λ v. 2 * c.slot + cond v 0 1 ≡ 2 * s → (belongs stamps c ≡ true) × (c.slot ≡ s) × (v ≡ true)) [
-      | true ↦ λ g. (is, omega (arith, g), refl)
-      | false ↦ λ g. absurd (omega (arith, g))
-    ] f
-    | false ↦ λ is f. absurd (omega (arith, f, lt))
-  ] refl e
+        | true ↦ λ is f. elim d as (λ v. 2 * c.slot + cond v 0 1 ≡ 2 * s → (belongs stamps c ≡ true) × (c.slot ≡ s) × (v ≡ true)) [
+          | true ↦ λ g. (is, omega (arith, g), refl)
+          | false ↦ λ g. absurd (omega (arith, g))
+        ] f
+        | false ↦ λ is f. absurd (omega (arith, f, lt))
+      ] refl e
 
 module _ (at : ℕ → Option Wait) (w : Woven) (stamps : List ℕ) (h : IsHung at w stamps) where
   pub waits-on : (k p : ℕ) → is_on p (thread k w) ≡ true → is_some (at p) ≡ true
@@ -109,7 +109,7 @@ module _ (at : ℕ → Option Wait) (w : Woven) (stamps : List ℕ) (h : IsHung 
 
     pub none-waiting : first_place waiting ≡ None → (p : ℕ) (x : Wait) → at p ≡ Some x → same_handle x.ct ct ≡ true → x.due ≡ false → ⊥
     none-waiting e p x f is d = let on : is_on p [] ≡ true = subst (λ l. is_on p l ≡ true) (first-none waiting e) (on-waiting p x f is d)
-                                      in cc
+        in cc
 
     pub none-due : last_place due ≡ None → (p : ℕ) (x : Wait) → at p ≡ Some x → same_handle x.ct ct ≡ true → x.due ≡ true → ⊥
     none-due e p x f is d = let on : is_on p [] ≡ true = subst (λ l. is_on p l ≡ true) (last-none due e) (on-due p x f is d) in cc
@@ -123,7 +123,7 @@ module _ (at : ℕ → Option Wait) (w : Woven) (stamps : List ℕ) (h : IsHung 
         let here : threshold_of (at p) ≡ x.threshold = ap threshold_of f in
         elim (on-either p (q ∷ []) c.0 on) [
           | inl first ↦ let same = on-one p q first in let t : threshold_of (at q) ≡ threshold_of (at p) =
-                                                             ap (λ i. threshold_of (at i)) same in omega (arith, lt, here, t)
+              ap (λ i. threshold_of (at i)) same in omega (arith, lt, here, t)
           | inr later ↦ let le = asc.0 p later in omega (arith, lt, here, le)
         ]
 
@@ -137,7 +137,7 @@ module _ (at : ℕ → Option Wait) (w : Woven) (stamps : List ℕ) (h : IsHung 
         elim (on-either p c.0 (q ∷ []) on) [
           | inl before ↦ let b = asc-below at c.0 q [] asc p before in omega (arith, le, here, b)
           | inr last ↦ let same = on-one p q last in let t : threshold_of (at q) ≡ threshold_of (at p) =
-                                                           ap (λ i. threshold_of (at i)) same in omega (arith, le, here, t)
+              ap (λ i. threshold_of (at i)) same in omega (arith, le, here, t)
         ]
 
     -- the first of a list waits on it
@@ -202,7 +202,7 @@ module _ (at : ℕ → Option Wait) (w : Woven) (stamps : List ℕ) (h : IsHung 
           hung-same (λ q. cond (nat_eq q p) (Some (with_due true x.0)) (off q)) new w2 stamps (moved_at true x.0 new x.1 n)
           (rehung off left stamps hung_left k p (with_due true x.0) (thread k left) [] w2
           (sym (home-due stamps x.0.ct back.0 ∙ ap (λ s. 2 * s) back.1)) empty (ap (λ (v : Woven). v.threads) is)
-              (sym (append-nil (thread k left))) (record {
+          (sym (append-nil (thread k left))) (record {
             due_below = λ j ej lt q on.
                 let was = left-on q p due (subst (λ l. is_on q l ≡ true) (thread-without k p w) on) in
                 let le = asc-below at due p c.0 asc q was.1 in
@@ -211,7 +211,7 @@ module _ (at : ℕ → Option Wait) (w : Woven) (stamps : List ℕ) (h : IsHung 
             due_above = λ j ej lt q on.
                 let sj : j ≡ ct.slot = omega (arith, ej) in
                 let there : is_on q (without p waiting) ≡ true =
-                      subst (λ l. is_on q l ≡ true) (ap (λ i. thread (2 * i + 1) left) sj ∙ thread-without (2 * ct.slot + 1) p w) on in
+                subst (λ l. is_on q l ≡ true) (ap (λ i. thread (2 * i + 1) left) sj ∙ thread-without (2 * ct.slot + 1) p w) on in
                 let was = left-on q p waiting there in
                 let le = asc-above at due p c.0 asc q (elim (on-either q (p ∷ []) c.0 (subst (λ l. is_on q l ≡ true) c.1 was.1)) [
                   | inl first ↦ let same = on-one q p first in let no : nat_eq q p ≡ true = eq-eqb q p (sym same) in
@@ -233,7 +233,7 @@ module _ (at : ℕ → Option Wait) (w : Woven) (stamps : List ℕ) (h : IsHung 
           let k = 2 * ct.slot + 1 in
           let c = last-snoc due p e in
           let asc : Ascending at (c.0 ++ p ∷ waiting) = subst (Ascending at) (ap (λ l. l ++ waiting) c.1
-                ∙ append_assoc c.0 (p ∷ []) waiting) sorted in
+          ∙ append_assoc c.0 (p ∷ []) waiting) sorted in
           let here : threshold_of (at p) ≡ x.0.threshold = ap threshold_of x.1 in
           hung-same (λ q. cond (nat_eq q p) (Some (with_due false x.0)) (off q)) new w2 stamps (moved_at false x.0 new x.1 n)
           (rehung off left stamps hung_left k p (with_due false x.0) [] (thread k left) w2
@@ -243,13 +243,13 @@ module _ (at : ℕ → Option Wait) (w : Woven) (stamps : List ℕ) (h : IsHung 
             waiting_below = λ j ej lt q on.
                 let sj : j ≡ ct.slot = omega (arith, ej) in
                 let there : is_on q (without p due) ≡ true =
-                      subst (λ l. is_on q l ≡ true) (append-nil (thread (2 * j) left) ∙ ap (λ i. thread (2 * i) left) sj
-                      ∙ thread-without (2 * ct.slot) p w) on in
+                subst (λ l. is_on q l ≡ true) (append-nil (thread (2 * j) left) ∙ ap (λ i. thread (2 * i) left) sj
+                ∙ thread-without (2 * ct.slot) p w) on in
                 let was = left-on q p due there in
                 let le = asc-below at c.0 p waiting asc q (elim (on-either q c.0 (p ∷ []) (subst (λ l. is_on q l ≡ true) c.1 was.1)) [
                   | inl before ↦ before
                   | inr last ↦ let same = on-one q p last in let no : nat_eq q p ≡ true = eq-eqb q p (sym same) in let f : true ≡ false =
-                                                                                                                         sym no ∙ was.0 in cc
+                      sym no ∙ was.0 in cc
                 ]) in
                 let s = same_off q was.0 in
                 omega (arith, le, here, s);

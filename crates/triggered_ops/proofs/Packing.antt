@@ -1,6 +1,7 @@
 -- What moving operations to earlier places, and giving the last places free, leaves of them.
-use Rattle.std.proofs.Common.{◌≡◌, ◌≢◌, ℕ, zero, suc, ◌+◌, ◌-◌, ◌^◌, ◌<◌, ◌≤◌, true, false, cond, nat_eq, List, [], ◌∷◌, ◌++◌, map, length,
-    take, drop, get_or, set, replicate, Option, Some, None, refl, sym, ap, subst, ◌∙◌, inl, inr, arith, length-set}
+use Rattle.std.proofs.Common.{◌≡◌, ◌≢◌, ℕ, zero, suc, ◌+◌, ◌-◌, ◌^◌, ◌<◌, ◌≤◌, true, false, cond, nat_eq, List, [], ◌∷◌, ◌++◌, map, length}
+use Rattle.std.proofs.Common.{take, drop, get_or, set, replicate, Option, Some, None, refl, sym, ap, subst, ◌∙◌, inl, inr, arith}
+use Rattle.std.proofs.Common.{length-set}
 use Rattle.std.specs.Prelude.{All, AllPairs, is_some}
 use Rattle.std.specs.List.{swap}
 use Rattle.std.proofs.lemmas.Bool.{cases_lt, ne_eqb}
@@ -12,8 +13,8 @@ use Rattle.chain_list.specs.threads.Threads.{Woven}
 use Rattle.triggered_ops.specs.declared.spots.Spot.{Spot}
 use Rattle.triggered_ops.specs.Operations.{Operation}
 use Rattle.triggered_ops.specs.Hung.{IsHung, IsPacking, IsThinner}
-use Rattle.triggered_ops.specs.Layout.{Spotted, numbers_of, op_with, op_of, before_all, operations_in, wait_with, wait_of, wait_at, packed,
-    mark_with, dues_of, AreGone}
+use Rattle.triggered_ops.specs.Layout.{Spotted, numbers_of, op_with, op_of, before_all, operations_in, wait_with, wait_of, wait_at, packed}
+use Rattle.triggered_ops.specs.Layout.{mark_with, dues_of, AreGone}
 use Rattle.triggered_ops.proofs.Places.{wait-past, count_with, set-count, append-operations, wait-get}
 use Rattle.triggered_ops.proofs.Rising.{pairs-head, pairs-tail}
 
@@ -75,7 +76,7 @@ pairs-out : (xs : List ℕ) (x : ℕ) (ys : List ℕ) → AllPairs (λ a b. a < 
 pairs-out [] x ys all = pairs-tail Lower x ys all
 pairs-out (z ∷ xs) x ys all =
     AllPairs-cons Lower z (xs ++ ys) (all-out (λ n. z < n) xs x ys (pairs-head Lower z (xs ++ x ∷ ys) all))
-        (pairs-out xs x ys (pairs-tail Lower z (xs ++ x ∷ ys) all))
+    (pairs-out xs x ys (pairs-tail Lower z (xs ++ x ∷ ys) all))
 
 pub thin-out : (xs : List ℕ) (x : ℕ) (ys : List ℕ) → IsThinner (xs ++ x ∷ ys) (xs ++ ys)
 thin-out xs x ys = record { rising = pairs-out xs x ys; below = λ n. all-out (λ a. a < n) xs x ys }
@@ -128,14 +129,14 @@ module _ {D : Type 0} where
     swap-wait q =
         ap (λ l. wait_at l q) is ∙ wait-set half to (get_or ss from d) q (omega (arith, low, length-half))
         ∙ (λ i. cond (nat_eq q to) (sym (wait-get ss from d within) i)
-            ((wait-set ss from (get_or ss to d) q within ∙ ap (λ o. cond (nat_eq q from) o (wait_at ss q)) (sym (wait-get ss to d low))) i))
+        ((wait-set ss from (get_or ss to d) q within ∙ ap (λ o. cond (nat_eq q from) o (wait_at ss q)) (sym (wait-get ss to d low))) i))
 
     pub swap-dues : (v : ℕ) → mark_with (get_or ss to d).due (get_or ss to d).deed ≡ 0 →
         mark_with (get_or ss from d).due (get_or ss from d).deed ≡ v → dues_of (swap ss from to) ≡ set (set (dues_of ss) from 0) to v
     swap-dues v none some =
         let mark : Spot D → ℕ = λ s. mark_with s.due s.deed in
         ap dues_of is ∙ map-set mark half to (get_or ss from d)
-            ∙ (λ i. set ((map-set mark ss from (get_or ss to d) ∙ ap (set (dues_of ss) from) none) i) to (some i))
+        ∙ (λ i. set ((map-set mark ss from (get_or ss to d) ∙ ap (set (dues_of ss) from) none) i) to (some i))
 
     pub swap-length : length (swap ss from to) ≡ length ss
     swap-length = ap length is ∙ length-set half to (get_or ss from d) ∙ length-half
@@ -152,13 +153,13 @@ module _ {D : Type 0} where
     pub swap-packed : (k p : ℕ) → k ≡ suc to → p ≡ suc from → packed k p (swap ss from to) ≡ packed to from ss
     swap-packed k p ek ep =
         let front : take (suc to) (set half to (get_or ss from d)) ≡ take to ss ++ get_or ss from d ∷ [] =
-              take-set-end half to (get_or ss from d) (omega (arith, low, length-half))
-              ∙ ap (λ l. l ++ get_or ss from d ∷ []) (take-set-later ss to from (get_or ss to d) (omega (arith, order))) in
+        take-set-end half to (get_or ss from d) (omega (arith, low, length-half))
+        ∙ ap (λ l. l ++ get_or ss from d ∷ []) (take-set-later ss to from (get_or ss to d) (omega (arith, order))) in
         let back : drop (suc from) (set half to (get_or ss from d)) ≡ drop (suc from) ss =
-              drop-set-earlier half from to (get_or ss from d) (omega (arith, order)) ∙ drop-set-earlier ss from from (get_or ss to d)
-              (omega arith) in
+        drop-set-earlier half from to (get_or ss from d) (omega (arith, order)) ∙ drop-set-earlier ss from from (get_or ss to d)
+        (omega arith) in
         (λ i. packed (ek i) (ep i) (is i)) ∙ (λ i. front i ++ back i) ∙ append_assoc (take to ss) (get_or ss from d ∷ [])
-            (drop (suc from) ss) ∙ ap (λ l. take to ss ++ l) (sym (drop-get ss from d within))
+        (drop (suc from) ss) ∙ ap (λ l. take to ss ++ l) (sym (drop-get ss from d within))
 
   -- ---- a place is passed
   gone : (s : Spot D) (o : Option D) (os : List (Operation D)) → wait_with s o ≡ None → before_all (op_with s o) os ≡ os
@@ -171,9 +172,9 @@ module _ {D : Type 0} where
       let s = get_or ss place d in
       let ys = drop (suc place) ss in
       let out : before_all (op_of s) (operations_in ys) ≡ operations_in ys =
-            gone s s.deed (operations_in ys) (sym (wait-get ss place d lt) ∙ none) in
+      gone s s.deed (operations_in ys) (sym (wait-get ss place d lt) ∙ none) in
       ap (λ n. operations_in (packed kept n ss)) e ∙ append-operations (take kept ss) ys
-          ∙ ap (λ l. operations_in (take kept ss) ++ l) (sym out) ∙ sym (append-operations (take kept ss) (s ∷ ys))
+      ∙ ap (λ l. operations_in (take kept ss) ++ l) (sym out) ∙ sym (append-operations (take kept ss) (s ∷ ys))
       ∙ ap (λ l. operations_in (take kept ss ++ l)) (sym (drop-get ss place d lt))
 
   pub passed-thin : (ss : List (Spot D)) (kept place next : ℕ) (d : Spot D) → next ≡ suc place → place < length ss →
@@ -183,12 +184,12 @@ module _ {D : Type 0} where
       let s = get_or ss place d in
       let ys = drop (suc place) ss in
       let old : numbers_of (packed kept place ss) ≡ map number (take kept ss) ++ s.number ∷ map number ys =
-            ap (λ l. map number (take kept ss ++ l)) (drop-get ss place d lt) ∙ map-append number (take kept ss) (s ∷ ys) in
+      ap (λ l. map number (take kept ss ++ l)) (drop-get ss place d lt) ∙ map-append number (take kept ss) (s ∷ ys) in
       let new : numbers_of (packed kept next ss) ≡ map number (take kept ss) ++ map number ys = ap (λ n. numbers_of (packed kept n ss)) e
-            ∙ map-append number (take kept ss) ys in
+      ∙ map-append number (take kept ss) ys in
       subst (λ l. IsThinner l (numbers_of (packed kept next ss))) (sym old)
-          (subst (IsThinner (map number (take kept ss) ++ s.number ∷ map number ys)) (sym new)
-          (thin-out (map number (take kept ss)) s.number (map number ys)))
+      (subst (IsThinner (map number (take kept ss) ++ s.number ∷ map number ys)) (sym new)
+      (thin-out (map number (take kept ss)) s.number (map number ys)))
 
   pub passed-both : (ss : List (Spot D)) (k p k2 p2 : ℕ) → k ≡ p → k2 ≡ p2 → packed k2 p2 ss ≡ packed k p ss
   passed-both ss k p k2 p2 e f = (λ i. packed (f i) p2 ss) ∙ whole ss p2 ∙ sym (whole ss p) ∙ (λ i. packed (sym e i) p ss)
@@ -225,7 +226,7 @@ module _ {D : Type 0} where
   dues-take (s ∷ ss) (suc len) g =
       let n : length ss - length (take len ss) ≡ suc (length ss) - suc (length (take len ss)) = omega arith in
       ap (λ r. mark_with s.due s.deed ∷ r) (dues-take ss len (λ p le. g (suc p) (omega (arith, le))))
-          ∙ ap (λ m. mark_with s.due s.deed ∷ (dues_of (take len ss) ++ replicate m 0)) n
+      ∙ ap (λ m. mark_with s.due s.deed ∷ (dues_of (take len ss) ++ replicate m 0)) n
 
   length-take : (ss : List (Spot D)) (len : ℕ) → length (take len ss) ≤ length ss
   length-take ss zero = omega arith
@@ -332,12 +333,12 @@ packed-end ss kept place le = ap (λ l. take kept ss ++ l) (drop-all ss place le
 pub packing-carry : {D : Type 0} (old new : Spotted D) (w w2 : Woven) (stamps : List ℕ) (kept place more next : ℕ) (d : Spot D) →
     more ≡ suc kept → next ≡ suc place → kept < place → IsPacking old w stamps kept place → place < length old.spots
     → is_some (wait_at old.spots place) ≡ true → IsHung (wait_at new.spots) w2 stamps → w2.places ≡ w.places →
-        new.spots ≡ swap old.spots place kept → IsPacking new w2 stamps more next
+    new.spots ≡ swap old.spots place kept → IsPacking new w2 stamps more next
 packing-carry old new w w2 stamps kept place more next d em en lt p within some h places is =
     let empty : wait_at old.spots kept ≡ None = p.free kept (omega arith) lt in
     let long : length new.spots ≡ length old.spots = ap length is ∙ swap-length old.spots place kept lt within d in
     let at : (q : ℕ) → wait_at new.spots q ≡ cond (nat_eq q kept) (wait_at old.spots place)
-          (cond (nat_eq q place) (wait_at old.spots kept) (wait_at old.spots q)) =
+    (cond (nat_eq q place) (wait_at old.spots kept) (wait_at old.spots q)) =
     λ q. ap (λ l. wait_at l q) is ∙ swap-wait old.spots place kept lt within d q in
     record {
       hung = h;

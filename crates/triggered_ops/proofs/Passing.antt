@@ -1,14 +1,14 @@
 -- A walk over the places: which operation stands at a position among those that wait, and what is shown of the first from a number on.
-use Rattle.std.proofs.Common.{◌≡◌, ℕ, zero, suc, ◌+◌, ◌<◌, ◌≤◌, true, false, List, [], ◌∷◌, find, length, drop, get_or, Option, Some, None,
-    refl, sym, ap, subst, ◌∙◌, inl, inr, arith}
+use Rattle.std.proofs.Common.{◌≡◌, ℕ, zero, suc, ◌+◌, ◌<◌, ◌≤◌, true, false, List, [], ◌∷◌, find, length, drop, get_or, Option, Some, None}
+use Rattle.std.proofs.Common.{refl, sym, ap, subst, ◌∙◌, inl, inr, arith}
 use Rattle.std.specs.Prelude.{All, AllPairs, IfSome, IfNone, is_some, option_map, slice_get}
 use Rattle.std.proofs.lemmas.Bool.{cases_lt}
 use Rattle.std.proofs.lemmas.Bool.Decides.{eqb_tells}
 use Rattle.ptl_types.specs.declared.handles.Handle.{Handle}
 use Rattle.triggered_ops.specs.declared.spots.Spot.{Spot}
 use Rattle.triggered_ops.specs.Operations.{Operation, shown, numbered, is_number}
-use Rattle.triggered_ops.specs.Layout.{numbers_of, operation, op_with, before_all, operations_in, op_at, wait_with, wait_at, is_from,
-    AreGone}
+use Rattle.triggered_ops.specs.Layout.{numbers_of, operation, op_with, before_all, operations_in, op_at, wait_with, wait_at, is_from}
+use Rattle.triggered_ops.specs.Layout.{AreGone}
 use Rattle.triggered_ops.proofs.Places.{wait-past, wait-within, wait_for, op-wait, op-some}
 use Rattle.triggered_ops.proofs.Found.{all-operations, rising-operations, first-from, none-from}
 use Rattle.triggered_ops.proofs.Rising.{found-by_number, from-least, from-alone, find_has}
@@ -53,7 +53,7 @@ module _ {D : Type 0} where
       IsPassed ss i next left
   passed-none ss i p left next e a none =
       let out : operations_in (drop p ss) ≡ operations_in (drop next ss) = drop-none ss p none
-            ∙ ap (λ n. operations_in (drop n ss)) (sym e) in
+      ∙ ap (λ n. operations_in (drop n ss)) (sym e) in
       record { same = a.same ∙ ap (λ l. slice_get l left) out; long = a.long ∙ ap (λ l. length l + i) out }
 
   pub passed-some : (ss : List (Spot D)) (i p left next less : ℕ) → next ≡ suc p → left ≡ suc less → IsPassed ss i p left →
@@ -61,7 +61,7 @@ module _ {D : Type 0} where
   passed-some ss i p left next less e f a some =
       let here = drop-some ss p some in
       let out : operations_in (drop p ss) ≡ here.0 ∷ operations_in (drop next ss) = here.2
-            ∙ ap (λ n. here.0 ∷ operations_in (drop n ss)) (sym e) in
+      ∙ ap (λ n. here.0 ∷ operations_in (drop n ss)) (sym e) in
       let n = ap length out in
       record { same = a.same ∙ (λ j. slice_get (out j) (f j)); long = omega (arith, a.long, n, f) }
 
@@ -175,8 +175,8 @@ module _ {D : Type 0} where
         let s = shown_one r e in
         let number : s.0.number ≡ (f r).0 = ap (λ (t : ℕ × D × Handle × ℕ). t.0) s.2 in
         ap (λ t. option_map numbered (find (is_number t) (operations_in ss))) (sym number)
-            ∙ ap (option_map numbered) (found-by_number (is_from n) (operations_in ss) s.0 (rising-operations ss rising) s.1)
-            ∙ ap (λ t. Some t) s.2
+        ∙ ap (option_map numbered) (found-by_number (is_from n) (operations_in ss) s.0 (rising-operations ss rising) s.1)
+        ∙ ap (λ t. Some t) s.2
 
     pub next-range : (given : ℕ) → All (λ a. a < given) (numbers_of ss) → (r : Option R) →
         IfSome r (λ r. option_map numbered (op_at ss q) ≡ Some (f r)) → IfSome r (λ r. (n ≤ (f r).0) × ((f r).0 < given))
@@ -186,7 +186,7 @@ module _ {D : Type 0} where
         let number : s.0.number ≡ (f r).0 = ap (λ (t : ℕ × D × Handle × ℕ). t.0) s.2 in
         let least = from-least n (operations_in ss) s.0 s.1 in
         let low : s.0.number < given = find_has (λ (o : Operation D). o.number < given) (is_from n) (operations_in ss) s.0
-              (all-operations (λ a. a < given) ss below) s.1 in
+        (all-operations (λ a. a < given) ss below) s.1 in
         (subst (λ t. n ≤ t) number least, subst (λ t. t < given) number low)
 
     pub next-alone : AllPairs (λ a b. a < b) (numbers_of ss) → (r : Option R) →
@@ -196,11 +196,11 @@ module _ {D : Type 0} where
     next-alone rising (Some r) e =
         let s = shown_one r e in
         subst (λ t. All (λ (o : Operation D). n ≤ o.number → o.number ≤ t.0 → numbered o ≡ t) (operations_in ss)) s.2
-            (from-alone n (operations_in ss) s.0 (rising-operations ss rising) s.1)
+        (from-alone n (operations_in ss) s.0 (rising-operations ss rising) s.1)
 
   pub not-none : {R : Type 0} (ss : List (Spot D)) (q : ℕ) (P : Type 0) (r : Option R) → is_some (wait_at ss q) ≡ true →
       IfNone r (op_at ss q ≡ None) → IfNone r P
   not-none ss q P None some e = let a : is_some (op_at ss q) ≡ true = op-some ss q some in let b : is_some (op_at ss q) ≡ false =
-                                                                                                 ap is_some e in let f : true ≡ false =
-                                                                                                                       sym a ∙ b in cc
+      ap is_some e in let f : true ≡ false =
+      sym a ∙ b in cc
   not-none ss q P (Some r) some e = tt

@@ -1,6 +1,7 @@
 -- Places: what one change of them makes of what waits, of the operations, the numbers and the marks.
-use Rattle.std.proofs.Common.{◌≡◌, ◌≢◌, ℕ, zero, suc, ◌+◌, ◌-◌, ◌<◌, ◌≤◌, Bool, true, false, cond, nat_eq, List, [], ◌∷◌, ◌++◌, map, filter,
-    length, take, get_or, set, replicate, sum, Option, Some, None, refl, sym, ap, subst, ◌∙◌, inl, inr, arith, length-set}
+use Rattle.std.proofs.Common.{◌≡◌, ◌≢◌, ℕ, zero, suc, ◌+◌, ◌-◌, ◌<◌, ◌≤◌, Bool, true, false, cond, nat_eq, List, [], ◌∷◌, ◌++◌, map, filter}
+use Rattle.std.proofs.Common.{length, take, get_or, set, replicate, sum, Option, Some, None, refl, sym, ap, subst, ◌∙◌, inl, inr, arith}
+use Rattle.std.proofs.Common.{length-set}
 use Rattle.std.specs.Prelude.{is_some, option_map, slice_get}
 use Rattle.std.proofs.lemmas.Bool.Decides.{eqb_tells}
 use Rattle.std.proofs.lemmas.List.{length-map, set-append_left}
@@ -11,8 +12,8 @@ use Rattle.triggered_ops.specs.declared.spots.Spot.{Spot}
 use Rattle.triggered_ops.specs.declared.spots.Wait.{Wait}
 use Rattle.triggered_ops.specs.Operations.{Operation, is_due, deed_of}
 use Rattle.triggered_ops.specs.Hung.{threshold_of, IsSame, WaitsOn}
-use Rattle.triggered_ops.specs.Layout.{Spotted, numbers_of, operation, op_with, op_of, before_all, operations_in, op_at, wait_with, wait_of,
-    wait_at, changed, settled, emptied, mark_with, dues_of}
+use Rattle.triggered_ops.specs.Layout.{Spotted, numbers_of, operation, op_with, op_of, before_all, operations_in, op_at, wait_with, wait_of}
+use Rattle.triggered_ops.specs.Layout.{wait_at, changed, settled, emptied, mark_with, dues_of}
 
 abbrev pub with_due : Bool → Wait → Wait
 with_due due x = record x { due = due }
@@ -141,7 +142,7 @@ module _ {D : Type 0} where
       let l = length-dues ss in
       let pad : length marks - length ss ≡ length (set marks p v) - length new = omega (arith, long, length-set marks p v) in
       ap (λ m. set m p v) is ∙ set-append_left (dues_of ss) (replicate (length marks - length ss) 0) p v (omega (arith, l, lt))
-          ∙ (λ i. sym e i ++ replicate (pad i) 0)
+      ∙ (λ i. sym e i ++ replicate (pad i) 0)
 
   -- ---- how many wait
   abbrev pub count_with : Option D → ℕ
@@ -212,15 +213,15 @@ module _ {D : Type 0} where
   due-first s None os = omega arith
   due-first s (Some d) os = elim s.due as (λ b. length (cond b (operation s d ∷ filter is_due os) (filter is_due os)) ≡ cond b 1 0
       + length (filter is_due os)) [
-    | true ↦ omega arith
-    | false ↦ omega arith
-  ]
+        | true ↦ omega arith
+        | false ↦ omega arith
+      ]
 
   pub sum-dues : (ss : List (Spot D)) → sum (dues_of ss) ≡ length (filter is_due (operations_in ss))
   sum-dues [] = refl
   sum-dues (s ∷ ss) =
       sum_by-cons (λ (n : ℕ). n) (mark_with s.due s.deed) (dues_of ss) ∙ ap (λ n. mark_with s.due s.deed + n) (sum-dues ss)
-          ∙ sym (due-first s s.deed (operations_in ss))
+      ∙ sym (due-first s s.deed (operations_in ss))
 
   abbrev dues_in : List (Operation D) → List ℕ
   dues_in os = map (λ (p : Operation D). p.number) (filter is_due os)
@@ -248,17 +249,17 @@ module _ {D : Type 0} where
     where
       go : (o : Option D) → slice_get (dues_in (operations_in ss)) (sum (take p (dues_of ss ++ rest))) ≡ Some (get_or (numbers_of ss) p 0)
           → slice_get (dues_in (before_all (op_with s o) (operations_in ss))) (mark_with s.due o + sum (take p (dues_of ss ++ rest)))
-              ≡ Some (get_or (numbers_of ss) p 0)
+          ≡ Some (get_or (numbers_of ss) p 0)
       go None r = let z : 0 + sum (take p (dues_of ss ++ rest)) ≡ sum (take p (dues_of ss ++ rest)) = omega arith in
           ap (slice_get (dues_in (operations_in ss))) z ∙ r
       go (Some d) r = elim s.due as (λ b. slice_get (map (λ (p : Operation D). p.number)
           (cond b (operation s d ∷ filter is_due (operations_in ss)) (filter is_due (operations_in ss))))
           (cond b 1 0 + sum (take p (dues_of ss ++ rest))) ≡ Some (get_or (numbers_of ss) p 0)) [
-        | true ↦ let z : 1 + sum (take p (dues_of ss ++ rest)) ≡ suc (sum (take p (dues_of ss ++ rest))) = omega arith in
-            ap (slice_get ((operation s d).number ∷ dues_in (operations_in ss))) z ∙ r
-        | false ↦ let z : 0 + sum (take p (dues_of ss ++ rest)) ≡ sum (take p (dues_of ss ++ rest)) = omega arith in
-            ap (slice_get (dues_in (operations_in ss))) z ∙ r
-      ]
+            | true ↦ let z : 1 + sum (take p (dues_of ss ++ rest)) ≡ suc (sum (take p (dues_of ss ++ rest))) = omega arith in
+                ap (slice_get ((operation s d).number ∷ dues_in (operations_in ss))) z ∙ r
+            | false ↦ let z : 0 + sum (take p (dues_of ss ++ rest)) ≡ sum (take p (dues_of ss ++ rest)) = omega arith in
+                ap (slice_get (dues_in (operations_in ss))) z ∙ r
+          ]
 
   -- ---- one that is settled
   pub settled-length : (p : ℕ) (v : Bool) (ss : List (Spot D)) → length (settled p v ss) ≡ length ss

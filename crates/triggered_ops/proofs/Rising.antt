@@ -1,6 +1,6 @@
 -- Operations whose numbers rise: what keeps it, and finding one by its number.
-use Rattle.std.proofs.Common.{◌≡◌, ℕ, suc, ◌+◌, ◌-◌, ◌^◌, ◌<◌, ◌≤◌, Bool, true, false, not, nat_le, List, [], ◌∷◌, Option, Some, None, find,
-    filter, length, map, if◌then◌else◌, refl, ap, subst, arith}
+use Rattle.std.proofs.Common.{◌≡◌, ℕ, suc, ◌+◌, ◌-◌, ◌^◌, ◌<◌, ◌≤◌, Bool, true, false, not, nat_le, List, [], ◌∷◌, Option, Some, None, find}
+use Rattle.std.proofs.Common.{filter, length, map, if◌then◌else◌, refl, ap, subst, arith}
 use Rattle.std.specs.Prelude.{All, AllPairs, IfSome, IfNone, option_map}
 use Rattle.std.proofs.lemmas.Bool.Decides.{nat_tests}
 use Rattle.std.proofs.lemmas.List.{length-map, length_push}
@@ -10,8 +10,8 @@ use Rattle.std.proofs.lemmas.List.Quantifiers.{all_pairs_push}
 use Rattle.std.proofs.lemmas.List.Kept.{AllPairs-cons, AllPairs-filter}
 use Rattle.ptl_types.specs.declared.handles.Handle.{Handle}
 use Rattle.triggered_ops.specs.Layout.{is_from, number_of}
-use Rattle.triggered_ops.specs.Operations.{Operation, Operations, IsKept, is_number, is_due, is_due_op, operation_at, numbered, told_if,
-    told_where, with_posted, without_number}
+use Rattle.triggered_ops.specs.Operations.{Operation, Operations, IsKept, is_number, is_due, is_due_op, operation_at, numbered, told_if}
+use Rattle.triggered_ops.specs.Operations.{told_where, with_posted, without_number}
 
 -- ---- lists
 module _ {X : Type 0} where
@@ -26,7 +26,7 @@ module _ {X : Type 0} where
   AllPairs-map R f [] all = λ i j d lt within. absurd (omega arith)
   AllPairs-map R f (x ∷ xs) all =
       AllPairs-cons R (f x) (map f xs) (All-map (R (f x)) f xs (pairs-head (λ x y. R (f x) (f y)) x xs all))
-          (AllPairs-map R f xs (pairs-tail (λ x y. R (f x) (f y)) x xs all))
+      (AllPairs-map R f xs (pairs-tail (λ x y. R (f x) (f y)) x xs all))
 
   pub length-filter_le : (p : X → Bool) (xs : List X) → length (filter p xs) ≤ length xs
   length-filter_le p xs = let e = length-filter_both p (λ x. not (p x)) (λ _. refl) xs in omega (arith, e)
@@ -68,8 +68,17 @@ module _ {D : Type 0} where
     were_given = All-push (λ p. p.number < ops.given + 1) ops.waiting _
         (All-weaker (λ p. p.number < ops.given) (λ p. p.number < ops.given + 1) (λ p lt. omega arith) ops.waiting kept.were_given)
         (omega arith);
-    limited = omega (arith, length_push ops.waiting (record { number = ops.given; deed = deed; ct = ct; threshold = threshold; due =
-        nat_le threshold sum }));
+    limited = omega (
+      arith,
+      length_push ops.waiting (record {
+        number = ops.given;
+        deed = deed;
+        ct = ct;
+        threshold = threshold;
+        due =
+            nat_le threshold sum;
+      }),
+    );
     numbers = omega arith;
   }
 
@@ -93,7 +102,7 @@ module _ {D : Type 0} where
   filter-absent f [] e = refl
   filter-absent f (p ∷ ps) e =
       elim (f p) as (λ b. (if b then Some p else find f ps) ≡ None →
-          (if not b then p ∷ filter (λ q. not (f q)) ps else filter (λ q. not (f q)) ps) ≡ p ∷ ps) [
+      (if not b then p ∷ filter (λ q. not (f q)) ps else filter (λ q. not (f q)) ps) ≡ p ∷ ps) [
         | true ↦ λ is. cc
         | false ↦ λ is. ap (λ r. p ∷ r) (filter-absent f ps is)
       ] e
@@ -166,14 +175,14 @@ module _ {D : Type 0} where
   from-alone n [] p all e = cc
   from-alone n (q ∷ qs) p all e =
       elim (is_from n q) as (λ b. is_from n q ≡ b → (if b then Some q else find (is_from n) qs) ≡ Some p →
-          All (λ q. n ≤ q.number → q.number ≤ p.number → numbered q ≡ numbered p) (q ∷ qs)) [
+      All (λ q. n ≤ q.number → q.number ≤ p.number → numbered q ≡ numbered p) (q ∷ qs)) [
         | true ↦ λ passes is.
             let same : q ≡ p = cc in
             let number : q.number ≡ p.number = ap (λ (x : Operation D). x.number) same in
             All-cons (λ q. n ≤ q.number → q.number ≤ p.number → numbered q ≡ numbered p) q qs
             (λ low high. ap numbered same)
             (All-weaker (Rises q) (λ q. n ≤ q.number → q.number ≤ p.number → numbered q ≡ numbered p)
-                (λ r later low high. absurd (omega arith)) qs (pairs-head Rises q qs all))
+            (λ r later low high. absurd (omega arith)) qs (pairs-head Rises q qs all))
         | false ↦ λ fails is.
             let below : q.number < n = grind (arith, nat_tests) in
             All-cons (λ q. n ≤ q.number → q.number ≤ p.number → numbered q ≡ numbered p) q qs

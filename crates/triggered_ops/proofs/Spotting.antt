@@ -1,20 +1,21 @@
 -- That the marks and the count are those of the places, after each change of these.
-use Rattle.std.proofs.Common.{◌≡◌, ℕ, suc, ◌+◌, ◌-◌, ◌<◌, ◌≤◌, ◌^◌, Bool, true, cond, List, [], ◌∷◌, ◌++◌, map, filter, length, take,
-    get_or, set, replicate, sum, Option, Some, None, refl, sym, ap, subst, ◌∙◌, inl, inr, arith, length-append, length-set}
+use Rattle.std.proofs.Common.{◌≡◌, ℕ, suc, ◌+◌, ◌-◌, ◌<◌, ◌≤◌, ◌^◌, Bool, true, cond, List, [], ◌∷◌, ◌++◌, map, filter, length, take}
+use Rattle.std.proofs.Common.{get_or, set, replicate, sum, Option, Some, None, refl, sym, ap, subst, ◌∙◌, inl, inr, arith, length-append}
+use Rattle.std.proofs.Common.{length-set}
 use Rattle.std.specs.Prelude.{is_some, slice_get}
 use Rattle.std.specs.List.{swap}
 use Rattle.std.proofs.Math.Seq.{set-append_seam}
 use Rattle.std.proofs.lemmas.Bool.{cases_lt}
-use Rattle.std.proofs.lemmas.List.{length-map, map-append, set-append_left, append_assoc, length-replicate, get_or-append_right,
-    get_or-replicate}
+use Rattle.std.proofs.lemmas.List.{length-map, map-append, set-append_left, append_assoc, length-replicate, get_or-append_right}
+use Rattle.std.proofs.lemmas.List.{get_or-replicate}
 use Rattle.std.proofs.lemmas.List.Sums.{sum_by-append}
 use Rattle.std.proofs.lemmas.List.Folds.{sum_by-replicate}
 use Rattle.triggered_ops.specs.declared.spots.Spot.{Spot}
 use Rattle.triggered_ops.specs.Operations.{Operation, is_due}
-use Rattle.triggered_ops.specs.Layout.{numbers_of, operations_in, wait_with, wait_at, settled, emptied, mark_with, dues_of, AreGone,
-    IsSpotted}
-use Rattle.triggered_ops.proofs.Places.{changed-dues, changed-length, settled-length, settled-count, emptied-count, wait-within, wait-get,
-    append-operations, count-first, count_with, sum-dues, due-found}
+use Rattle.triggered_ops.specs.Layout.{numbers_of, operations_in, wait_with, wait_at, settled, emptied, mark_with, dues_of, AreGone}
+use Rattle.triggered_ops.specs.Layout.{IsSpotted}
+use Rattle.triggered_ops.proofs.Places.{changed-dues, changed-length, settled-length, settled-count, emptied-count, wait-within, wait-get}
+use Rattle.triggered_ops.proofs.Places.{append-operations, count-first, count_with, sum-dues, due-found}
 use Rattle.triggered_ops.proofs.Packing.{swap-dues, swap-length, swap-count, marked-take, take-value, taken-short}
 
 -- ---- marks, and zeros behind
@@ -24,7 +25,7 @@ IsPadded marks ds = marks ≡ ds ++ replicate (length marks - length ds) 0
 pub padded-set : (marks ds : List ℕ) (p v : ℕ) → IsPadded marks ds → p < length ds → IsPadded (set marks p v) (set ds p v)
 padded-set marks ds p v is lt =
     let n : length marks - length ds ≡ length (set marks p v) - length (set ds p v) =
-          omega (arith, length-set marks p v, length-set ds p v) in
+    omega (arith, length-set marks p v, length-set ds p v) in
     ap (λ m. set m p v) is ∙ set-append_left ds (replicate (length marks - length ds) 0) p v lt ∙ ap (λ k. set ds p v ++ replicate k 0) n
 
 pub padded-push : (marks ds : List ℕ) (v : ℕ) → IsPadded marks ds → length ds < length marks →
@@ -33,9 +34,9 @@ padded-push marks ds v is lt =
     let n = length marks - suc (length ds) in
     let some : length marks - length ds ≡ suc n = omega (arith, lt) in
     let rest : n ≡ length (set marks (length ds) v) - length (ds ++ v ∷ []) =
-          omega (arith, lt, length-set marks (length ds) v, length-append ds (v ∷ [])) in
+    omega (arith, lt, length-set marks (length ds) v, length-append ds (v ∷ [])) in
     ap (λ m. set m (length ds) v) (is ∙ ap (λ k. ds ++ replicate k 0) some) ∙ set-append_seam ds 0 (replicate n 0) v
-        ∙ sym (append_assoc ds (v ∷ []) (replicate n 0)) ∙ ap (λ k. (ds ++ v ∷ []) ++ replicate k 0) rest
+    ∙ sym (append_assoc ds (v ∷ []) (replicate n 0)) ∙ ap (λ k. (ds ++ v ∷ []) ++ replicate k 0) rest
 
 pub padded-sum : (marks ds : List ℕ) → IsPadded marks ds → sum marks ≡ sum ds
 padded-sum marks ds is =
@@ -49,7 +50,7 @@ padded-within marks ds p is lt one = elim (cases_lt p (length ds)) [
   | inr le ↦
       let n = length marks - length ds in
       let none : get_or marks p 0 ≡ 0 = ap (λ m. get_or m p 0) is ∙ get_or-append_right ds (replicate n 0) (length ds) p 0 refl le
-            ∙ get_or-replicate n (p - length ds) 0 0 (omega (arith, lt, le)) in
+      ∙ get_or-replicate n (p - length ds) 0 0 (omega (arith, lt, le)) in
       absurd (omega (arith, none, one))
 ]
 
@@ -86,7 +87,7 @@ module _ {D : Type 0} where
     spotted-settled p v e =
         let lt = wait-within ss p e in
         let dues : dues_of (settled p v ss) ≡ set (dues_of ss) p (cond v 1 0) = changed-dues (λ s. record s { due = v }) p (cond v 1 0) ss
-              (λ s is. some_mark v s s.deed (ap is_some is ∙ e)) in
+        (λ s is. some_mark v s s.deed (ap is_some is ∙ e)) in
         record {
           marked = unpadded (set marks p (cond v 1 0)) (set (dues_of ss) p (cond v 1 0)) (settled p v ss)
               (padded-set marks (dues_of ss) p (cond v 1 0) is_padded (omega (arith, lt, marks-long ss))) (sym dues);
@@ -121,7 +122,7 @@ module _ {D : Type 0} where
         let v : ℕ = cond s.due 1 0 in
         let mark : mark_with s.due s.deed ≡ v = ap (mark_with s.due) full in
         let dues : dues_of ss ++ v ∷ [] ≡ dues_of (ss ++ s ∷ []) = ap (λ m. dues_of ss ++ m ∷ []) (sym mark)
-              ∙ sym (map-append (λ (s : Spot D). mark_with s.due s.deed) ss (s ∷ [])) in
+        ∙ sym (map-append (λ (s : Spot D). mark_with s.due s.deed) ss (s ∷ [])) in
         let at : length (dues_of ss) ≡ length ss = marks-long ss in
         record {
           marked = unpadded (set marks (length ss) v) (dues_of ss ++ v ∷ []) (ss ++ s ∷ [])
@@ -146,12 +147,12 @@ module _ {D : Type 0} where
         let low : to < length ss = omega (arith, order, lt) in
         let none = none_mark (get_or ss to d).due (get_or ss to d) (get_or ss to d).deed (sym (wait-get ss to d low) ∙ empty) in
         let some : mark_with (get_or ss from d).due (get_or ss from d).deed ≡ cond v 1 0 =
-              some_mark (get_or ss from d).due (get_or ss from d) (get_or ss from d).deed (ap is_some (sym (wait-get ss from d lt))
-              ∙ full) ∙ ap (λ b. cond b 1 0) due in
+        some_mark (get_or ss from d).due (get_or ss from d) (get_or ss from d).deed (ap is_some (sym (wait-get ss from d lt))
+        ∙ full) ∙ ap (λ b. cond b 1 0) due in
         let dues = swap-dues ss from to order lt d (cond v 1 0) none some in
         let first = padded-set marks (dues_of ss) from 0 is_padded (omega (arith, lt, marks-long ss)) in
         let second = padded-set (set marks from 0) (set (dues_of ss) from 0) to (cond v 1 0) first
-              (omega (arith, low, marks-long ss, length-set (dues_of ss) from 0)) in
+        (omega (arith, low, marks-long ss, length-set (dues_of ss) from 0)) in
         record {
           marked = unpadded (set (set marks from 0) to (cond v 1 0)) (set (set (dues_of ss) from 0) to (cond v 1 0)) (swap ss from to)
               second (sym dues);
@@ -177,12 +178,14 @@ module _ {D : Type 0} where
 
     pub due-place : (p i2 : ℕ) → p < length marks → sum (take p marks) ≡ i2 → get_or marks p 0 ≡ 1
         → (p < length ss) × (slice_get (map (λ (o : Operation D). o.number) (filter is_due (operations_in ss))) i2 ≡ Some
-            (get_or (numbers_of ss) p 0))
+        (get_or (numbers_of ss) p 0))
     due-place p i2 lt before one =
         let within : p < length ss = let w = padded-within marks (dues_of ss) p is_padded lt one in omega (arith, w, marks-long ss) in
-        let rest = replicate (length marks - length ss) 0 in
-        (within, due-found ss rest p i2 (ap (λ m. sum (take p m)) (sym i.marked) ∙ before) (ap (λ m. get_or m p 0) (sym i.marked) ∙ one)
-            within)
+        let rest = replicate (length marks - length ss) 0 in (
+          within,
+          due-found ss rest p i2 (ap (λ m. sum (take p m)) (sym i.marked) ∙ before) (ap (λ m. get_or m p 0) (sym i.marked) ∙ one)
+              within,
+        )
 
 -- none at first
 pub spotted-none : {D : Type 0} (marks : List ℕ) (n room capacity : ℕ) → marks ≡ replicate n 0 → room ≤ n → room ≤ capacity →

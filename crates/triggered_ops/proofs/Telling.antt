@@ -1,6 +1,6 @@
 -- What telling a sum makes of the operations, place by place.
-use Rattle.std.proofs.Common.{◌≡◌, ℕ, zero, suc, ◌<◌, ◌≤◌, Bool, true, false, not, cond, nat_le, List, [], ◌∷◌, map, filter, Option, Some,
-    None, refl, sym, ap, ◌∙◌, arith}
+use Rattle.std.proofs.Common.{◌≡◌, ℕ, zero, suc, ◌<◌, ◌≤◌, Bool, true, false, not, cond, nat_le, List, [], ◌∷◌, map, filter, Option, Some}
+use Rattle.std.proofs.Common.{None, refl, sym, ap, ◌∙◌, arith}
 use Rattle.std.specs.Prelude.{option_map}
 use Rattle.std.proofs.lemmas.Bool.Decides.{nat_tests}
 use Rattle.std.proofs.lemmas.Bool.{eq-eqb}
@@ -11,8 +11,8 @@ use Rattle.triggered_ops.specs.declared.spots.Spot.{Spot}
 use Rattle.triggered_ops.specs.declared.spots.Wait.{Wait}
 use Rattle.triggered_ops.specs.Operations.{Operation, waits_on, told_if}
 use Rattle.triggered_ops.specs.Hung.{threshold_of, WaitsOn}
-use Rattle.triggered_ops.specs.Layout.{handle_of, operation, op_with, op_of, before_all, operations_in, wait_with, wait_at, settled,
-    emptied}
+use Rattle.triggered_ops.specs.Layout.{handle_of, operation, op_with, op_of, before_all, operations_in, wait_with, wait_at, settled}
+use Rattle.triggered_ops.specs.Layout.{emptied}
 
 module _ {D : Type 0} where
   -- it waits on this counting event
@@ -45,7 +45,7 @@ module _ {D : Type 0} where
       ∙ sym (tell_first (waits_on ct) sum (op_of s) (operations_in ss))
   settled-told (s ∷ ss) (suc p) v ct sum x e is =
       tell_first (waits_on ct) sum (op_of s) (operations_in (settled p v ss))
-          ∙ ap (before_all (option_map (told_if (waits_on ct) sum) (op_of s))) (settled-told ss p v ct sum x e is)
+      ∙ ap (before_all (option_map (told_if (waits_on ct) sum) (op_of s))) (settled-told ss p v ct sum x e is)
       ∙ sym (tell_first (waits_on ct) sum (op_of s) (operations_in ss))
 
   told_already : (s : Spot D) (o : Option D) (ct : Handle) (sum : ℕ) →
@@ -54,9 +54,9 @@ module _ {D : Type 0} where
   told_already s None ct sum h = refl
   told_already s (Some d) ct sum h =
       elim (same_handle (handle_of s) ct) as (λ b. same_handle (handle_of s) ct ≡ b →
-          Some (record (operation s d) { due = cond b (nat_le s.threshold sum) s.due }) ≡ Some (operation s d)) [
+      Some (record (operation s d) { due = cond b (nat_le s.threshold sum) s.due }) ≡ Some (operation s d)) [
         | true ↦ λ is. let e : s.due ≡ nat_le s.threshold sum = h (record { ct = handle_of s; threshold = s.threshold; due = s.due }) refl
-                             is in ap (λ v. Some (record (operation s d) { due = v })) (sym e)
+            is in ap (λ v. Some (record (operation s d) { due = v })) (sym e)
         | false ↦ λ is. refl
       ] refl
 
@@ -66,7 +66,7 @@ module _ {D : Type 0} where
   told-all [] ct sum h = refl
   told-all (s ∷ ss) ct sum h =
       tell_first (waits_on ct) sum (op_of s) (operations_in ss)
-          ∙ (λ i. before_all (told_already s s.deed ct sum (h 0) i) (told-all ss ct sum (λ p. h (suc p)) i))
+      ∙ (λ i. before_all (told_already s s.deed ct sum (h 0) i) (told-all ss ct sum (λ p. h (suc p)) i))
 
   -- ---- those of a counting event are taken out
   off_it : (s : Spot D) (o : Option D) (ct : Handle) (os : List (Operation D)) → same_handle (handle_of s) ct ≡ true →
@@ -81,9 +81,9 @@ module _ {D : Type 0} where
   kept_first ct (Some o) os ps e = elim (waits_on ct o) as (λ b. cond (not b) (o ∷ filter (λ p. not (waits_on ct p)) os)
       (filter (λ p. not (waits_on ct p)) os) ≡ cond (not b) (o ∷ filter (λ p. not (waits_on ct p)) ps)
       (filter (λ p. not (waits_on ct p)) ps)) [
-    | true ↦ e
-    | false ↦ ap (λ r. o ∷ r) e
-  ]
+        | true ↦ e
+        | false ↦ ap (λ r. o ∷ r) e
+      ]
 
   pub emptied-cancelled : (ss : List (Spot D)) (p : ℕ) (ct : Handle) → WaitsOn ct (wait_at ss p) →
       filter (λ p. not (waits_on ct p)) (operations_in (emptied p ss)) ≡ filter (λ p. not (waits_on ct p)) (operations_in ss)
@@ -102,9 +102,9 @@ module _ {D : Type 0} where
   stays s None ct os ps n e = e
   stays s (Some d) ct os ps n e = elim (same_handle (handle_of s) ct) as (λ b. same_handle (handle_of s) ct ≡ b →
       cond (not b) (operation s d ∷ filter (λ p. not (waits_on ct p)) os) (filter (λ p. not (waits_on ct p)) os) ≡ operation s d ∷ ps) [
-    | true ↦ λ is. absurd (n is)
-    | false ↦ λ is. ap (λ r. operation s d ∷ r) e
-  ] refl
+        | true ↦ λ is. absurd (n is)
+        | false ↦ λ is. ap (λ r. operation s d ∷ r) e
+      ] refl
 
   pub none-cancelled : (ss : List (Spot D)) (ct : Handle) → ((p : ℕ) → WaitsOn ct (wait_at ss p) → ⊥) →
       filter (λ p. not (waits_on ct p)) (operations_in ss) ≡ operations_in ss

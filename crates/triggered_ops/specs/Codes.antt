@@ -50,4 +50,4 @@ spot_code {D} code =
 abbrev pub spotted_code : {D : Type 0} → Coded D → Coded (Spotted D)
 spotted_code {D} code =
     code_by (List (Spot D) × ℕ) (coded× (coded_list (spot_code code)) coded_ℕ) (λ s. (s.spots, s.room))
-        (λ p. record { spots = p.0; room = p.1 }) (λ _. refl)
+    (λ p. record { spots = p.0; room = p.1 }) (λ _. refl)

@@ -81,8 +81,15 @@ module _ {D : Type 0} where
   operation_for number x deed = record { number = number; deed = deed; ct = x.ct; threshold = x.threshold; due = x.due }
 
   abbrev pub spot_for : ℕ → Wait → D → Spot D
-  spot_for number x deed = record { number = number; slot = x.ct.slot; stamp = x.ct.stamp; threshold = x.threshold; due = x.due; deed =
-      Some deed }
+  spot_for number x deed = record {
+    number = number;
+    slot = x.ct.slot;
+    stamp = x.ct.stamp;
+    threshold = x.threshold;
+    due = x.due;
+    deed =
+        Some deed;
+  }
 
   -- the places with one changed
   abbrev pub changed : (Spot D → Spot D) → ℕ → List (Spot D) → List (Spot D)

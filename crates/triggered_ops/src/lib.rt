@@ -6,8 +6,8 @@ ghost use Rattle.std.specs.Prelude.{[], All, length, slice_get, option_map};
 ghost use Rattle.triggered_ops.specs.Operations.{no_operations, is_full, operation_at, is_ready, due_numbers, shown, numbered, deed_of};
 ghost use Rattle.triggered_ops.specs.Operations.{with_posted, told, without_number, waits_on, waiting_on, cancelled, IsKept};
 
-pub mod marks;
 mod lists;
+pub mod marks;
 mod parts;
 mod spots;
 mod told;
@@ -155,7 +155,8 @@ impl<D> Pending<D> {
         ensures range { IfSome result (λ p. (from ≤ p.0) × (p.0 < self.now.given)) }
 
         // Between `from` and the number found no other operation waits, and from there on none where it is `None`.
-        ensures alone { IfSome result (λ p. All (λ q. from ≤ q.number → q.number ≤ p.0 → numbered q ≡ (p.0, p.1.now, p.2, p.3)) self.now.waiting) }
+        ensures alone { IfSome result (λ p. All (λ q. from ≤ q.number → q.number ≤ p.0 → numbered q ≡ (p.0, p.1.now, p.2, p.3))
+            self.now.waiting) }
         ensures none { IfNone result (All (λ q. q.number < from) self.now.waiting) }
         ensures numbers { self.now.given < 2 ^ 32 }
     {

@@ -1,6 +1,7 @@
 //! Places of which some are marked: how many are marked, and the i-th of them, without a walk over the others.
 
-ghost use Rattle.std.specs.Prelude.{ℕ, ◌≡◌, ◌==◌, ◌<◌, ◌≤◌, ◌+◌, ◌-◌, ◌*◌, ◌/◌, ◌%◌, ◌^◌, length, sum, take, replicate, slice_set, slice_index_or, IfOk, if◌then◌else◌};
+ghost use Rattle.std.specs.Prelude.{ℕ, ◌≡◌, ◌==◌, ◌<◌, ◌≤◌, ◌+◌, ◌-◌, ◌*◌, ◌/◌, ◌%◌, ◌^◌, length, sum, take, replicate, slice_set};
+ghost use Rattle.std.specs.Prelude.{slice_index_or, IfOk, if◌then◌else◌};
 ghost use Rattle.triggered_ops.specs.marks.Bits.{bits, rounded};
 
 use count_tree::CountTree;

@@ -1,11 +1,13 @@
 //! The operations at their places, in the order in which they were posted, so that their numbers rise.
 
-ghost use Rattle.std.specs.Prelude.{◌≡◌, ℕ, ◌<◌, ◌≤◌, ◌^◌, nat_le, None, Some, true, false, IfOk, IfSome, IfNone, IsSome, is_some, option_map};
+ghost use Rattle.std.specs.Prelude.{◌≡◌, ℕ, ◌<◌, ◌≤◌, ◌^◌, nat_le, None, Some, true, false, IfOk, IfSome, IfNone, IsSome, is_some};
+ghost use Rattle.std.specs.Prelude.{option_map};
 ghost use Rattle.std.specs.Prelude.{◌++◌, ◌∷◌, [], AllPairs, length, take, map, filter, find, slice_get, slice_index_or};
 ghost use Rattle.std.specs.List.{swap};
 ghost use Rattle.triggered_ops.specs.Operations.{shown, numbered, deed_of, is_due, is_due_op, is_number};
 ghost use Rattle.triggered_ops.specs.Hung.{threshold_of};
-ghost use Rattle.triggered_ops.specs.Layout.{spotted, no_spots, numbers_of, operations_in, op_at, op_of, wait_of, wait_at, settled, emptied};
+ghost use Rattle.triggered_ops.specs.Layout.{spotted, no_spots, numbers_of, operations_in, op_at, op_of, wait_of, wait_at, settled};
+ghost use Rattle.triggered_ops.specs.Layout.{emptied};
 ghost use Rattle.triggered_ops.specs.Layout.{spot_for, AreGone, StandsAt, AreBelow, AreFrom};
 
 use crate::marks::Marks;

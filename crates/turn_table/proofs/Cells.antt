@@ -1,6 +1,6 @@
 -- What stays of the rule when one slot and one seat move.
-use Rattle.std.proofs.Common.{◌≡◌, ◌≢◌, ℕ, ◌+◌, ◌<◌, List, length, get_or, set, sym, ap, ◌∙◌, subst, ⊎_elim, arith, length-set,
-    get_or-set_other}
+use Rattle.std.proofs.Common.{◌≡◌, ◌≢◌, ℕ, ◌+◌, ◌<◌, List, length, get_or, set, sym, ap, ◌∙◌, subst, ⊎_elim, arith, length-set}
+use Rattle.std.proofs.Common.{get_or-set_other}
 use mathlib.Core.Option.{some, some-injective}
 use mathlib.Core.Option as maybe
 use mathlib.Core.List.{IsPrefix}
@@ -52,7 +52,7 @@ module _ {T N I : Type 0} (past : T → List I) (name : T → N) (start : List T
   begun_put cells k c slots longer begun k' p n b q l = at_put cells k c
       (λ (i : ℕ) (d : Where T). IsPrefix (past b.given) (past (value_of (cells i))) → IsPrefix (past b.given) (past (value_of d))) k'
       (λ e g. prefix_trans (past b.given) (past (value_of (cells k))) (past (value_of c))
-          (subst (λ (i : ℕ). IsPrefix (past b.given) (past (value_of (cells i)))) e g) longer) (λ _ g. g) (begun k' p n b q l)
+      (subst (λ (i : ℕ). IsPrefix (past b.given) (past (value_of (cells i)))) e g) longer) (λ _ g. g) (begun k' p n b q l)
 
   -- the seat i still has its turn
   pub stays : (views : List (HandView T)) (id j i : ℕ) (x : T) (v w u : HandView T) → get_elem? views id ≡ some v →
@@ -60,9 +60,11 @@ module _ {T N I : Type 0} (past : T → List I) (name : T → N) (start : List T
       ((y : T) → v.turn ≡ Some (record { slot = j; value = y }) → w.turn ≡ Some (record { slot = j; value = y }))
       → Dec (i ≡ id) → (u' : HandView T) × (get_elem? (set views id w) i ≡ some u') × (u'.turn ≡ Some (record { slot = j; value = x }))
   stays views id j i x v w u at e is keeps (yes same) =
-      let was : some v ≡ some u = sym at ∙ (ap (λ k. get_elem? views k) (sym same) ∙ e) in
-      (w, ap (λ k. get_elem? (set views id w) k) same ∙ set_there views id v w at,
-          keeps x (ap (λ (y : HandView T). y.turn) (some-injective v u was) ∙ is))
+      let was : some v ≡ some u = sym at ∙ (ap (λ k. get_elem? views k) (sym same) ∙ e) in (
+        w,
+        ap (λ k. get_elem? (set views id w) k) same ∙ set_there views id v w at,
+        keeps x (ap (λ (y : HandView T). y.turn) (some-injective v u was) ∙ is),
+      )
   stays views id j i x v w u at e is keeps (no apart) = (u, set_else views id i w apart ∙ e, is)
 
   pub moved : (s : S) (r : Rule s) (id k n : ℕ) (v w : HandView T) (c : Where T) (homes' : List (maybe.Option (Option T)))
@@ -75,7 +77,7 @@ module _ {T N I : Type 0} (past : T → List I) (name : T → N) (start : List T
       → ChoiceRankOk past name start (put r.cells k c) id w
       → w.parts ≡ v.parts
       → ((p : ℕ) → times p (places w k) + once_below p (length (past (value_of (r.cells k)))) ≡ times p (places v k) + once_below p
-          (length (past (value_of c))))
+      (length (past (value_of c))))
       → length (places w k) + length (past (value_of (r.cells k))) ≡ length (places v k) + length (past (value_of c))
       → ((k' : ℕ) → k' ≢ k → places w k' ≡ places v k')
       → Rule record { words = set s.words k n; homes = homes'; views = set s.views id w }
@@ -101,24 +103,26 @@ module _ {T N I : Type 0} (past : T → List I) (name : T → N) (start : List T
             (λ (t : (j ≢ id) × (get_elem? s.views j ≡ some u)). let ok = r.seat_ok j u t.1 in record {
               alive = ok.alive;
               idle = ok.idle;
-              turn = λ k' x is. (let h = ok.turn k' x is in (h.0,
-                  at_put r.cells k c (λ (i : ℕ) (d : Where T). r.cells i ≡ out j x → d ≡ out j x) k'
-                  (λ e q. others j x t.0 (ap r.cells (sym e) ∙ q)) (λ _ q. q) h.1));
+              turn = λ k' x is. (let h = ok.turn k' x is in (
+                h.0,
+                at_put r.cells k c (λ (i : ℕ) (d : Where T). r.cells i ≡ out j x → d ≡ out j x) k'
+                    (λ e q. others j x t.0 (ap r.cells (sym e) ∙ q)) (λ _ q. q) h.1,
+              ));
               begun = begun_put r.cells k c u.slots longer ok.begun;
             }) (at_set s.views id j w u e);
         placed = λ j p in_range. at_put r.cells k c (λ (i : ℕ) (d : Where T). sum_by (λ (u : HandView T). times p (places u i))
             (set s.views id w) ≡ once_below p (length (past (value_of d)))) j
             (λ e. subst (λ (i : ℕ). sum_by (λ (u : HandView T). times p (places u i)) (set s.views id w) ≡ once_below p
-                (length (past (value_of c)))) (sym e)
+            (length (past (value_of c)))) (sym e)
             (let t = sum_set (λ (u : HandView T). times p (places u k)) s.views id v w at in let a = r.placed k p near in let d =
-                                                                                                                                drawn p in omega arith))
+            drawn p in omega arith))
             (λ apart. let t = sum_set (λ (u : HandView T). times p (places u j)) s.views id v w at in let a = r.placed j p in_range in
-                let d : times p (places w j) ≡ times p (places v j) = ap (λ l. times p l) (undrawn j apart) in omega arith);
+            let d : times p (places w j) ≡ times p (places v j) = ap (λ l. times p l) (undrawn j apart) in omega arith);
         long = λ j in_range. at_put r.cells k c (λ (i : ℕ) (d : Where T). sum_by (λ (u : HandView T). length (places u i))
             (set s.views id w) ≡ length (past (value_of d))) j
             (λ e. subst (λ (i : ℕ). sum_by (λ (u : HandView T). length (places u i)) (set s.views id w) ≡ length (past (value_of c)))
-                (sym e)
+            (sym e)
             (let t = sum_set (λ (u : HandView T). length (places u k)) s.views id v w at in let a = r.long k near in omega arith))
             (λ apart. let t = sum_set (λ (u : HandView T). length (places u j)) s.views id v w at in let a = r.long j in_range in
-                let d : length (places w j) ≡ length (places v j) = ap (λ (l : List ℕ). length l) (undrawn j apart) in omega arith);
+            let d : length (places w j) ≡ length (places v j) = ap (λ (l : List ℕ). length l) (undrawn j apart) in omega arith);
       }

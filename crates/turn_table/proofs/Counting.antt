@@ -1,6 +1,6 @@
 -- What a hand counts stays so at each step.
-use Rattle.std.proofs.Common.{◌≡◌, ◌≢◌, ℕ, zero, suc, ◌+◌, ◌-◌, ◌≤◌, ◌<◌, List, [], ◌∷◌, replicate, length, get_or, set, sym, refl, ap, ◌∙◌,
-    subst, arith, length-set, length-append, get_or-set_same, get_or-set_other, Some, None}
+use Rattle.std.proofs.Common.{◌≡◌, ◌≢◌, ℕ, zero, suc, ◌+◌, ◌-◌, ◌≤◌, ◌<◌, List, [], ◌∷◌, replicate, length, get_or, set, sym, refl, ap, ◌∙◌}
+use Rattle.std.proofs.Common.{subst, arith, length-set, length-append, get_or-set_same, get_or-set_other, Some, None}
 use mathlib.Core.List.{IsPrefix}
 use mathlib.Core.Logic.{dite}
 use native.Mathlib.Decide.{ℕ_discrete}
@@ -8,8 +8,8 @@ use Rattle.std.proofs.lemmas.List.{length-replicate}
 use Rattle.turn_table.specs.declared.views.OpenTurn.{OpenTurn}
 use Rattle.turn_table.specs.declared.views.SlotView.{SlotView}
 use Rattle.turn_table.specs.declared.views.HandView.{HandView}
-use Rattle.turn_table.specs.Views.{adjusted, numbers_from, places_in, places, after_busy, busier_slot, after_take, after_turn, after_give,
-    all_unseen, open_turn, seen_in}
+use Rattle.turn_table.specs.Views.{adjusted, numbers_from, places_in, places, after_busy, busier_slot, after_take, after_turn, after_give}
+use Rattle.turn_table.specs.Views.{all_unseen, open_turn, seen_in}
 use Rattle.turn_table.specs.States.{Counts}
 use Rattle.turn_table.proofs.Steps.{some_held, none_held, places_busier, places_after_turn, places_beside, longer_length}
 use Rattle.turn_table.proofs.Whole.{unseen_places, zeros}
@@ -69,7 +69,7 @@ module _ {T I : Type 0} (past : T → List I) where
       seen_is = c.seen_is;
       found_is = λ j y e. (let h = some_held (open_turn k x) (open_turn j y) e in
           subst (λ (d : OpenTurn T). (d.slot < n) × (found' ≡ length (past d.value)) × (length (places v d.slot) ≤ length (past d.value)))
-              h (near, is, at_most));
+          h (near, is, at_most));
     }
 
     pub counts_same : (found : ℕ) (v u : HandView T) → u.slots ≡ v.slots → u.turn ≡ v.turn → Counts past made seen found v n →
@@ -86,23 +86,23 @@ module _ {T I : Type 0} (past : T → List I) where
     pub counts_give : (found : ℕ) (v : HandView T) (k : ℕ) (x y : T) (more : ℕ) → v.turn ≡ Some (open_turn k x) →
         IsPrefix (past x) (past y) → k < n → n ≡ length v.slots → more ≡ length (past y) - found
         → Counts past made seen found v n → Counts past (set made k (get_or made k 0 + more)) (set seen k (length (past y))) found
-            (after_give past v k x y) n
+        (after_give past v k x y) n
     counts_give found v k x y more turn begins near sized is c =
         let f = (c.found_is k x turn).1 in let grows = longer_length past (λ (t : T). t) [] (past x) (past y) begins in
         let a = ap (λ (l : List ℕ). length l) (places_after_turn past (λ (t : T). t) [] v.slots k x y (omega arith)) in let b =
-                                                                                                                              length-append (places v k) (numbers_from (length (past x)) (length (past y) - length (past x))) in
+        length-append (places v k) (numbers_from (length (past x)) (length (past y) - length (past x))) in
         let d = numbers_from_length (length (past x)) (length (past y) - length (past x)) in let m = c.made_is k near in let ml =
-                                                                                                                               c.made_long in let sl = c.seen_long in record {
+        c.made_long in let sl = c.seen_long in record {
           made_long = length-set made k (get_or made k 0 + more) ∙ c.made_long;
           seen_long = length-set seen k (length (past y)) ∙ c.seen_long;
           made_is = λ j at. dite (ℕ_discrete j k)
               (λ e. subst (λ (i : ℕ). get_or (set made k (get_or made k 0 + more)) i 0 ≡ length (places (after_give past v k x y) i))
-                  (sym e) (get_or-set_same made k (get_or made k 0 + more) 0 (omega arith) ∙ omega arith))
+              (sym e) (get_or-set_same made k (get_or made k 0 + more) 0 (omega arith) ∙ omega arith))
               (λ apart. get_or-set_other made k j (get_or made k 0 + more) 0 apart
-                  ∙ (c.made_is j at ∙ ap (λ (l : List ℕ). length l) (sym (places_beside past (λ (t : T). t) [] v.slots k j x y apart))));
+              ∙ (c.made_is j at ∙ ap (λ (l : List ℕ). length l) (sym (places_beside past (λ (t : T). t) [] v.slots k j x y apart))));
           seen_is = λ j at. dite (ℕ_discrete j k)
               (λ e. subst (λ (i : ℕ). get_or (set seen k (length (past y))) i 0 ≡ seen_in past (after_give past v k x y).slots i) (sym e)
-                  (get_or-set_same seen k (length (past y)) 0 (omega arith) ∙ sym (seen_after_turn v.slots k x y (omega arith))))
+              (get_or-set_same seen k (length (past y)) 0 (omega arith) ∙ sym (seen_after_turn v.slots k x y (omega arith))))
               (λ apart. get_or-set_other seen k j (length (past y)) 0 apart ∙ (c.seen_is j at ∙ sym (seen_beside v.slots k j x y apart)));
           found_is = λ j z e. absurd (none_held (open_turn j z) e);
         }

@@ -38,23 +38,23 @@ module _ {T N I : Type 0} (past : T → List I) (name : T → N) where
   right_follows [] (c ∷ ys) k x e h = absurd (omega arith)
   right_follows (a ∷ xs) [] k x e h = absurd (omega arith)
   right_follows (a ∷ xs) (c ∷ ys) zero x e h = λ p i b q z. let t =
-                                                                  behind_at a.seen c.seen i b
-                                                                  (ap (λ (y : SlotView T). get_elem? y.seen i) (some-injective c p q) ∙ z)
-                                                                  in h _ t.0 b refl t.1
+      behind_at a.seen c.seen i b
+      (ap (λ (y : SlotView T). get_elem? y.seen i) (some-injective c p q) ∙ z)
+      in h _ t.0 b refl t.1
   right_follows (a ∷ xs) (c ∷ ys) (suc k) x e h = right_follows xs ys k x (omega arith) h
 
   pub gathers_first : (hs rest : List (HandState T)) (h : HandState T) → hs ≡ rest ++ h ∷ [] → Gathered past name hs h.knows rest
   gathers_first hs rest h is = record {
     parts = (let a = sum_by-append (λ (g : HandState T). g.knows.parts) rest (h ∷ []) in let b =
-                                                                                               ap (λ (l : List (HandState T)). sum_by
-                                                                                               (λ g. g.knows.parts) l) is in omega arith);
+        ap (λ (l : List (HandState T)). sum_by
+        (λ g. g.knows.parts) l) is in omega arith);
     placed = λ k p. (let a = sum_by-append (λ (g : HandState T). times p (places g.knows k)) rest (h ∷ []) in let b =
-                                                                                                                    ap (λ (l : List (HandState T)). sum_by (λ g. times p (places g.knows k)) l) is in omega arith);
+        ap (λ (l : List (HandState T)). sum_by (λ g. times p (places g.knows k)) l) is in omega arith);
     long = λ k. (let a = sum_by-append (λ (g : HandState T). length (places g.knows k)) rest (h ∷ []) in let b =
-                                                                                                               ap (λ (l : List (HandState
-                                                                                                               T)). sum_by (λ g. length
-                                                                                                               (places g.knows k)) l) is
-                                                                                                               in omega arith);
+        ap (λ (l : List (HandState
+        T)). sum_by (λ g. length
+        (places g.knows k)) l) is
+        in omega arith);
     begun = λ k x mine others. All-same (λ (g : HandState T). Follows past name g.knows.slots k x) hs (rest ++ h ∷ []) is
         (All-push (λ (g : HandState T). Follows past name g.knows.slots k x) rest h others mine);
   }
@@ -63,26 +63,26 @@ module _ {T N I : Type 0} (past : T → List I) (name : T → N) where
       rest ≡ rest' ++ h ∷ [] → length v.slots ≡ length h.knows.slots → Gathered past name hs (after_join v h.knows) rest'
   gathers_more hs rest rest' v h old is sized = record {
     parts = (let a = sum_by-append (λ (g : HandState T). g.knows.parts) rest' (h ∷ []) in let b =
-                                                                                                ap (λ (l : List (HandState T)). sum_by
-                                                                                                (λ g. g.knows.parts) l) is in let c =
-                                                                                                                                    old.parts in omega arith);
+        ap (λ (l : List (HandState T)). sum_by
+        (λ g. g.knows.parts) l) is in let c =
+        old.parts in omega arith);
     placed = λ k p. (let a = sum_by-append (λ (g : HandState T). times p (places g.knows k)) rest' (h ∷ []) in let b =
-                                                                                                                     ap (λ (l : List (HandState T)). sum_by (λ g. times p (places g.knows k)) l) is in let c = old.placed k p in
+        ap (λ (l : List (HandState T)). sum_by (λ g. times p (places g.knows k)) l) is in let c = old.placed k p in
         let d = ap (λ (l : List ℕ). times p l) (merged_places v.slots h.knows.slots k sized) in let e =
-                                                                                                      times_append p (places v k)
-                                                                                                      (places h.knows k) in omega arith);
+        times_append p (places v k)
+        (places h.knows k) in omega arith);
     long = λ k. (let a = sum_by-append (λ (g : HandState T). length (places g.knows k)) rest' (h ∷ []) in let b =
-                                                                                                                ap (λ (l : List (HandState
-                                                                                                                T)). sum_by (λ g. length
-                                                                                                                (places g.knows k)) l) is
-                                                                                                                in let c = old.long k in
+        ap (λ (l : List (HandState
+        T)). sum_by (λ g. length
+        (places g.knows k)) l) is
+        in let c = old.long k in
         let d = ap (λ (l : List ℕ). length l) (merged_places v.slots h.knows.slots k sized) in let e =
-                                                                                                     length-append (places v k)
-                                                                                                     (places h.knows k) in omega arith);
+        length-append (places v k)
+        (places h.knows k) in omega arith);
     begun = λ k x mine others. old.begun k x (left_follows v.slots h.knows.slots k x sized mine)
         (All-same (λ (g : HandState T). Follows past name g.knows.slots k x) rest (rest' ++ h ∷ []) is
-            (All-push (λ (g : HandState T). Follows past name g.knows.slots k x) rest' h others
-            (right_follows v.slots h.knows.slots k x sized mine)));
+        (All-push (λ (g : HandState T). Follows past name g.knows.slots k x) rest' h others
+        (right_follows v.slots h.knows.slots k x sized mine)));
   }
 
   -- at the end one view has what all hands had

@@ -1,6 +1,6 @@
 -- What a hand keeps stays so at each step.
-use Rattle.std.proofs.Common.{◌≡◌, ℕ, zero, suc, ◌+◌, ◌-◌, ◌≤◌, ◌<◌, List, [], ◌∷◌, length, replicate, get_or, set, sym, refl, ap, ◌∙◌,
-    subst, arith, Some, None}
+use Rattle.std.proofs.Common.{◌≡◌, ℕ, zero, suc, ◌+◌, ◌-◌, ◌≤◌, ◌<◌, List, [], ◌∷◌, length, replicate, get_or, set, sym, refl, ap, ◌∙◌}
+use Rattle.std.proofs.Common.{subst, arith, Some, None}
 use mathlib.Core.Option.{some}
 use mathlib.Core.List.{IsPrefix}
 use lib.ListN.{get_elem?}
@@ -8,8 +8,8 @@ use Rattle.std.specs.Prelude.{Option}
 use Rattle.atomic_table.specs.ChoiceRankState.{TableId}
 use Rattle.atomic_table.specs.Table.{Me}
 use Rattle.turn_table.specs.declared.views.HandView.{HandView}
-use Rattle.turn_table.specs.Views.{adjusted, open_turn, places, busier_slot, after_busy, after_take, after_turn, after_give, after_split,
-    all_unseen}
+use Rattle.turn_table.specs.Views.{adjusted, open_turn, places, busier_slot, after_busy, after_take, after_turn, after_give, after_split}
+use Rattle.turn_table.specs.Views.{all_unseen}
 use Rattle.turn_table.specs.States.{TableState, HandState, carried_for, HandKeeps}
 use Rattle.turn_table.specs.Hands.{IsFree, IsFreeSeat, LastTurn}
 use Rattle.turn_table.proofs.Sums.{adjusted_length}
@@ -26,36 +26,36 @@ module _ {T I : Type 0} (past : T → List I) where
         HandKeeps past n' me' room capacity made seen found
     keeps_busy k n' me' idle is same = subst (λ (y : ℕ × M). HandKeeps past y.0 y.1 room capacity made seen found)
         (λ i. (sym same i, sym is i)) record {
-      alive = h.alive;
-      slots = adjusted_length me.0.slots k busier_slot ∙ h.slots;
-      start = h.start;
-      carried = h.carried;
-      empty = h.empty;
-      roomy = h.roomy;
-      counts = counts_busy past made seen n found me.0 k idle h.counts;
-    }
+          alive = h.alive;
+          slots = adjusted_length me.0.slots k busier_slot ∙ h.slots;
+          start = h.start;
+          carried = h.carried;
+          empty = h.empty;
+          roomy = h.roomy;
+          counts = counts_busy past made seen n found me.0 k idle h.counts;
+        }
 
     pub keeps_take : (k n' : ℕ) (x : T) (me' : M) (found' : ℕ) → k < n → found' ≡ length (past x) →
         length (places me.0 k) ≤ length (past x) → me'.0 ≡ after_take me.0 k x → me'.1 ≡ (k, None) ∷ [] → n' ≡ n
         → HandKeeps past n' me' room capacity made seen found'
     keeps_take k n' x me' found' near long at_most is carried same =
         subst (λ (y : ℕ × M). HandKeeps past y.0 y.1 room capacity made seen found') (λ i. (sym same i, (sym is i, sym carried i))) record {
-      alive = h.alive;
-      slots = h.slots;
-      start = h.start;
-      carried = refl;
-      empty = h.empty;
-      roomy = h.roomy;
-      counts = counts_hold past made seen n found me.0 k x found' near long at_most h.counts;
-    }
+          alive = h.alive;
+          slots = h.slots;
+          start = h.start;
+          carried = refl;
+          empty = h.empty;
+          roomy = h.roomy;
+          counts = counts_hold past made seen n found me.0 k x found' near long at_most h.counts;
+        }
 
     pub keeps_give : (k n' : ℕ) (x y : T) (me' : M) (made' seen' : List ℕ) → me.0.turn ≡ Some (open_turn k x) →
         IsPrefix (past x) (past y) → me'.0 ≡ after_give past me.0 k x y → me'.1 ≡ [] → n' ≡ n
         → made' ≡ set made k (get_or made k 0 + (length (past y) - found)) → seen' ≡ set seen k (length (past y)) →
-            HandKeeps past n' me' room capacity made' seen' found
+        HandKeeps past n' me' room capacity made' seen' found
     keeps_give k n' x y me' made' seen' turn begins is carried same made_is seen_is =
         subst (λ (z : ℕ × M × List ℕ × List ℕ). HandKeeps past z.0 z.1 room capacity z.2 z.3 found)
-            (λ i. (sym same i, (sym is i, sym carried i), sym made_is i, sym seen_is i)) record {
+        (λ i. (sym same i, (sym is i, sym carried i), sym made_is i, sym seen_is i)) record {
           alive = h.alive;
           slots = adjusted_length me.0.slots k (after_turn past x y) ∙ h.slots;
           start = h.start;
@@ -70,28 +70,28 @@ module _ {T I : Type 0} (past : T → List I) where
         HandKeeps past n' me' room capacity made seen found
     keeps_split n' me' two is same = subst (λ (y : ℕ × M). HandKeeps past y.0 y.1 room capacity made seen found)
         (λ i. (sym same i, sym is i)) record {
-      alive = omega arith;
-      slots = h.slots;
-      start = h.start;
-      carried = h.carried;
-      empty = h.empty;
-      roomy = h.roomy;
-      counts = counts_same past made seen n found me.0 (after_split me.0) refl refl h.counts;
-    }
+          alive = omega arith;
+          slots = h.slots;
+          start = h.start;
+          carried = h.carried;
+          empty = h.empty;
+          roomy = h.roomy;
+          counts = counts_same past made seen n found me.0 (after_split me.0) refl refl h.counts;
+        }
 
     -- the seat of a hand that has no turn
     pub free_seat : (t : TableState T) (hand : HandState T) (table : TableId) → IsFree t hand →
         record { table = table; knows = me.0 } ≡ hand → IsFreeSeat t table me
     free_seat t hand table free is = let started = ap (λ (u : HandState T). u.knows.start) is ∙ free.0.1 in let idle =
-                                                                                                                  ap (λ (u : HandState T).
-                                                                                                                  u.knows.turn) is ∙ free.1 in record {
-      table_is = ap (λ (u : HandState T). u.table) is ∙ free.0.0;
-      alive = h.alive;
-      idle = idle;
-      slots = h.slots ∙ (sym h.start ∙ ap (λ (l : List T). length l) started);
-      start = started;
-      carries = h.carried ∙ ap carried_for idle;
-    }
+        ap (λ (u : HandState T).
+        u.knows.turn) is ∙ free.1 in record {
+          table_is = ap (λ (u : HandState T). u.table) is ∙ free.0.0;
+          alive = h.alive;
+          idle = idle;
+          slots = h.slots ∙ (sym h.start ∙ ap (λ (l : List T). length l) started);
+          start = started;
+          carries = h.carried ∙ ap carried_for idle;
+        }
 
   -- a new hand keeps it
   pub keeps_new : (n : ℕ) (me : M) (start : List T) (room : List T) (capacity : ℕ) (made seen : List ℕ) → 0 < me.0.parts →

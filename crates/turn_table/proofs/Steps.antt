@@ -1,6 +1,6 @@
 -- The steps on a slot's word keep the rule.
-use Rattle.std.proofs.Common.{◌≡◌, ◌≢◌, ℕ, zero, suc, ◌+◌, ◌-◌, ◌≤◌, ◌<◌, List, [], ◌∷◌, ◌++◌, map, length, get_or, set, sym, refl, ap, ◌∙◌,
-    subst, ⊎_elim, arith, length-set, get_or-set_same, length-append}
+use Rattle.std.proofs.Common.{◌≡◌, ◌≢◌, ℕ, zero, suc, ◌+◌, ◌-◌, ◌≤◌, ◌<◌, List, [], ◌∷◌, ◌++◌, map, length, get_or, set, sym, refl, ap, ◌∙◌}
+use Rattle.std.proofs.Common.{subst, ⊎_elim, arith, length-set, get_or-set_same, length-append}
 use mathlib.Core.Option.{some, none, some-injective, some-ne-none}
 use mathlib.Core.List.{IsPrefix}
 use native.Mathlib.Decide.{ℕ_discrete}
@@ -13,8 +13,8 @@ use Rattle.turn_table.specs.declared.views.OpenTurn.{OpenTurn}
 use Rattle.turn_table.specs.declared.views.EndedTurn.{EndedTurn}
 use Rattle.turn_table.specs.declared.views.SlotView.{SlotView}
 use Rattle.turn_table.specs.declared.views.HandView.{HandView}
-use Rattle.turn_table.specs.Views.{adjusted, times, once_below, numbers_from, places_in, places, after_busy, busier_slot, busy_in, busy_at,
-    without_busy, after_take, after_turn, after_give, open_turn}
+use Rattle.turn_table.specs.Views.{adjusted, times, once_below, numbers_from, places_in, places, after_busy, busier_slot, busy_in, busy_at}
+use Rattle.turn_table.specs.Views.{without_busy, after_take, after_turn, after_give, open_turn}
 use Rattle.turn_table.specs.Rules.{Where, home, out, value_of, Shows, Begun, KeepsTurns, try_tells, count_tells}
 use Rattle.turn_table.proofs.Sums.{sum_at, adjusted_at, adjusted_length, prefix_refl, times_numbers_from, times_append, set_there}
 use Rattle.turn_table.proofs.Words.{taken_word, busy_word}
@@ -90,17 +90,17 @@ module _ {T N I : Type 0} (past : T → List I) (name : T → N) (start : List T
   busies : (s : S) (r : KeepsTurns past name start s) (id k : ℕ) (me : M) (j : ℕ) (x : T) → me.0.turn ≡ None → 0 < me.0.parts →
       k < length start → get_elem? s.views id ≡ some me.0 → r.cells k ≡ out j x
       → Goes s id me k (length (past x) + 9223372036854775808) (try_tells past name (step (length s.homes) k 9223372036854775808 0 none)
-          me (length (past x) + 9223372036854775808))
+      me (length (past x) + 9223372036854775808))
   busies s r id k me j x idle some_part near at is =
       let v = me.0 in let w : HandView T = after_busy v k in let ok = r.slot_ok k near in let mine = r.seat_ok id v at in let n : ℕ =
-                                                                                                                                length (past x) + 9223372036854775808 in let c = r.cells k in
+      length (past x) + 9223372036854775808 in let c = r.cells k in
       let wide = r.worded in
       let shown : Shows past name s.words s.homes k (out j x) = subst (λ (c : Where T). Shows past name s.words s.homes k c) is ok.shows in
       let shown' : Shows past name (set s.words k n) s.homes k (out j x) = (get_or-set_same s.words k n 0 (omega arith), shown.1) in
       let same : IsPrefix (past (value_of c)) (past (value_of c)) = prefix_refl (past (value_of c)) in
       let seen : Begun past name r.cells w.slots = λ k' p i b q l. ⊎_elim
       (λ (t : (k' ≡ k) × ((a : SlotView T) × (get_elem? v.slots k' ≡ some a) × (busier_slot a ≡ p))). mine.begun k' t.1.0 i b t.1.1
-          (ap (λ (y : SlotView T). get_elem? y.seen i) t.1.2 ∙ l))
+      (ap (λ (y : SlotView T). get_elem? y.seen i) t.1.2 ∙ l))
       (λ (t : (k' ≢ k) × (get_elem? v.slots k' ≡ some p)). mine.begun k' p i b t.1 l) (adjusted_at v.slots k k' busier_slot p q) in (
         w,
         keeps,
@@ -128,15 +128,15 @@ module _ {T N I : Type 0} (past : T → List I) (name : T → N) (start : List T
   takes_it : (s : S) (r : KeepsTurns past name start s) (id k : ℕ) (me : M) (x : T) → me.0.turn ≡ None → 0 < me.0.parts →
       k < length start → get_elem? s.views id ≡ some me.0 → r.cells k ≡ home x
       → Goes s id me k (length (past x) + 9223372036854775808) (try_tells past name (step (length s.homes) k 9223372036854775808 0 none)
-          me (length (past x)))
+      me (length (past x)))
   takes_it s r id k me x idle some_part near at is =
       let v = me.0 in let w : HandView T = after_take v k x in let ok = r.slot_ok k near in let mine = r.seat_ok id v at in let n : ℕ =
-                                                                                                                                  length (past x) + 9223372036854775808 in let c : Where T = out id x in
+      length (past x) + 9223372036854775808 in let c : Where T = out id x in
       let wide = r.worded in let homed = r.homed in
       let shown : Shows past name s.words s.homes k (home x) = subst (λ (c : Where T). Shows past name s.words s.homes k c) is ok.shows in
       let value : value_of (r.cells k) ≡ x = ap value_of is in
       let longer : IsPrefix (past (value_of (r.cells k))) (past x) = subst (λ (y : T). IsPrefix (past (value_of (r.cells k))) (past y))
-            value (prefix_refl (past (value_of (r.cells k)))) in
+      value (prefix_refl (past (value_of (r.cells k)))) in
       let short : length (past x) < 4611686018427387904 = subst (λ (y : T). length (past y) < 4611686018427387904) value ok.short in
       let named : (y : T) → get_elem? start k ≡ some y → name x ≡ name y = λ y e. ap name (sym value) ∙ ok.named y e in (
         w,
@@ -148,8 +148,11 @@ module _ {T N I : Type 0} (past : T → List I) (name : T → N) (start : List T
               shows = (get_or-set_same s.words k n 0 (omega arith), set_here s.homes k none (omega arith));
               short = short;
               named = named;
-              holder = λ i y e. (w, ap (λ q. get_elem? (set s.views id w) q) (sym (out_seat id i x y e)) ∙ set_there s.views id v w at,
-                  ap (λ (q : T). Some (open_turn k q)) (out_value id i x y e));
+              holder = λ i y e. (
+                w,
+                ap (λ q. get_elem? (set s.views id w) q) (sym (out_seat id i x y e)) ∙ set_there s.views id v w at,
+                ap (λ (q : T). Some (open_turn k q)) (out_value id i x y e),
+              );
             }
             (λ k' y _ e. absurd (none_held (open_turn k' y) (sym idle ∙ e)))
             (λ i y _ e. absurd (home_out x i y (sym is ∙ e)))
@@ -158,15 +161,15 @@ module _ {T N I : Type 0} (past : T → List I) (name : T → N) (start : List T
               alive = mine.alive;
               idle = λ z. absurd (omega arith);
               turn = λ k' y e. (let h = some_held (open_turn k x) (open_turn k' y) e in let same : k ≡ k' =
-                                                                                              ap (λ (q : OpenTurn T). q.slot) h in (
-                subst (λ (i : ℕ). i < length start) same near,
-                at_put r.cells k c (λ (i : ℕ) (d : Where T). d ≡ out id y) k' (λ _. ap (λ (q : OpenTurn T). out id q.value) h)
-                    (λ apart. absurd (apart (sym same))),
-              ));
+                  ap (λ (q : OpenTurn T). q.slot) h in (
+                    subst (λ (i : ℕ). i < length start) same near,
+                    at_put r.cells k c (λ (i : ℕ) (d : Where T). d ≡ out id y) k' (λ _. ap (λ (q : OpenTurn T). out id q.value) h)
+                        (λ apart. absurd (apart (sym same))),
+                  ));
               begun = begun_put past name start r.cells k c v.slots longer mine.begun;
             }
             refl (λ p. ap (λ (y : T). times p (places v k) + once_below p (length (past y))) value)
-                (ap (λ (y : T). length (places v k) + length (past y)) value) (λ k' _. refl),
+            (ap (λ (y : T). length (places v k) + length (past y)) value) (λ k' _. refl),
         (
           (λ le. absurd (omega arith)),
           λ _. (
@@ -175,7 +178,7 @@ module _ {T N I : Type 0} (past : T → List I) (name : T → N) (start : List T
             refl,
             short,
             (let a = r.long k near in let b = sum_at (λ (u : HandView T). length (places u k)) s.views id v at in let e =
-                                                                                                                        ap (λ (y : T). length (past y)) value in omega arith),
+                ap (λ (y : T). length (past y)) value in omega arith),
             (λ p i b q l. subst (λ (y : T). IsPrefix (past b.given) (past y)) value (mine.begun k p i b q l)),
             λ y e. named y (ap (λ (l : List T). get_elem? l k) (sym (mine.alive some_part).0) ∙ e),
           ),
@@ -184,7 +187,7 @@ module _ {T N I : Type 0} (past : T → List I) (name : T → N) (start : List T
 
   pub tries : (n id k : ℕ) (me : M) → me.0.turn ≡ None → 0 < me.0.parts → k < length start
       → Allows (KeepsTurns past name start) n id me k (λ w. bit_or w 9223372036854775808)
-          (try_tells past name (step n k 9223372036854775808 0 none) me)
+      (try_tells past name (step n k 9223372036854775808 0 none) me)
   tries n id k me idle some_part near s r wide at _ = subst (λ (m : ℕ). Goes s id me k (bit_or (get_or s.words k 0) 9223372036854775808)
       (try_tells past name (step m k 9223372036854775808 0 none) me (get_or s.words k 0))) wide (go (r.cells k) refl)
     where
@@ -193,23 +196,23 @@ module _ {T N I : Type 0} (past : T → List I) (name : T → N) (start : List T
       go (home x) is =
           let ok = r.slot_ok k near in
           let shown : Shows past name s.words s.homes k (home x) = subst (λ (c : Where T). Shows past name s.words s.homes k c) is
-                ok.shows in
+          ok.shows in
           let short : length (past x) < 4611686018427387904 = subst (λ (y : T). length (past y) < 4611686018427387904) (ap value_of is)
-                ok.short in
+          ok.short in
           let word : bit_or (get_or s.words k 0) 9223372036854775808 ≡ length (past x) + 9223372036854775808 =
-                ap (λ m. bit_or m 9223372036854775808) shown.0 ∙ taken_word (length (past x)) (omega arith) in
+          ap (λ m. bit_or m 9223372036854775808) shown.0 ∙ taken_word (length (past x)) (omega arith) in
           subst (λ (y : ℕ × ℕ). Goes s id me k y.0 (try_tells past name (step (length s.homes) k 9223372036854775808 0 none) me y.1))
-              (λ i. (sym word i, sym shown.0 i)) (takes_it s r id k me x idle some_part near at is)
+          (λ i. (sym word i, sym shown.0 i)) (takes_it s r id k me x idle some_part near at is)
       go (out j x) is =
           let ok = r.slot_ok k near in
           let shown : Shows past name s.words s.homes k (out j x) = subst (λ (c : Where T). Shows past name s.words s.homes k c) is
-                ok.shows in
+          ok.shows in
           let short : length (past x) < 4611686018427387904 = subst (λ (y : T). length (past y) < 4611686018427387904) (ap value_of is)
-                ok.short in
+          ok.short in
           let word : bit_or (get_or s.words k 0) 9223372036854775808 ≡ length (past x) + 9223372036854775808 =
-                ap (λ m. bit_or m 9223372036854775808) shown.0 ∙ busy_word (length (past x)) (omega arith) in
+          ap (λ m. bit_or m 9223372036854775808) shown.0 ∙ busy_word (length (past x)) (omega arith) in
           subst (λ (y : ℕ × ℕ). Goes s id me k y.0 (try_tells past name (step (length s.homes) k 9223372036854775808 0 none) me y.1))
-              (λ i. (sym word i, sym shown.0 i)) (busies s r id k me j x idle some_part near at is)
+          (λ i. (sym word i, sym shown.0 i)) (busies s r id k me j x idle some_part near at is)
 
   pub places_after_turn : (l : List (SlotView T)) (k : ℕ) (x y : T) → k < length l → places_in (adjusted l k (after_turn past x y)) k
       ≡ places_in l k ++ numbers_from (length (past x)) (length (past y) - length (past x))
@@ -231,20 +234,24 @@ module _ {T N I : Type 0} (past : T → List I) (name : T → N) (start : List T
   counts_at : (s : S) (r : KeepsTurns past name start s) (id k : ℕ) (me : M) (x y : T) → me.0.turn ≡ Some (open_turn k x) →
       me.1 ≡ (k, Some y) ∷ rest me.1 → 0 < me.0.parts → IsPrefix (past x) (past y) → name y ≡ name x → length (past y) < 4611686018427387904
       → k < length start → get_elem? s.views id ≡ some me.0 → r.cells k ≡ out id x
-      → KeepsTurns past name start record { words = set s.words k (length (past y)); homes = set s.homes k (some (Some y)); views =
-          set s.views id (after_give past me.0 k x y) }
+      → KeepsTurns past name start record {
+        words = set s.words k (length (past y));
+        homes = set s.homes k (some (Some y));
+        views =
+            set s.views id (after_give past me.0 k x y);
+      }
   counts_at s r id k me x y mine_is carried some_part begins same_name short near at is =
       let v = me.0 in let w : HandView T = after_give past v k x y in let ok = r.slot_ok k near in let mine = r.seat_ok id v at in
-          let n : ℕ = length (past y) in let c : Where T = home y in
+      let n : ℕ = length (past y) in let c : Where T = home y in
       let wide = r.worded in let homed = r.homed in
       let value : value_of (r.cells k) ≡ x = ap value_of is in
       let longer : IsPrefix (past (value_of (r.cells k))) (past y) = subst (λ (z : T). IsPrefix (past z) (past y)) (sym value) begins in
       let grows : length (past x) ≤ length (past y) = longer_length (past x) (past y) begins in
       let sized : length v.slots ≡ length start = (mine.alive some_part).1 in
       let mine_at : (k' : ℕ) (z : T) → v.turn ≡ Some (open_turn k' z) → k ≡ k' =
-            λ k' z e. ap (λ (q : OpenTurn T). q.slot) (some_held (open_turn k x) (open_turn k' z) (sym mine_is ∙ e)) in
+      λ k' z e. ap (λ (q : OpenTurn T). q.slot) (some_held (open_turn k x) (open_turn k' z) (sym mine_is ∙ e)) in
       moved past name start s r id k n v w c (set s.homes k (some (Some y))) at near (length-set s.homes k (some (Some y)))
-          (λ i other. set_else s.homes k i (some (Some y)) other)
+      (λ i other. set_else s.homes k i (some (Some y)) other)
       record {
         shows = (get_or-set_same s.words k n 0 (omega arith), set_here s.homes k (some (Some y)) (omega arith));
         short = short;
@@ -262,30 +269,30 @@ module _ {T N I : Type 0} (past : T → List I) (name : T → N) (start : List T
             (λ (t : (k' ≡ k) × ((a : SlotView T) × (get_elem? v.slots k' ≡ some a) × (after_turn past x y a ≡ p))).
             let given : y ≡ b.given = some_given x y b i (ap (λ (u : SlotView T). get_elem? u.seen i) t.1.2 ∙ l) in
             at_put r.cells k c (λ (i : ℕ) (d : Where T). IsPrefix (past b.given) (past (value_of d))) k'
-                (λ _. subst (λ (z : T). IsPrefix (past z) (past y)) given (prefix_refl (past y))) (λ apart. absurd (apart t.0)))
+            (λ _. subst (λ (z : T). IsPrefix (past z) (past y)) given (prefix_refl (past y))) (λ apart. absurd (apart t.0)))
             (λ (t : (k' ≢ k) × (get_elem? v.slots k' ≡ some p)). begun_put past name start r.cells k c v.slots longer mine.begun k' p i b
-                t.1 l)
+            t.1 l)
             (adjusted_at v.slots k k' (after_turn past x y) p q);
       }
       refl
       (λ p. let a = ap (λ (l : List ℕ). times p l) (places_after_turn v.slots k x y (omega arith)) in let b =
-                                                                                                            times_append p (places v k)
-                                                                                                            (numbers_from (length
-                                                                                                            (past x)) (length (past y) -
-                                                                                                            length (past x))) in
+      times_append p (places v k)
+      (numbers_from (length
+      (past x)) (length (past y) -
+      length (past x))) in
       let d = times_numbers_from p (length (past x)) (length (past y) - length (past x)) in
       let e : once_below p (length (past x) + (length (past y) - length (past x))) ≡ once_below p (length (past y)) =
-            ap (λ m. once_below p m) (whole (length (past x)) (length (past y)) grows) in
+      ap (λ m. once_below p m) (whole (length (past x)) (length (past y)) grows) in
       let f : once_below p (length (past (value_of (r.cells k)))) ≡ once_below p (length (past x)) =
-            ap (λ (z : T). once_below p (length (past z))) value in omega arith)
+      ap (λ (z : T). once_below p (length (past z))) value in omega arith)
       (let a = ap (λ (l : List ℕ). length l) (places_after_turn v.slots k x y (omega arith)) in let b =
-                                                                                                      length-append (places v k)
-                                                                                                      (numbers_from (length (past x))
-                                                                                                      (length (past y) - length (past x)))
-                                                                                                      in
+      length-append (places v k)
+      (numbers_from (length (past x))
+      (length (past y) - length (past x)))
+      in
       let d = numbers_from_length (length (past x)) (length (past y) - length (past x)) in let f =
-                                                                                                 ap (λ (z : T). length (past z)) value in
-                                                                                                 omega arith)
+      ap (λ (z : T). length (past z)) value in
+      omega arith)
       (λ k' apart. places_beside v.slots k k' x y apart)
     where
       some_given : (x y : T) (b : EndedTurn T) (i : ℕ) → get_elem? (record { taken = x; given = y } ∷ []) i ≡ some b → y ≡ b.given
@@ -310,9 +317,9 @@ module _ {T N I : Type 0} (past : T → List I) (name : T → N) (start : List T
         subst (λ (q : ℕ × List (ℕ × Option T)). KeepsTurns past name start (stepped s k q.0 id q.1 (after_give past me.0 k x y) gives))
             (λ i. (sym is_len i, sym carried i)) (counts_at s r id k me x y mine_is carried some_part begins same_name short t.0 at t.1),
         λ x' y' is have. (let a = same_values x x' (sym mine_is ∙ is) in let b =
-                                                                               same_slots y y' (rest me.1) (rest me.1)
-                                                                               (sym carried ∙ have) in
-                                                                               λ i. (after_give past me.0 k (a i) (b i), rest me.1)),
+            same_slots y y' (rest me.1) (rest me.1)
+            (sym carried ∙ have) in
+            λ i. (after_give past me.0 k (a i) (b i), rest me.1)),
       )
     where
       same_values : (x x' : T) → Some (open_turn k x) ≡ Some (open_turn k x') → x ≡ x'

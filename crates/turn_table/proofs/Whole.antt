@@ -1,6 +1,6 @@
 -- The opening, the cutting and joining of views, and the end.
-use Rattle.std.proofs.Common.{◌≡◌, ◌≢◌, ℕ, zero, suc, ◌<◌, List, [], ◌∷◌, ◌++◌, map, replicate, length, get_or, set, sym, refl, ap, ◌∙◌,
-    subst, ⊎_elim, ◌⊎◌, inl, inr, arith, length-append}
+use Rattle.std.proofs.Common.{◌≡◌, ◌≢◌, ℕ, zero, suc, ◌<◌, List, [], ◌∷◌, ◌++◌, map, replicate, length, get_or, set, sym, refl, ap, ◌∙◌}
+use Rattle.std.proofs.Common.{subst, ⊎_elim, ◌⊎◌, inl, inr, arith, length-append}
 use Rattle.std.proofs.lemmas.List.{length-map, length-replicate}
 use mathlib.Core.Option.{some, some-injective, some-ne-none}
 use mathlib.Core.List.{IsPrefix}
@@ -14,8 +14,8 @@ use Rattle.std.proofs.lemmas.List.Sums.{sum_by-append}
 use Rattle.turn_table.specs.declared.views.EndedTurn.{EndedTurn}
 use Rattle.turn_table.specs.declared.views.SlotView.{SlotView}
 use Rattle.turn_table.specs.declared.views.HandView.{HandView}
-use Rattle.turn_table.specs.Views.{times, once_below, places_in, places, unseen, all_unseen, first_view, after_split, new_view, spent_view,
-    joined_slots, after_join, open_turn}
+use Rattle.turn_table.specs.Views.{times, once_below, places_in, places, unseen, all_unseen, first_view, after_split, new_view, spent_view}
+use Rattle.turn_table.specs.Views.{joined_slots, after_join, open_turn}
 use Rattle.turn_table.specs.Rules.{Where, home, out, value_of, Shows, ChoiceRankOk, KeepsTurns, Ends}
 use Rattle.turn_table.proofs.Sums.{sum_set, sum_two, sum_alone, times_append, below_zero}
 use Rattle.turn_table.proofs.Cells.{stays}
@@ -91,7 +91,7 @@ module _ {T : Type 0} where
   merged_at : (xs ys : List (SlotView T)) (k : ℕ) (p : SlotView T) (i : ℕ) (b : EndedTurn T) → get_elem? (joined_slots xs ys) k ≡ some p →
       get_elem? p.seen i ≡ some b
       → ((q : SlotView T) × (j : ℕ) × (get_elem? xs k ≡ some q) × (get_elem? q.seen j ≡ some b)) ⊎ ((q : SlotView T) × (j : ℕ) ×
-          (get_elem? ys k ≡ some q) × (get_elem? q.seen j ≡ some b))
+      (get_elem? ys k ≡ some q) × (get_elem? q.seen j ≡ some b))
   merged_at [] ys k p i b e s = absurd (some-ne-none p (sym e))
   merged_at (x ∷ xs) [] k p i b e s = inl (p, i, e, s)
   merged_at (x ∷ xs) (y ∷ ys) zero p i b e s = ⊎_elim (λ (t : get_elem? x.seen i ≡ some b). inl (x, i, refl, t))
@@ -109,25 +109,25 @@ module _ {T N I : Type 0} (past : T → List I) (name : T → N) (start : List T
   pub splits : (id : ℕ) (v : HandView T) → 1 < v.parts → Splits (KeepsTurns past name start) id v (after_split v) (new_view v)
   splits id v two s r at =
       let l : HandView T = after_split v in let f : HandView T = new_view v in let mine = r.seat_ok id v at in
-          let some_part : 0 < v.parts = omega arith in let vs : List (HandView T) = set s.views id l in
+      let some_part : 0 < v.parts = omega arith in let vs : List (HandView T) = set s.views id l in
       record {
         cells = r.cells;
         worded = r.worded;
         homed = r.homed;
         parts = (let a = sum_by-append (λ (u : HandView T). u.parts) vs (f ∷ []) in let b =
-                                                                                          sum_set (λ (u : HandView T). u.parts) s.views id
-                                                                                          v l at in let p = r.parts in omega arith);
+            sum_set (λ (u : HandView T). u.parts) s.views id
+            v l at in let p = r.parts in omega arith);
         slot_ok = λ k near. (let ok = r.slot_ok k near in record {
           shows = ok.shows;
           short = ok.short;
           named = ok.named;
           holder = λ j x e. (let h = ok.holder j x e in let g = stays past name start s.views id k j x v l h.0 at h.1 h.2 (λ _ q. q)
-                                                              (ℕ_discrete j id) in (g.0, at_longer vs (f ∷ []) j g.0 g.1, g.2));
+              (ℕ_discrete j id) in (g.0, at_longer vs (f ∷ []) j g.0 g.1, g.2));
         });
         seat_ok = λ j u e. ⊎_elim
             (λ (t : get_elem? vs j ≡ some u). ⊎_elim
             (λ (q : (j ≡ id) × (l ≡ u)). subst (λ (y : ℕ × HandView T). ChoiceRankOk past name start r.cells y.0 y.1)
-                (λ i. (sym q.0 i, q.1 i)) record {
+            (λ i. (sym q.0 i, q.1 i)) record {
               alive = λ _. mine.alive some_part;
               idle = λ z. absurd (omega arith);
               turn = mine.turn;
@@ -141,13 +141,13 @@ module _ {T N I : Type 0} (past : T → List I) (name : T → N) (start : List T
               begun = λ k p i b q z. absurd (nothing_seen v.start k p i b q z);
             }) (at_snoc vs f u j e);
         placed = λ k p near. (let a = sum_by-append (λ (u : HandView T). times p (places u k)) vs (f ∷ []) in let b =
-                                                                                                                    sum_set (λ (u : HandView T). times p (places u k)) s.views id v l at in let c = r.placed k p near in
+            sum_set (λ (u : HandView T). times p (places u k)) s.views id v l at in let c = r.placed k p near in
             let d = ap (λ (q : List ℕ). times p q) (unseen_places v.start k) in omega arith);
         long = λ k near. (let a = sum_by-append (λ (u : HandView T). length (places u k)) vs (f ∷ []) in let b =
-                                                                                                               sum_set (λ (u : HandView
-                                                                                                               T). length (places u k))
-                                                                                                               s.views id v l at in
-                                                                                                               let c = r.long k near in
+            sum_set (λ (u : HandView
+            T). length (places u k))
+            s.views id v l at in
+            let c = r.long k near in
             let d = ap (λ (q : List ℕ). length q) (unseen_places v.start k) in omega arith);
       }
 
@@ -156,7 +156,7 @@ module _ {T N I : Type 0} (past : T → List I) (name : T → N) (start : List T
   joins id v other w some_mine some_theirs idle s r at apart at' =
       let b : HandView T = after_join v w in let vs : List (HandView T) = set s.views id b in let last : HandView T = spent_view in
       let was : get_elem? s.views other ≡ some w = ⊎_elim (λ (t : (other ≡ id) × (b ≡ w)). absurd (apart t.0))
-            (λ (t : (other ≢ id) × (get_elem? s.views other ≡ some w)). t.1) (at_set s.views id other b w at') in
+      (λ (t : (other ≢ id) × (get_elem? s.views other ≡ some w)). t.1) (at_set s.views id other b w at') in
       let mine = r.seat_ok id v at in let theirs = r.seat_ok other w was in
       let sized : length v.slots ≡ length w.slots = (mine.alive some_mine).1 ∙ sym (theirs.alive some_theirs).1 in
       record {
@@ -164,16 +164,16 @@ module _ {T N I : Type 0} (past : T → List I) (name : T → N) (start : List T
         worded = r.worded;
         homed = r.homed;
         parts = (let a = sum_set (λ (u : HandView T). u.parts) vs other w last at' in let c =
-                                                                                            sum_set (λ (u : HandView T). u.parts) s.views
-                                                                                            id v b at in let p = r.parts in omega arith);
+            sum_set (λ (u : HandView T). u.parts) s.views
+            id v b at in let p = r.parts in omega arith);
         slot_ok = λ k near. (let ok = r.slot_ok k near in record {
           shows = ok.shows;
           short = ok.short;
           named = ok.named;
           holder = λ j x e. (let h = ok.holder j x e in let g = stays past name start s.views id k j x v b h.0 at h.1 h.2 (λ _ q. q)
-                                                              (ℕ_discrete j id) in
+              (ℕ_discrete j id) in
               stays past name start vs other k j x w last g.0 at' g.1 g.2 (λ y q. absurd (none_held (open_turn k y) (sym idle ∙ q)))
-                  (ℕ_discrete j other));
+              (ℕ_discrete j other));
         });
         seat_ok = λ j u e. ⊎_elim
             (λ (t : (j ≡ other) × (last ≡ u)). subst (λ (y : HandView T). ChoiceRankOk past name start r.cells j y) t.1 record {
@@ -184,30 +184,30 @@ module _ {T N I : Type 0} (past : T → List I) (name : T → N) (start : List T
             })
             (λ (t : (j ≢ other) × (get_elem? vs j ≡ some u)). ⊎_elim
             (λ (q : (j ≡ id) × (b ≡ u)). subst (λ (y : ℕ × HandView T). ChoiceRankOk past name start r.cells y.0 y.1)
-                (λ i. (sym q.0 i, q.1 i)) record {
+            (λ i. (sym q.0 i, q.1 i)) record {
               alive = λ _. ((mine.alive some_mine).0, merged_length v.slots w.slots ∙ (mine.alive some_mine).1);
               idle = λ z. absurd (omega arith);
               turn = mine.turn;
               begun = λ k p i b q z. ⊎_elim (λ (t : (q : SlotView T) × (j : ℕ) × (get_elem? v.slots k ≡ some q) ×
                   (get_elem? q.seen j ≡ some b)). mine.begun k t.0 t.1 b t.2 t.3)
                   (λ (t : (q : SlotView T) × (j : ℕ) × (get_elem? w.slots k ≡ some q) × (get_elem? q.seen j ≡ some b)). theirs.begun k t.0
-                      t.1 b t.2 t.3) (merged_at v.slots w.slots k p i b q z);
+                  t.1 b t.2 t.3) (merged_at v.slots w.slots k p i b q z);
             })
             (λ (q : (j ≢ id) × (get_elem? s.views j ≡ some u)). r.seat_ok j u q.1) (at_set s.views id j b u t.1))
-                (at_set vs other j last u e);
+            (at_set vs other j last u e);
         placed = λ k p near. (let a = sum_set (λ (u : HandView T). times p (places u k)) vs other w last at' in let c =
-                                                                                                                      sum_set (λ (u : HandView T). times p (places u k)) s.views id v b at in let d = r.placed k p near in
+            sum_set (λ (u : HandView T). times p (places u k)) s.views id v b at in let d = r.placed k p near in
             let e = ap (λ (q : List ℕ). times p q) (merged_places v.slots w.slots k sized) in let f =
-                                                                                                    times_append p (places v k)
-                                                                                                    (places w k) in omega arith);
+            times_append p (places v k)
+            (places w k) in omega arith);
         long = λ k near. (let a = sum_set (λ (u : HandView T). length (places u k)) vs other w last at' in let c =
-                                                                                                                 sum_set (λ (u : HandView
-                                                                                                                 T). length (places u k))
-                                                                                                                 s.views id v b at in
-                                                                                                                 let d = r.long k near in
+            sum_set (λ (u : HandView
+            T). length (places u k))
+            s.views id v b at in
+            let d = r.long k near in
             let e = ap (λ (q : List ℕ). length q) (merged_places v.slots w.slots k sized) in let f =
-                                                                                                   length-append (places v k) (places w k)
-                                                                                                   in omega arith);
+            length-append (places v k) (places w k)
+            in omega arith);
       }
 
   pub opens : (d : T) (rest : List T) → start ≡ d ∷ rest → ((k : ℕ) (x : T) → get_elem? start k ≡ some x → past x ≡ []) →
@@ -218,27 +218,30 @@ module _ {T N I : Type 0} (past : T → List I) (name : T → N) (start : List T
     homed = simp length-map;
     parts = omega arith;
     slot_ok = λ k near. (let is = here_or start k d near in let none = empty k (get_or start k d) is in record {
-      shows = (zeros (length start) k ∙ sym (ap (λ (l : List I). length l) none), at_map some (map Some start) k (Some (get_or start k d))
-          (at_map Some start k (get_or start k d) is));
+      shows = (
+        zeros (length start) k ∙ sym (ap (λ (l : List I). length l) none),
+        at_map some (map Some start) k (Some (get_or start k d))
+            (at_map Some start k (get_or start k d) is),
+      );
       short = omega (arith, ap (λ (l : List I). length l) none);
       named = λ x e. ap name (some-injective (get_or start k d) x (sym is ∙ e));
       holder = λ j x e. absurd (home_is (get_or start k d) j x e);
     });
     seat_ok = λ j v e. (let is : first_view start ≡ v = only j v e in
         subst (λ (u : HandView T). ChoiceRankOk past name start (λ k. home (get_or start k d)) j u) is record {
-      alive = λ _. (refl, unseen_length start);
-      idle = λ z. absurd (omega arith);
-      turn = λ k x q. absurd (none_held (open_turn k x) q);
-      begun = λ k p i b q z. absurd (nothing_seen start k p i b q z);
-    });
+          alive = λ _. (refl, unseen_length start);
+          idle = λ z. absurd (omega arith);
+          turn = λ k x q. absurd (none_held (open_turn k x) q);
+          begun = λ k p i b q z. absurd (nothing_seen start k p i b q z);
+        });
     placed = λ k p near. (let none = empty k (get_or start k d) (here_or start k d near) in let a =
-                                                                                                  ap (λ (q : List ℕ). times p q)
-                                                                                                  (unseen_places start k) in let b =
-                                                                                                                                   ap (λ (l : List I). once_below p (length l)) none ∙ below_zero p in omega arith);
+        ap (λ (q : List ℕ). times p q)
+        (unseen_places start k) in let b =
+        ap (λ (l : List I). once_below p (length l)) none ∙ below_zero p in omega arith);
     long = λ k near. (let none = empty k (get_or start k d) (here_or start k d near) in let a =
-                                                                                              ap (λ (q : List ℕ). length q)
-                                                                                              (unseen_places start k) in let b =
-                                                                                                                               ap (λ (l : List I). length l) none in omega arith);
+        ap (λ (q : List ℕ). length q)
+        (unseen_places start k) in let b =
+        ap (λ (l : List I). length l) none in omega arith);
   }
     where
       home_is : (x : T) (i : ℕ) (y : T) → home x ≡ out i y → ⊥
@@ -265,17 +268,17 @@ module _ {T N I : Type 0} (past : T → List I) (name : T → N) (start : List T
       go : (c : Where T) → r.cells k ≡ c → (x : T) × (get_elem? s.homes k ≡ some (some (Some x))) × Ends past name start v k x
       go (home x) is = let ok = r.slot_ok k near in let value : value_of (r.cells k) ≡ x = ap value_of is in
           let shown : Shows past name s.words s.homes k (home x) = subst (λ (c : Where T). Shows past name s.words s.homes k c) is
-                ok.shows in (
+          ok.shows in (
             x,
             shown.1,
             record {
               named = λ y e. ap name (sym value) ∙ ok.named y e;
               begun = λ p i b q z. subst (λ (y : T). IsPrefix (past b.given) (past y)) value ((r.seat_ok id v at).begun k p i b q z);
               placed = λ p. (let t = sum_alone (λ (u : HandView T). times p (places u k)) s.views id v at
-                                   (λ j u apart e. ap (λ (l : List ℕ). times p l) (((r.seat_ok j u e).idle (others j u apart e)).1 k)) in
+                  (λ j u apart e. ap (λ (l : List ℕ). times p l) (((r.seat_ok j u e).idle (others j u apart e)).1 k)) in
                   sym t ∙ (r.placed k p near ∙ ap (λ (y : T). once_below p (length (past y))) value));
               long = (let t = sum_alone (λ (u : HandView T). length (places u k)) s.views id v at
-                            (λ j u apart e. ap (λ (l : List ℕ). length l) (((r.seat_ok j u e).idle (others j u apart e)).1 k)) in
+                  (λ j u apart e. ap (λ (l : List ℕ). length l) (((r.seat_ok j u e).idle (others j u apart e)).1 k)) in
                   sym t ∙ (r.long k near ∙ ap (λ (y : T). length (past y)) value));
             },
           )

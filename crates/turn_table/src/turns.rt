@@ -61,8 +61,10 @@ impl<T: Past> Turns<T> {
         requires hand { IsHandOf self.now hand.old }
         requires turn { MayGive T.past T.name hand.old.knows turn.slot turn.value }
         ensures hand { IsFree self.now hand.new }
-        ensures given { (x : T) → hand.old.knows.turn ≡ Some (open_turn turn.slot x) → hand.new.knows ≡ after_give T.past hand.old.knows turn.slot x turn.value }
-        ensures last { (x : T) → hand.old.knows.turn ≡ Some (open_turn turn.slot x) → LastTurn T.past T.note hand.new.knows turn.slot (T.past x, T.note x) (T.past turn.value, T.note turn.value) }
+        ensures given { (x : T) → hand.old.knows.turn ≡ Some (open_turn turn.slot x) → hand.new.knows ≡ after_give T.past hand.old.knows
+            turn.slot x turn.value }
+        ensures last { (x : T) → hand.old.knows.turn ≡ Some (open_turn turn.slot x) →
+            LastTurn T.past T.note hand.new.knows turn.slot (T.past x, T.note x) (T.past turn.value, T.note turn.value) }
     {
         let Turn { slot, value } = turn;
         let at = slot as usize;

@@ -388,7 +388,8 @@ fn move_between_threads<R: Threads + Wait + Sync>(
     let (out, (into, received)) = thread::join(
         rt,
         move ||
-            requires { IsOutOf shared.now out × (out.sent ≡ []) × (out.waits ≡ false) × (shared.now.bounds ≡ record { source = 0; target = 1; lane = Request; messages = 1000; bytes = 0 }) }
+            requires { IsOutOf shared.now out × (out.sent ≡ []) × (out.waits ≡ false) ×
+                (shared.now.bounds ≡ record { source = 0; target = 1; lane = Request; messages = 1000; bytes = 0 }) }
             ensures { IsOutOf shared.entry.now result × (result.waits ≡ false) }
         { send_all(rt, alloc, shared, out, 1000) },
         move ||

@@ -1,6 +1,6 @@
 -- Nodes that received what was sent to them, but for what lies in lanes, are the ranks of a moment, and there are no strays.
-use Rattle.std.proofs.Common.{ℕ, Bool, true, false, ◌<◌, ◌≤◌, ◌≡◌, ◌∙◌, List, [], ◌∷◌, ◌++◌, length, count_by, cond, refl, ap, subst, inl,
-    inr, arith}
+use Rattle.std.proofs.Common.{ℕ, Bool, true, false, ◌<◌, ◌≤◌, ◌≡◌, ◌∙◌, List, [], ◌∷◌, ◌++◌, length, count_by, cond, refl, ap, subst, inl}
+use Rattle.std.proofs.Common.{inr, arith}
 use Rattle.std.proofs.lemmas.Bool.{cases_lt}
 use Rattle.ptl_types.specs.declared.headers.Lane.{Lane}
 use Rattle.ptl_types.specs.declared.headers.Lane.TheVariants.{Request}
@@ -65,7 +65,7 @@ module _ (p : Plan) (inputs : Inputs) (n : ℕ) (nodes : List NodeState) (lanes 
     (sources : (r s : ℕ) (lane : Lane) → r < n → n ≤ s → got (node_at nodes r).diary.locals s lane ≡ [])
     (sent : (k : ℕ → Slots) → AgreeAll n k nodes → (s d : ℕ) (lane : Lane) → s < n → d < n →
     got (node_at nodes d).diary.locals s lane ++ (lane_at lanes (lane_place n s d lane)).messages ≡ sent_by (system_of p inputs k)
-        (scene_of n nodes lanes).world s d lane) where
+    (scene_of n nodes lanes).world s d lane) where
   abbrev w : Histories
   w = (scene_of n nodes lanes).world
 
@@ -78,7 +78,7 @@ module _ (p : Plan) (inputs : Inputs) (n : ℕ) (nodes : List NodeState) (lanes 
     clean s d lane m hs hd i =
         made-clean p inputs sound (k s) s (w s) m
         (In-filter_cases (is_for d lane) m (made (start_of p (k s) s) (prepare p inputs (k s) s) (w s))
-            (subst (λ v. In m v) (sent k agree s d lane hs hd) i)).0
+        (subst (λ v. In m v) (sent k agree s d lane hs hd) i)).0
 
     got_clean : (d : ℕ) → d < n → (s : ℕ) (lane : Lane) (m : Sent) → In m (got (w d) s lane) → is_stray m ≡ false
     got_clean d hd s lane m i = elim (cases_lt s n) [
@@ -110,7 +110,7 @@ module _ (p : Plan) (inputs : Inputs) (n : ℕ) (nodes : List NodeState) (lanes 
           ∙ sent k agree s d lane (at_rank s hs) (at_rank d hd);
       strays = λ s d lane m hs hd i e.
           absurd (both e (lies_clean s d lane m (at_rank s hs) (at_rank d hd)
-              (subst (λ v. In m v) (held_here n lanes s d lane (at_rank s hs) (at_rank d hd)) i)));
+          (subst (λ v. In m v) (held_here n lanes s d lane (at_rank s hs) (at_rank d hd)) i)));
     }
 
     joined_strays : ((r : ℕ) → r < n → (node_at nodes r).strays ≡ 0) → AreStrays n nodes lanes 0 0
@@ -119,7 +119,7 @@ module _ (p : Plan) (inputs : Inputs) (n : ℕ) (nodes : List NodeState) (lanes 
       at_most = λ d hd.
           let a = (none_came (w d) (got_clean d hd)).0 in
           let b = none-due 0 (λ s. count_by is_stray (lies s d Request)) n
-                (λ s low high. none_count (lies s d Request) (λ m i. lies_clean s d Request m (omega (arith, high)) hd i)) in
+          (λ s low high. none_count (lies s d Request) (λ m i. lies_clean s d Request m (omega (arith, high)) hd i)) in
           omega (arith, a, b);
       received = λ d hd. (none_came (w d) (got_clean d hd)).1;
       held = λ s d lane m hs hd i e. absurd (both e (lies_clean s d lane m hs hd i));

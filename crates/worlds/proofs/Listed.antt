@@ -1,6 +1,6 @@
 -- Which steps are possible, by the parts of a world.
-use Rattle.std.proofs.Common.{ℕ, Bool, true, false, ◌&&◌, ◌<◌, ◌≡◌, ◌∙◌, List, [], ◌∷◌, refl, sym, ap, ap₂, subst, inl, inr, arith,
-    count_by, length, filter, flat_map, map, nat_lt, if◌then◌else◌, lt-ltb}
+use Rattle.std.proofs.Common.{ℕ, Bool, true, false, ◌&&◌, ◌<◌, ◌≡◌, ◌∙◌, List, [], ◌∷◌, refl, sym, ap, ap₂, subst, inl, inr, arith}
+use Rattle.std.proofs.Common.{count_by, length, filter, flat_map, map, nat_lt, if◌then◌else◌, lt-ltb}
 use Rattle.std.proofs.lemmas.Bool.{and_parts, ltb-false, ltb-true}
 use Rattle.ptl_types.specs.Messages.{Sent}
 use Rattle.ptl_types.specs.declared.headers.Lane.{Lane}

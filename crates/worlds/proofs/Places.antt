@@ -1,6 +1,6 @@
 -- The counts of a world's parts are the numbers of its possible steps, place by place.
-use Rattle.std.proofs.Common.{ℕ, Bool, true, false, not, ◌&&◌, ◌*◌, ◌<◌, ◌≤◌, ◌≡◌, ◌∙◌, List, [], ◌∷◌, refl, sym, ap, ap₂, arith, count_by,
-    length, filter, map, get_or, nat_lt, if◌then◌else◌, lt-ltb}
+use Rattle.std.proofs.Common.{ℕ, Bool, true, false, not, ◌&&◌, ◌*◌, ◌<◌, ◌≤◌, ◌≡◌, ◌∙◌, List, [], ◌∷◌, refl, sym, ap, ap₂, arith, count_by}
+use Rattle.std.proofs.Common.{length, filter, map, get_or, nat_lt, if◌then◌else◌, lt-ltb}
 use Rattle.std.proofs.lemmas.Bool.{le-ltb}
 use Rattle.std.proofs.lemmas.List.{get_or_default, length-map}
 use Rattle.ptl_types.specs.Messages.{Sent}
@@ -140,4 +140,4 @@ module _ (p : Plan) (inputs : Inputs) (n : ℕ) (nodes : List NodeState) (lanes 
   deliveries_are =
       counts_by by_place (2 * (n * n)) deliveries world.counted.wide_deliveries deliveries_right
       ∙ ap (λ m. counts (λ i. delivery_on ranks window z (source_at m i) (destination_at m i) (kind_at i)) (2 * (m * m)))
-          (sym world.parts.count)
+      (sym world.parts.count)

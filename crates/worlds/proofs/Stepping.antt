@@ -1,6 +1,6 @@
 -- A world after a step.
-use Rattle.std.proofs.Common.{ℕ, suc, ◌<◌, ◌≤◌, ◌≡◌, ◌∙◌, List, [], ◌∷◌, ◌++◌, Some, refl, sym, ap, ap₂, subst, arith, length, count_by,
-    get_or, append_assoc, append-nil}
+use Rattle.std.proofs.Common.{ℕ, suc, ◌<◌, ◌≤◌, ◌≡◌, ◌∙◌, List, [], ◌∷◌, ◌++◌, Some, refl, sym, ap, ap₂, subst, arith, length, count_by}
+use Rattle.std.proofs.Common.{get_or, append_assoc, append-nil}
 use Rattle.std.proofs.lemmas.Option.{same_Some, slice_get-get_or, slice_get_within}
 use Rattle.std.specs.List.{slice_get}
 use Rattle.plan_core.specs.Members.{In}

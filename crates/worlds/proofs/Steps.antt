@@ -1,6 +1,6 @@
 -- The possible steps of a world: each may be made and stands once, and under a wide window they are the enabled ones.
-use Rattle.std.proofs.Common.{ℕ, Bool, true, false, ◌^◌, ◌<◌, ◌≤◌, ◌≡◌, List, [], ◌∷◌, Option, Some, None, refl, ap, ap₂, inl, inr, arith,
-    count_by, filter, length, if◌then◌else◌, lt-ltb}
+use Rattle.std.proofs.Common.{ℕ, Bool, true, false, ◌^◌, ◌<◌, ◌≤◌, ◌≡◌, List, [], ◌∷◌, Option, Some, None, refl, ap, ap₂, inl, inr, arith}
+use Rattle.std.proofs.Common.{count_by, filter, length, if◌then◌else◌, lt-ltb}
 use Rattle.std.proofs.lemmas.Bool.{cases_Bool, ltb-true}
 use Rattle.std.proofs.lemmas.List.Sums.{count_by-le-length, length-filter}
 use Rattle.op_laws.proofs.Starts.{combined-starts}

@@ -1,6 +1,6 @@
 -- Runs by words: from the first scene, under a window that no lane fills, they are the chosen runs of the words.
-use Rattle.std.proofs.Common.{ℕ, zero, suc, ◌^◌, ◌<◌, ◌≤◌, ◌≡◌, ◌%◌, ◌∙◌, List, [], ◌∷◌, refl, sym, ap, ap₂, subst, arith, length,
-    length-append, get_or}
+use Rattle.std.proofs.Common.{ℕ, zero, suc, ◌^◌, ◌<◌, ◌≤◌, ◌≡◌, ◌%◌, ◌∙◌, List, [], ◌∷◌, refl, sym, ap, ap₂, subst, arith, length}
+use Rattle.std.proofs.Common.{length-append, get_or}
 use Rattle.op_laws.proofs.OpLaws.{op_laws}
 use Rattle.op_laws.proofs.Starts.{combined-starts}
 use Rattle.op_laws.proofs.Swaps.{combined-swaps}

@@ -8,6 +8,9 @@ ghost use Rattle.shape_plans.specs.Drawing.{plan_of};
 ghost use Rattle.worlds.specs.parts.Layout.{lane_at};
 ghost use Rattle.worlds.specs.Frames.{IsClosed, IsFrameOf, MayClose};
 
+use crate::opening::{FRAME_WINDOW, Parts, mark_all, open_bare};
+use crate::parts::acts::Setting;
+use crate::parts::lanes::place;
 use crate::world::World;
 use count_tree::CountTree;
 use pair_wires::PlainLane;
@@ -16,9 +19,6 @@ use rank_node::Node;
 use schedule_compiler::Job;
 use std::alloc::Global;
 use std::marker::Model;
-use crate::opening::{FRAME_WINDOW, Parts, mark_all, open_bare};
-use crate::parts::acts::Setting;
-use crate::parts::lanes::place;
 
 /// A world of a job without its nodes: the lanes between the ranks, and all room that the world needs. Nodes that ran elsewhere, with
 /// what was still on its way between them, become a world by it, and no memory is taken then.

@@ -2,18 +2,18 @@
 //! order.
 #![tactic(auto)]
 
-pub mod opening;
-pub mod parts;
 mod finding;
 mod frame;
 mod laws;
 mod making;
+pub mod opening;
+pub mod parts;
 mod world;
 
+pub use cuts::orders::Step;
 pub use finding::delivery_at;
 pub use frame::Frame;
 pub use laws::{possible_steps_of_worlds, runs_by_words, slots_agree, worlds_stand};
-pub use cuts::orders::Step;
 pub use ptl_types::LocalStep;
 pub use rank_node::Node;
 pub use world::{Chooser, World};

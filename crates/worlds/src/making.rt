@@ -7,13 +7,13 @@ ghost use Rattle.worlds.specs.parts.Keeps.{IsSomeWorld, IsWorld};
 ghost use Rattle.worlds.specs.parts.Steps.{IsStepped};
 ghost use Rattle.worlds.specs.Allowed.{Allows};
 
-use count_tree::CountTree;
-use pair_wires::PlainLane;
-use cuts::orders::Step;
-use rank_node::Node;
 use crate::parts::acts;
 use crate::parts::acts::Setting;
 use crate::parts::lanes::may_deliver;
+use count_tree::CountTree;
+use cuts::orders::Step;
+use pair_wires::PlainLane;
+use rank_node::Node;
 
 /// Whether the parts allow a step.
 pub fn allows(nodes: &[Node], lanes: &[PlainLane], ranks: u32, window: u64, step: Step) -> bool

@@ -27,18 +27,18 @@ ghost use Rattle.worlds.specs.World.{AreSlots, histories_in, memory_in, nic_in, 
 
 use crate::finding::{delivery_at, part_of};
 use crate::making::{allows, make};
+use crate::opening::{Parts, opened as parts_of_job};
+use crate::parts::acts;
+use crate::parts::acts::Setting;
 use count_tree::CountTree;
-use pair_wires::PlainLane;
 use cuts::orders::Step;
+use pair_wires::PlainLane;
 use portals_ni::Nic;
 use ptl_types::{Count, LocalStep, Message, NoMemory, Rank};
 use rank_node::Node;
 use schedule_compiler::{Job, Schedule};
 use std::alloc::Global;
 use std::marker::Model;
-use crate::opening::{Parts, opened as parts_of_job};
-use crate::parts::acts;
-use crate::parts::acts::Setting;
 
 /// Chooses among the possible steps. Its answer and its next state are functions of its state and of how many there are.
 pub trait Chooser {

@@ -1,6 +1,6 @@
 -- What putting a place between two neighbours makes of the nodes.
-use Rattle.std.proofs.Common.{◌≡◌, ◌≢◌, ℕ, ◌<◌, true, false, cond, nat_eq, List, [], ◌∷◌, ◌++◌, length, get_or, set, Option, Some, None,
-    refl, sym, ap, subst, ◌∙◌, inl, inr, arith, length-set}
+use Rattle.std.proofs.Common.{◌≡◌, ◌≢◌, ℕ, ◌<◌, true, false, cond, nat_eq, List, [], ◌∷◌, ◌++◌, length, get_or, set, Option, Some, None}
+use Rattle.std.proofs.Common.{refl, sym, ap, subst, ◌∙◌, inl, inr, arith, length-set}
 use Rattle.std.proofs.lemmas.Bool.{ne_eqb, eq-eqb}
 use Rattle.std.proofs.lemmas.Bool.Decides.{eqb_tells}
 use Rattle.std.proofs.lemmas.List.{get_or-set_same, get_or-set_other, get_or_default}
@@ -13,8 +13,8 @@ use Rattle.chain_list.proofs.ChainLemmas
 use Rattle.chain_list.specs.declared.threads.ends.Ends.{Ends}
 use Rattle.chain_list.specs.threads.Threads.{is_on, last_after, AreApart, placed_after}
 use Rattle.chain_list.specs.threads.Fields.{on, after_of, next_of, no_ends, IsThread, IsThreads}
-use Rattle.chain_list.proofs.threads.ThreadLemmas.{at, on-append, NotAt-off, split_on, last-thread, first-thread, apart-threads,
-    some_within}
+use Rattle.chain_list.proofs.threads.ThreadLemmas.{at, on-append, NotAt-off, split_on, last-thread, first-thread, apart-threads}
+use Rattle.chain_list.proofs.threads.ThreadLemmas.{some_within}
 
 -- ---- the last place, and places apart
 pub last-on : (k : ℕ) (b : Option ℕ) (ps : List ℕ) → last_or b (on k ps) ≡ last_after b ps
@@ -103,11 +103,11 @@ Linked-insert cs k p xs ys a l lt away =
     let left1 = ChainLemmas.Linked-after made None xs n (Some p) apart.0 (ChainLemmas.Linked-set cs None xs n p v offs.0 cut.0) in
     let left2 = ChainLemmas.Linked-before_elsewhere c1 None xs (Some p) n (Some p) (λ q e. NotAt-first ys q xs a e) left1 in
     let right1 = ChainLemmas.Linked-after_elsewhere made b ys None b (Some p) (λ q e. ChainLemmas.Apart-last None xs ys q a (λ i. cc) e)
-          (ChainLemmas.Linked-set cs b ys None p v offs.1 cut.1) in
+    (ChainLemmas.Linked-set cs b ys None p v offs.1 cut.1) in
     let right2 = ChainLemmas.Linked-before c1 b ys None (Some p) apart.1 right1 in
     let here : get_or made p None ≡ v = get_or-set_same cs p v None lt in
     let still : get_or c1 p None ≡ v = ChainLemmas.places_after-other made b (Some p) p
-          (ChainLemmas.NotAt-last p None xs offs.0 (λ e. cc)) ∙ here in
+    (ChainLemmas.NotAt-last p None xs offs.0 (λ e. cc)) ∙ here in
     let last : get_or c2 p None ≡ v = ChainLemmas.places_before-other c1 n (Some p) p (λ e. not-first ys p p offs.1 e refl) ∙ still in
     ChainLemmas.Linked-join c2 None xs (at k p ∷ ys) None left2 (last, right2)
 
@@ -146,10 +146,10 @@ module _ (cs : List (Option (Node ℕ))) (k p : ℕ) (e e' : Ends) (ps : List �
       record {
         linked = ChainLemmas.Linked-before_elsewhere (places_after b (Some p) made) None (on j qs) None a (Some p)
             (λ q f. apart-threads cs j k qs q o.linked n (first-thread cs (last_or None (on k s.before)) k s.behind None q cut.1
-                (sym next ∙ f)))
+            (sym next ∙ f)))
             (ChainLemmas.Linked-after_elsewhere made None (on j qs) None b (Some p)
             (λ q f. apart-threads cs j k qs q o.linked n (last-thread cs None k s.before (first_or (on k s.behind) None) q cut.0 (λ g. cc)
-                (s.last_is ∙ f)))
+            (s.last_is ∙ f)))
             (ChainLemmas.Linked-set cs None (on j qs) None p v away o.linked));
         first_is = o.first_is;
         last_is = o.last_is;
@@ -177,7 +177,7 @@ inserted-all cs es xss k p e' b a t lt within off s next f g =
         | inr q ↦ subst (λ (q : Ends × List ℕ). IsThread new j q.0 q.1)
             (λ i. (sym (get_or-set_other es k j e' no_ends q.1) i, sym (get_or-set_other xss k j put [] q.1) i))
             (inserted-other cs k p e e' ps b a c s next j (get_or es j no_ends) (get_or xss j [])
-                (t.each j (omega (arith, length-set es k e'))) q.1 (off j))
+            (t.each j (omega (arith, length-set es k e'))) q.1 (off j))
       ];
     }
 
@@ -195,20 +195,20 @@ seam_next cs first (Some q) k [] behind last l f = cc
 seam_next cs first b k (x ∷ xs) behind last l f =
     let cut = ChainLemmas.Linked-cut cs None (on k (x ∷ xs)) (on k behind) None l in
     subst (λ o. next_of o first cs ≡ first_or (on k behind) None) last
-        (last_next cs first (first_or (on k behind) None) None (at k x) (on k xs) cut.0)
+    (last_next cs first (first_or (on k behind) None) None (at k x) (on k xs) cut.0)
 
 next-seam : (cs : List (Option (Node ℕ))) (k p : ℕ) (e : Ends) (ps : List ℕ) (b : Option ℕ) → IsThread cs k e ps → (s : IsSeam k b p ps) →
     next_of b e.first cs ≡ first_or (on k s.behind) None
 next-seam cs k p e ps b c s =
     let is : on k ps ≡ on k s.before ++ on k s.behind = ap (λ l. on k l) s.is ∙ on-append k s.before s.behind in
     seam_next cs e.first b k s.before s.behind s.last_is (subst (λ l. Linked cs None l None) is c.linked)
-        (c.first_is ∙ ap (λ l. first_or l None) is)
+    (c.first_is ∙ ap (λ l. first_or l None) is)
 
 -- by what the calls say
 pub inserted : (cs cs0 cs1 cs2 : List (Option (Node ℕ))) (es : List Ends) (xss : List (List ℕ)) (k p : ℕ) (b a : Option ℕ) (e e' : Ends) →
     IsThreads cs es xss → k < length es → p < length cs
     → ((j : ℕ) → is_on p (get_or xss j []) ≡ false) → IfSome b (λ q. is_on q (get_or xss k []) ≡ true) → e ≡ get_or es k e →
-        a ≡ next_of b e.first cs
+    a ≡ next_of b e.first cs
     → cs0 ≡ set cs p (Some (node k b a)) → cs1 ≡ places_after b (Some p) cs0 → cs2 ≡ places_before a (Some p) cs1
     → e'.first ≡ cond (is_some b) e.first (Some p) → e'.last ≡ cond (is_some a) e.last (Some p)
     → IsThreads cs2 (set es k e') (set xss k (placed_after b p (get_or xss k []))) × (length cs2 ≡ length cs)
@@ -217,12 +217,12 @@ inserted cs cs0 cs1 cs2 es xss k p b a e e' t lt within off there read next e0 e
     let c = t.each k lt in
     let s = seam k b p (get_or xss k []) c.apart there in
     let follows : a ≡ first_or (on k s.behind) None = next ∙ ap (λ (d : Ends). next_of b d.first cs) is
-          ∙ next-seam cs k p (get_or es k no_ends) (get_or xss k []) b c s in
+    ∙ next-seam cs k p (get_or es k no_ends) (get_or xss k []) b c s in
     let made = set cs p (Some (node k b a)) in
     let all : cs2 ≡ between cs k p b a = e2 ∙ ap (λ c. places_before a (Some p) c) (e1 ∙ ap (λ c. places_after b (Some p) c) e0) in (
       subst (λ c. IsThreads c (set es k e') (set xss k (placed_after b p (get_or xss k [])))) (sym all)
           (inserted-all cs es xss k p e' b a t lt within off s follows (f ∙ ap (λ (d : Ends). cond (is_some b) d.first (Some p)) is)
-              (g ∙ ap (λ (d : Ends). cond (is_some a) d.last (Some p)) is)),
+          (g ∙ ap (λ (d : Ends). cond (is_some a) d.last (Some p)) is)),
       ap length all ∙ ChainLemmas.length-places_before a (Some p) (places_after b (Some p) made)
           ∙ ChainLemmas.length-places_after b (Some p) made ∙ length-set cs p (Some (node k b a)),
     )
@@ -233,7 +233,7 @@ pub there-within : (cs : List (Option (Node ℕ))) (k : ℕ) (e : Ends) (ps : Li
 there-within cs k e ps None c h = tt
 there-within cs k e ps (Some q) c h = let s = seam k (Some q) 0 ps c.apart h in
     let cut = ChainLemmas.Linked-cut cs None (on k s.before) (on k s.behind) None
-          (subst (λ l. Linked cs None l None) (ap (λ l. on k l) s.is ∙ on-append k s.before s.behind) c.linked) in
+    (subst (λ l. Linked cs None l None) (ap (λ l. on k l) s.is ∙ on-append k s.before s.behind) c.linked) in
     let live = ChainLemmas.live-last cs None (on k s.before) (first_or (on k s.behind) None) tt cut.0 in
     some_within cs (Some q) (subst (λ o. IfSome o (λ q. is_some (get_or cs q None) ≡ true)) s.last_is live)
 
@@ -241,6 +241,6 @@ pub next-within : (cs : List (Option (Node ℕ))) (k : ℕ) (e : Ends) (ps : Lis
     IfSome b (λ q. is_on q ps ≡ true) → IfSome (next_of b e.first cs) (λ q. q < length cs)
 next-within cs k e ps b c h = let s = seam k b 0 ps c.apart h in
     let cut = ChainLemmas.Linked-cut cs None (on k s.before) (on k s.behind) None
-          (subst (λ l. Linked cs None l None) (ap (λ l. on k l) s.is ∙ on-append k s.before s.behind) c.linked) in
+    (subst (λ l. Linked cs None l None) (ap (λ l. on k l) s.is ∙ on-append k s.before s.behind) c.linked) in
     some_within cs (next_of b e.first cs) (subst (λ o. IfSome o (λ q. is_some (get_or cs q None) ≡ true))
-        (sym (next-seam cs k 0 e ps b c s)) (ChainLemmas.live-first cs None None (last_or None (on k s.before)) (on k s.behind) cut.1))
+    (sym (next-seam cs k 0 e ps b c s)) (ChainLemmas.live-first cs None None (last_or None (on k s.before)) (on k s.behind) cut.1))

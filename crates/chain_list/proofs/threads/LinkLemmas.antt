@@ -1,6 +1,6 @@
 -- What one write to a link makes of the nodes.
-use Rattle.std.proofs.Common.{◌≡◌, ℕ, zero, suc, ◌+◌, ◌-◌, ◌^◌, ◌<◌, List, [], ◌∷◌, length, get_or, set, replicate, Option, Some, None,
-    refl, ap, arith, add-one}
+use Rattle.std.proofs.Common.{◌≡◌, ℕ, zero, suc, ◌+◌, ◌-◌, ◌^◌, ◌<◌, List, [], ◌∷◌, length, get_or, set, replicate, Option, Some, None}
+use Rattle.std.proofs.Common.{refl, ap, arith, add-one}
 use Rattle.std.specs.Option.{IfSome}
 use Rattle.chain_list.specs.declared.threads.links.Link.{Link}
 use Rattle.chain_list.specs.threads.Nodes.{place_in, node_of, nodes_of}

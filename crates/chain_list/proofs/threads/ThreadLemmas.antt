@@ -1,10 +1,10 @@
 -- Threads of places: what putting a place on one and taking it off make of the nodes, and that the threads are what the nodes link.
-use Rattle.std.proofs.Common.{◌≡◌, ◌≢◌, ℕ, zero, suc, ◌<◌, ◌≤◌, Bool, true, false, cond, nat_eq, ◌||◌, replicate, List, [], ◌∷◌, ◌++◌, map,
-    length, get_or, set, Option, Some, None, refl, sym, ap, subst, ◌∙◌, inl, inr, arith}
+use Rattle.std.proofs.Common.{◌≡◌, ◌≢◌, ℕ, zero, suc, ◌<◌, ◌≤◌, Bool, true, false, cond, nat_eq, ◌||◌, replicate, List, [], ◌∷◌, ◌++◌, map}
+use Rattle.std.proofs.Common.{length, get_or, set, Option, Some, None, refl, sym, ap, subst, ◌∙◌, inl, inr, arith}
 use Rattle.std.proofs.lemmas.Bool.{cases_lt, ne_eqb, eq-eqb}
 use Rattle.std.proofs.lemmas.Bool.Decides.{eqb_tells}
-use Rattle.std.proofs.lemmas.List.{get_or-set_same, get_or-set_other, length-set, length-map, length-replicate, get_or-replicate,
-    get_or_past, get_or_default}
+use Rattle.std.proofs.lemmas.List.{get_or-set_same, get_or-set_other, length-set, length-map, length-replicate, get_or-replicate}
+use Rattle.std.proofs.lemmas.List.{get_or_past, get_or_default}
 use Rattle.std.proofs.lemmas.List.Sums.{count_by-le-length}
 use Rattle.std.specs.Option.{is_some, IfSome}
 use Rattle.std.specs.List.{count_by}
@@ -45,8 +45,10 @@ thread_in cs p = value_of (get_or cs p None)
 NotAt-other : (cs : List (Option (Node ℕ))) (b : Option ℕ) (j : ℕ) (ps : List ℕ) (a : Option ℕ) (q : ℕ) → Linked cs b (on j ps) a →
     (thread_in cs q ≡ Some j → ⊥) → NotAt q (on j ps)
 NotAt-other cs b j [] a q l n = tt
-NotAt-other cs b j (p ∷ ps) a q l n = ((λ e. n (subst (λ i. thread_in cs i ≡ Some j) e (ap value_of l.0))),
-    NotAt-other cs (Some p) j ps a q l.1 n)
+NotAt-other cs b j (p ∷ ps) a q l n = (
+  (λ e. n (subst (λ i. thread_in cs i ≡ Some j) e (ap value_of l.0))),
+  NotAt-other cs (Some p) j ps a q l.1 n,
+)
 
 pub last-thread : (cs : List (Option (Node ℕ))) (b : Option ℕ) (k : ℕ) (ps : List ℕ) (a : Option ℕ) (q : ℕ) → Linked cs b (on k ps) a →
     (b ≡ Some q → thread_in cs q ≡ Some k)
@@ -160,8 +162,12 @@ pub viewed : (cs : List (Option (Node ℕ))) (es : List Ends) (xss : List (List 
 viewed cs es xss t = threads-same cs es xss t.long (λ k lt.
     let c = t.each k lt in
     let ps = get_or xss k [] in
-    let short : length ps ≤ length cs = omega (arith, length-on k ps, at_most cs None (on k ps) None c.apart c.linked,
-          count_by-le-length is_some cs) in
+    let short : length ps ≤ length cs = omega (
+      arith,
+      length-on k ps,
+      at_most cs None (on k ps) None c.apart c.linked,
+      count_by-le-length is_some cs,
+    ) in
     ap (λ o. places_from (length cs) cs o) c.first_is ∙ places-linked (length cs) cs None k ps c.linked short)
 
 pub settled : (cs : List (Option (Node ℕ))) (es : List Ends) (xss : List (List ℕ)) → IsThreads cs es xss →
@@ -210,8 +216,8 @@ pushed-all : (cs : List (Option (Node ℕ))) (es : List Ends) (xss : List (List 
     → ((j : ℕ) → is_on p (get_or xss j []) ≡ false)
     → e'.first ≡ cond (is_some (get_or es k no_ends).last) (get_or es k no_ends).first (Some p) → e'.last ≡ Some p
     → IsThreads (places_before (Some p) (get_or es k no_ends).last
-        (places_after (get_or es k no_ends).last (Some p) (set cs p (Some (node k None None))))) (set es k e')
-        (set xss k (get_or xss k [] ++ p ∷ []))
+    (places_after (get_or es k no_ends).last (Some p) (set cs p (Some (node k None None))))) (set es k e')
+    (set xss k (get_or xss k [] ++ p ∷ []))
 pushed-all cs es xss k p e' t lt within off f g =
     let e = get_or es k no_ends in
     let c = t.each k lt in
@@ -222,13 +228,15 @@ pushed-all cs es xss k p e' t lt within off f g =
         | inl s ↦ subst (λ i. IsThread new i (get_or (set es k e') i no_ends) (get_or (set xss k (get_or xss k [] ++ p ∷ [])) i []))
             (sym s.1)
             (subst (λ (q : Ends × List ℕ). IsThread new k q.0 q.1)
-            (λ i. (sym (get_or-set_same es k e' no_ends lt) i,
-                sym (get_or-set_same xss k (get_or xss k [] ++ p ∷ []) [] (omega (arith, t.long))) i))
+            (λ i. (
+              sym (get_or-set_same es k e' no_ends lt) i,
+              sym (get_or-set_same xss k (get_or xss k [] ++ p ∷ []) [] (omega (arith, t.long))) i,
+            ))
             (pushed-here cs k p e e' (get_or xss k []) c within (off k) f g))
         | inr s ↦ subst (λ (q : Ends × List ℕ). IsThread new j q.0 q.1)
             (λ i. (sym (get_or-set_other es k j e' no_ends s.1) i, sym (get_or-set_other xss k j (get_or xss k [] ++ p ∷ []) [] s.1) i))
             (pushed-other cs j k p (get_or es j no_ends) e (get_or xss j []) (get_or xss k [])
-                (t.each j (omega (arith, length-set es k e'))) c s.1 (off j))
+            (t.each j (omega (arith, length-set es k e'))) c s.1 (off j))
       ];
     }
 
@@ -245,7 +253,7 @@ pushed cs cs0 cs1 cs2 es xss k p e e' t lt within off read e0 e1 e2 f g =
     let made = set cs p (Some (node k None None)) in
     let all : cs2 ≡ places_before (Some p) old.last (places_after old.last (Some p) made) =
     e2 ∙ ap (λ c. places_before (Some p) e.last c) (e1 ∙ ap (λ c. places_after e.last (Some p) c) e0)
-        ∙ ap (λ (d : Ends). places_before (Some p) d.last (places_after d.last (Some p) made)) is in (
+    ∙ ap (λ (d : Ends). places_before (Some p) d.last (places_after d.last (Some p) made)) is in (
       subst (λ c. IsThreads c (set es k e') (set xss k (get_or xss k [] ++ p ∷ []))) (sym all)
           (pushed-all cs es xss k p e' t lt within off (f ∙ ap (λ (d : Ends). cond (is_some d.last) d.first (Some p)) is) g),
       ap length all ∙ ChainLemmas.length-places_before (Some p) old.last (places_after old.last (Some p) made)
@@ -314,7 +322,7 @@ pub after-seen : (cs : List (Option (Node ℕ))) (es : List Ends) (xss : List (L
     place_after p (get_or xss k []) ≡ first_or (on k s.behind) None
 after-seen cs es xss k p s =
     ap (λ l. place_after p l) s.is ∙ after-one k p s.before s.behind
-        (ChainLemmas.Apart-before (on k s.before) (at k p) (on k s.behind) s.apart) ∙ sym (first-on k s.behind)
+    (ChainLemmas.Apart-before (on k s.before) (at k p) (on k s.behind) s.apart) ∙ sym (first-on k s.behind)
 
 -- the nodes once the neighbours of a place are joined
 abbrev pub joined : Option ℕ → Option ℕ → List (Option (Node ℕ)) → List (Option (Node ℕ))
@@ -373,12 +381,12 @@ unlinked-all cs es xss k p e' t s f g =
       long = omega (arith, t.long, length-set es k e', length-map xss (without p));
       each = λ j lj. subst (λ l. IsThread new j (get_or (set es k e') j no_ends) l) (sym (get-map (without p) xss j refl))
           (elim (eqb_tells j k) [
-        | inl q ↦ subst (λ i. IsThread new i (get_or (set es k e') i no_ends) (without p (get_or xss i []))) (sym q.1)
-            (subst (λ d. IsThread new k d (without p (get_or xss k []))) (sym (get_or-set_same es k e' no_ends s.within))
+            | inl q ↦ subst (λ i. IsThread new i (get_or (set es k e') i no_ends) (without p (get_or xss i []))) (sym q.1)
+                (subst (λ d. IsThread new k d (without p (get_or xss k []))) (sym (get_or-set_same es k e' no_ends s.within))
                 (unlinked-here cs es xss k p e' s f g))
-        | inr q ↦ subst (λ d. IsThread new j d (without p (get_or xss j []))) (sym (get_or-set_other es k j e' no_ends q.1))
-            (unlinked-other cs es xss k p j (get_or es j no_ends) (get_or xss j []) s (t.each j (omega (arith, length-set es k e'))) q.1)
-      ]);
+            | inr q ↦ subst (λ d. IsThread new j d (without p (get_or xss j []))) (sym (get_or-set_other es k j e' no_ends q.1))
+                (unlinked-other cs es xss k p j (get_or es j no_ends) (get_or xss j []) s (t.each j (omega (arith, length-set es k e'))) q.1)
+          ]);
     }
 
 -- by what the calls say
@@ -394,7 +402,7 @@ unlinked cs cs1 cs2 es xss k p t b a e e' inv s (it, ib, ia) read e1 e2 f g =
     let all : cs2 ≡ joined b' a' cs = e2 ∙ ap (λ c. places_before a b c) e1 ∙ (λ i. joined (ib i) (ia i) cs) in (
       subst (λ (q : ℕ × List (Option (Node ℕ))). IsThreads q.1 (set es q.0 e') (map (without p) xss)) (λ i. (sym it i, sym all i))
           (unlinked-all cs es xss k p e' inv s (f ∙ (λ i. cond (is_some (ib i)) (is i).first (ia i)))
-              (g ∙ (λ i. cond (is_some (ia i)) (is i).last (ib i)))),
+          (g ∙ (λ i. cond (is_some (ia i)) (is i).last (ib i)))),
       ap length all ∙ ChainLemmas.length-places_before a' b' (places_after b' a' cs) ∙ ChainLemmas.length-places_after b' a' cs,
     )
 
@@ -408,13 +416,13 @@ pub before-within : (cs : List (Option (Node ℕ))) (es : List Ends) (xss : List
     IfSome (last_or None (on k s.before)) (λ q. q < length cs)
 before-within cs es xss k p s =
     some_within cs (last_or None (on k s.before)) (ChainLemmas.live-last cs None (on k s.before) (Some p) tt
-        (ChainLemmas.Linked-cut cs None (on k s.before) (at k p ∷ on k s.behind) None s.linked).0)
+    (ChainLemmas.Linked-cut cs None (on k s.before) (at k p ∷ on k s.behind) None s.linked).0)
 
 pub behind-within : (cs : List (Option (Node ℕ))) (es : List Ends) (xss : List (List ℕ)) (k p : ℕ) (s : IsSeen cs es xss k p) →
     IfSome (first_or (on k s.behind) None) (λ q. q < length cs)
 behind-within cs es xss k p s =
     some_within cs (first_or (on k s.behind) None) (ChainLemmas.live-first cs None None (Some p) (on k s.behind)
-        (ChainLemmas.Linked-cut cs None (on k s.before) (at k p ∷ on k s.behind) None s.linked).1.1)
+    (ChainLemmas.Linked-cut cs None (on k s.before) (at k p ∷ on k s.behind) None s.linked).1.1)
 
 -- the last of a thread is a place
 pub last-within : (cs cs0 : List (Option (Node ℕ))) (es : List Ends) (xss : List (List ℕ)) (k p : ℕ) (e : Ends) (v : Option (Node ℕ)) →
@@ -423,10 +431,10 @@ pub last-within : (cs cs0 : List (Option (Node ℕ))) (es : List Ends) (xss : Li
 last-within cs cs0 es xss k p e v t lt read e0 =
     let c = t.each k lt in
     let is : e.last ≡ last_or None (on k (get_or xss k [])) = ap (λ (d : Ends). d.last) (read ∙ get_or_default es k e no_ends lt)
-          ∙ c.last_is in
+    ∙ c.last_is in
     subst (λ n. IfSome e.last (λ q. q < n)) (sym (ap length e0 ∙ length-set cs p v))
     (subst (λ o. IfSome o (λ q. q < length cs)) (sym is) (some_within cs (last_or None (on k (get_or xss k [])))
-        (ChainLemmas.live-last cs None (on k (get_or xss k [])) None tt c.linked)))
+    (ChainLemmas.live-last cs None (on k (get_or xss k [])) None tt c.linked)))
 
 -- ---- empty threads
 pub no_threads : (cs : List (Option (Node ℕ))) (n : ℕ) → IsThreads cs (replicate n no_ends) (replicate n [])
@@ -434,8 +442,10 @@ no_threads cs n = record {
   long = length-replicate n no_ends ∙ sym (length-replicate n none);
   each = λ k lt.
       let within : k < n = omega (arith, length-replicate n no_ends) in
-      subst (λ (q : Ends × List ℕ). IsThread cs k q.0 q.1) (λ i. (sym (get_or-replicate n k no_ends no_ends within) i,
-          sym (get_or-replicate n k none none within) i))
+      subst (λ (q : Ends × List ℕ). IsThread cs k q.0 q.1) (λ i. (
+        sym (get_or-replicate n k no_ends no_ends within) i,
+        sym (get_or-replicate n k none none within) i,
+      ))
       (record { linked = tt; first_is = refl; last_is = refl; apart = tt });
 }
   where

@@ -1,6 +1,6 @@
 -- Threads as a contract sees them.
-use Rattle.std.specs.Prelude.{◌≡◌, ℕ, ⊤, Bool, false, ◌||◌, nat_eq, List, [], ◌∷◌, ◌++◌, map, get_or, slice_set, Option, Some, None,
-    if◌then◌else◌}
+use Rattle.std.specs.Prelude.{◌≡◌, ℕ, ⊤, Bool, false, ◌||◌, nat_eq, List, [], ◌∷◌, ◌++◌, map, get_or, slice_set, Option, Some, None}
+use Rattle.std.specs.Prelude.{if◌then◌else◌}
 
 -- for each thread the places on it, in order, and below which number places lie
 pub record Woven : Type 0 where

@@ -1,6 +1,7 @@
 //! The threads.
 ghost use Rattle.std.specs.Prelude.{◌≡◌, ℕ, ◌<◌, ◌^◌, false, [], length, replicate, IfOk, IfSome, IsTrue};
-ghost use Rattle.chain_list.specs.threads.Threads.{woven, thread as thread_at, is_on, is_threaded, first_place, last_place, place_after, with_place, with_place_after, without_place, AreApart};
+ghost use Rattle.chain_list.specs.threads.Threads.{woven, thread as thread_at, is_on, is_threaded, first_place, last_place, place_after};
+ghost use Rattle.chain_list.specs.threads.Threads.{with_place, with_place_after, without_place, AreApart};
 
 use crate::threads::ends::{Ends, next_of, set_next, set_previous};
 use crate::threads::links::Links;

@@ -1,6 +1,7 @@
 -- At every moment the interfaces and the lanes are those of a moment of the machine.
-use Rattle.std.proofs.Common.{ℕ, suc, Bool, true, false, cond, not, ◌&&◌, ◌==◌, ◌+◌, ◌≡◌, ◌<◌, List, [], ◌∷◌, ◌++◌, refl, length, map,
-    filter, ap, ap₂, ◌∙◌, sym, subst, inl, inr, arith, count_by, append-nil, length-append, add-zero, eq-eqb, if◌then◌else◌}
+use Rattle.std.proofs.Common.{ℕ, suc, Bool, true, false, cond, not, ◌&&◌, ◌==◌, ◌+◌, ◌≡◌, ◌<◌, List, [], ◌∷◌, ◌++◌, refl, length, map}
+use Rattle.std.proofs.Common.{filter, ap, ap₂, ◌∙◌, sym, subst, inl, inr, arith, count_by, append-nil, length-append, add-zero, eq-eqb}
+use Rattle.std.proofs.Common.{if◌then◌else◌}
 use Rattle.std.proofs.lemmas.Bool.{cases_eq, ne_eqb}
 use Rattle.ptl_types.specs.declared.headers.Header.{Header}
 use Rattle.ptl_types.specs.declared.headers.Lane.{Lane}
@@ -17,8 +18,8 @@ use Rattle.plan_core.proofs.Lists.{count-append}
 use Rattle.coll_lang.specs.declared.choices.ChoiceKind.{ChoiceKind}
 use Rattle.choices.specs.machine.Choices.{choice_at}
 use Rattle.coll_lang.specs.declared.choices.ChoiceKind.TheVariants.{Elect, Tickets}
-use Rattle.choices.specs.machine.Machine.{Answer, Ask, Moment, Phase, ask, begun as begun_in, fired as fired_in, opened, returned, sent_at,
-    taken}
+use Rattle.choices.specs.machine.Machine.{Answer, Ask, Moment, Phase, ask, begun as begun_in, fired as fired_in, opened, returned, sent_at}
+use Rattle.choices.specs.machine.Machine.{taken}
 use Rattle.choices.specs.machine.Machine.Phase.{Answered, Asked, Idle, Learned, Read, Reading, Served, Told}
 use Rattle.choices.specs.machine.Lawful.{IsLawful}
 use Rattle.choices.proofs.machine.Moments.{opened_lawful}

@@ -1,6 +1,6 @@
 -- How long an interleaving is, and that it ends exactly where nothing is left.
-use Rattle.std.proofs.Common.{ℕ, Bool, true, false, ◌≡◌, ◌≤◌, ◌<◌, ◌⊎◌, List, [], refl, length, map, ap, ◌∙◌, sym, inl, inr, arith,
-    count_by}
+use Rattle.std.proofs.Common.{ℕ, Bool, true, false, ◌≡◌, ◌≤◌, ◌<◌, ◌⊎◌, List, [], refl, length, map, ap, ◌∙◌, sym, inl, inr, arith}
+use Rattle.std.proofs.Common.{count_by}
 use Rattle.std.proofs.lemmas.Bool.{cases_eq}
 use Rattle.std.proofs.lemmas.List.{length-map}
 use Rattle.ptl_types.specs.declared.headers.Lane.{Lane}

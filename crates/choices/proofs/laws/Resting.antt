@@ -18,8 +18,8 @@ use Rattle.choices.specs.machine.Lawful.{IsResting}
 use Rattle.choices.proofs.machine.Places.{count_all}
 use Rattle.choices.proofs.machine.Words.{length-from_to}
 use Rattle.choices.proofs.machine.Moments.{rest_right, rest_told}
-use Rattle.choices.specs.view.Install.{Slots, answer_message, ask_message, count_of, ct_of, four_words, given_word, is_told, old_of,
-    seat_of, step_bytes, steps, word}
+use Rattle.choices.specs.view.Install.{Slots, answer_message, ask_message, count_of, ct_of, four_words, given_word, is_told, old_of}
+use Rattle.choices.specs.view.Install.{seat_of, step_bytes, steps, word}
 use Rattle.choices.specs.view.Install.Counter.{Done}
 use Rattle.choices.proofs.view.Firings.{idle_phase}
 use Rattle.choices.proofs.view.Memory.{read_part}

@@ -1,6 +1,6 @@
 -- An answer that comes home is the machine's.
-use Rattle.std.proofs.Common.{ℕ, true, ◌≡◌, ◌<◌, ◌⊎◌, List, [], ◌∷◌, ◌++◌, refl, length, map, filter, ap, ap₂, ◌∙◌, sym, subst, inl, inr,
-    None, append-nil}
+use Rattle.std.proofs.Common.{ℕ, true, ◌≡◌, ◌<◌, ◌⊎◌, List, [], ◌∷◌, ◌++◌, refl, length, map, filter, ap, ap₂, ◌∙◌, sym, subst, inl, inr}
+use Rattle.std.proofs.Common.{None, append-nil}
 use Rattle.std.proofs.lemmas.Bool.{cases_eq}
 use Rattle.ptl_types.specs.declared.headers.Lane.{Lane}
 use Rattle.ptl_types.specs.declared.headers.Lane.TheVariants.{Request, Answer as AnswerLane}
@@ -26,8 +26,8 @@ use Rattle.choices.specs.view.Steps.{with_phase}
 use Rattle.choices.proofs.view.StepReturn.{step_return}
 use Rattle.cuts.specs.histories.System.{Histories, System, state_at}
 use Rattle.choices.specs.laws.Decided.{choice_system}
-use Rattle.choices.proofs.laws.Agreement.{Agrees, Moved, left_here, left_there, lengths_next, starts_stay, state_here, state_there,
-    taken_here, taken_there, untaken}
+use Rattle.choices.proofs.laws.Agreement.{Agrees, Moved, left_here, left_there, lengths_next, starts_stay, state_here, state_there}
+use Rattle.choices.proofs.laws.Agreement.{taken_here, taken_there, untaken}
 use Rattle.choices.proofs.laws.Serving.{first_of, got_lane}
 
 module _ (ranks : ℕ) (ks : List ChoiceKind) (slots : ℕ → Slots) (w : Histories) (held : Lanes) (now : Agrees ranks ks slots w held)

@@ -1,6 +1,6 @@
 -- A request that comes to rank 0 is the machine's.
-use Rattle.std.proofs.Common.{ℕ, suc, true, false, cond, ◌&&◌, ◌==◌, ◌^◌, ◌≡◌, ◌≤◌, ◌<◌, ◌⊎◌, List, [], ◌∷◌, ◌++◌, refl, length, map,
-    filter, ap, ap₂, ◌∙◌, sym, subst, inl, inr, arith, Some, append-nil, if◌then◌else◌}
+use Rattle.std.proofs.Common.{ℕ, suc, true, false, cond, ◌&&◌, ◌==◌, ◌^◌, ◌≡◌, ◌≤◌, ◌<◌, ◌⊎◌, List, [], ◌∷◌, ◌++◌, refl, length, map}
+use Rattle.std.proofs.Common.{filter, ap, ap₂, ◌∙◌, sym, subst, inl, inr, arith, Some, append-nil, if◌then◌else◌}
 use Rattle.std.proofs.lemmas.Bool.{cases_eq, ne_eqb}
 use Rattle.std.proofs.lemmas.List.{map-append}
 use Rattle.ptl_types.specs.declared.headers.Lane.{Lane}
@@ -28,8 +28,9 @@ use Rattle.choices.proofs.view.StepStart.{served_view}
 use Rattle.choices.proofs.view.StepServe.{step_serve}
 use Rattle.cuts.specs.histories.System.{Histories, System, state_at}
 use Rattle.choices.specs.laws.Decided.{IsInRange, choice_system}
-use Rattle.choices.proofs.laws.Agreement.{Agrees, Moved, answer_goes, answer_no_ask, both_false, dropped_one, for_answer, for_rank,
-    kept_one, left_here, left_there, lengths_next, starts_stay, state_here, state_there, taken_here, taken_there, untaken}
+use Rattle.choices.proofs.laws.Agreement.{Agrees, Moved, answer_goes, answer_no_ask, both_false, dropped_one, for_answer, for_rank}
+use Rattle.choices.proofs.laws.Agreement.{kept_one, left_here, left_there, lengths_next, starts_stay, state_here, state_there, taken_here}
+use Rattle.choices.proofs.laws.Agreement.{taken_there, untaken}
 
 -- ---- the first of a lane
 pub record IsFirst {X Y : Type 0} (f : X → Y) (xs : List X) (y : Y) (ys : List Y) : Type 0 where

@@ -1,6 +1,6 @@
 -- A start and a firing are those of the machine.
-use Rattle.std.proofs.Common.{ℕ, true, false, ◌≡◌, ◌<◌, ◌⊎◌, List, [], ◌++◌, refl, map, filter, ap, ap₂, ◌∙◌, sym, subst, inl, inr, arith,
-    count_by, append-nil}
+use Rattle.std.proofs.Common.{ℕ, true, false, ◌≡◌, ◌<◌, ◌⊎◌, List, [], ◌++◌, refl, map, filter, ap, ap₂, ◌∙◌, sym, subst, inl, inr, arith}
+use Rattle.std.proofs.Common.{count_by, append-nil}
 use Rattle.std.proofs.lemmas.Bool.{cases_eq}
 use Rattle.std.proofs.lemmas.List.{map-append}
 use Rattle.ptl_types.specs.declared.headers.Lane.{Lane}
@@ -22,8 +22,8 @@ use Rattle.choices.proofs.view.StepFire.{increment_starts}
 use Rattle.choices.proofs.view.Firings.{IsFiring, step_fire}
 use Rattle.cuts.specs.histories.System.{Histories, System, state_at}
 use Rattle.choices.specs.laws.Decided.{choice_system}
-use Rattle.choices.proofs.laws.Agreement.{Agrees, Moved, left_here, left_there, lengths_next, sent_kept, sent_list, sent_no_answer,
-    sent_no_rank, starts_here, starts_stay, state_here, state_there, untaken}
+use Rattle.choices.proofs.laws.Agreement.{Agrees, Moved, left_here, left_there, lengths_next, sent_kept, sent_list, sent_no_answer}
+use Rattle.choices.proofs.laws.Agreement.{sent_no_rank, starts_here, starts_stay, state_here, state_there, untaken}
 
 module _ (ranks : ℕ) (ks : List ChoiceKind) (slots : ℕ → Slots) (w : Histories) (held : Lanes) (now : Agrees ranks ks slots w held)
     (next : Histories) (later : Lanes) (step : IsLocalStep (choice_system ranks ks slots) w held next later) where

@@ -1,6 +1,6 @@
 -- What comes over a lane is for its rank and isn't lost, and what a step makes goes onto a lane that is used.
-use Rattle.std.proofs.Common.{ℕ, Bool, true, false, ◌==◌, ◌+◌, ◌*◌, ◌≡◌, ◌<◌, ◌≤◌, ◌⊎◌, List, [], ◌∷◌, refl, length, ap, ap₂, ◌∙◌, sym,
-    subst, inl, inr, arith, Some, None, if◌then◌else◌}
+use Rattle.std.proofs.Common.{ℕ, Bool, true, false, ◌==◌, ◌+◌, ◌*◌, ◌≡◌, ◌<◌, ◌≤◌, ◌⊎◌, List, [], ◌∷◌, refl, length, ap, ap₂, ◌∙◌, sym}
+use Rattle.std.proofs.Common.{subst, inl, inr, arith, Some, None, if◌then◌else◌}
 use Rattle.std.proofs.lemmas.Bool.{cases_eq}
 use Rattle.ptl_types.specs.declared.calls.Outcome.TheVariants.{Answered as IsAnswered, Matched}
 use Rattle.ptl_types.specs.declared.headers.Lane.{Lane}

@@ -1,6 +1,6 @@
 -- Each move is one step of one rank, and a rank makes no more than are due.
-use Rattle.std.proofs.Common.{ℕ, zero, suc, Bool, true, false, ◌==◌, ◌+◌, ◌*◌, ◌≡◌, ◌≤◌, ◌<◌, ◌⊎◌, List, [], ◌∷◌, refl, length, map, ap,
-    ap₂, ◌∙◌, sym, subst, inl, inr, arith, zero-mul, mul-zero, suc-mul, if◌then◌else◌}
+use Rattle.std.proofs.Common.{ℕ, zero, suc, Bool, true, false, ◌==◌, ◌+◌, ◌*◌, ◌≡◌, ◌≤◌, ◌<◌, ◌⊎◌, List, [], ◌∷◌, refl, length, map, ap}
+use Rattle.std.proofs.Common.{ap₂, ◌∙◌, sym, subst, inl, inr, arith, zero-mul, mul-zero, suc-mul, if◌then◌else◌}
 use Rattle.std.specs.Prelude.{sum_by}
 use Rattle.std.proofs.lemmas.Bool.{cases_eq, ne_eqb}
 use Rattle.std.proofs.lemmas.List.Sums.{sum_by-cons}
@@ -10,12 +10,12 @@ use Rattle.plan_core.proofs.Links.{Distinct-from_to, In-from_to, from_to-In}
 use Rattle.coll_lang.specs.declared.choices.ChoiceKind.{ChoiceKind}
 use Rattle.choices.specs.machine.Choices.{choice_at}
 use Rattle.coll_lang.specs.declared.choices.ChoiceKind.TheVariants.{Elect, Tickets}
-use Rattle.choices.specs.machine.Machine.{Answer, Ask, IsTold, Moment, Phase, advanced, at_home, begun, fired, is_ready, opened, put_in,
-    returned, served, taken}
+use Rattle.choices.specs.machine.Machine.{Answer, Ask, IsTold, Moment, Phase, advanced, at_home, begun, fired, is_ready, opened, put_in}
+use Rattle.choices.specs.machine.Machine.{returned, served, taken}
 use Rattle.choices.specs.machine.Machine.Phase.{Answered, Asked, Idle, Learned, Read, Reading, Served, Told}
 use Rattle.choices.specs.machine.Lawful.{Holds, IsAnswer, IsAsk, IsLawful, IsResting, answer_step, ask_step, is_plain}
-use Rattle.choices.specs.machine.Counted.{home_steps, over_ranks, over_steps, requests_taken, steps_due, steps_made, told_requests,
-    told_steps}
+use Rattle.choices.specs.machine.Counted.{home_steps, over_ranks, over_steps, requests_taken, steps_due, steps_made, told_requests}
+use Rattle.choices.specs.machine.Counted.{told_steps}
 use Rattle.choices.proofs.machine.Places.{put-other, put-same, put_in-rank, put_in-same, put_in-step}
 use Rattle.choices.proofs.machine.Moments.{rest_told}
 use Rattle.choices.proofs.machine.Words.{length-from_to}

@@ -1,6 +1,6 @@
 -- Every move of the machine keeps what its moments keep, and at rest all is told and right.
-use Rattle.std.proofs.Common.{ℕ, true, false, ◌≡◌, ◌≤◌, ◌<◌, ◌⊎◌, List, [], ◌∷◌, ◌++◌, Some, refl, length, map, ap, ◌∙◌, sym, subst, inl,
-    inr, arith}
+use Rattle.std.proofs.Common.{ℕ, true, false, ◌≡◌, ◌≤◌, ◌<◌, ◌⊎◌, List, [], ◌∷◌, ◌++◌, Some, refl, length, map, ap, ◌∙◌, sym, subst, inl}
+use Rattle.std.proofs.Common.{inr, arith}
 use Rattle.std.proofs.lemmas.Bool.{cases_eq}
 use Rattle.plan_core.specs.Members.{Distinct, In, Within}
 use Rattle.plan_core.specs.Plan.{from_to}
@@ -9,11 +9,11 @@ use Rattle.plan_core.proofs.Lists.{Distinct-map, In-map_cases, all_Within, lengt
 use Rattle.coll_lang.specs.declared.choices.ChoiceKind.{ChoiceKind}
 use Rattle.choices.specs.machine.Choices.{HasValue, IsRight, choice_at}
 use Rattle.coll_lang.specs.declared.choices.ChoiceKind.TheVariants.{Elect, Tickets}
-use Rattle.choices.specs.machine.Machine.{Answer, Ask, IsTold, Moment, Phase, advanced, answer, at_home, begun, fired, is_ready, opened,
-    put, put_in, returned, sent_at, served, taken, value_of, word_after}
+use Rattle.choices.specs.machine.Machine.{Answer, Ask, IsTold, Moment, Phase, advanced, answer, at_home, begun, fired, is_ready, opened}
+use Rattle.choices.specs.machine.Machine.{put, put_in, returned, sent_at, served, taken, value_of, word_after}
 use Rattle.choices.specs.machine.Machine.Phase.{Answered, Asked, Idle, Learned, Read, Reading, Served, Told}
-use Rattle.choices.specs.machine.Lawful.{Holds, InFlight, IsLawful, IsResting, answer_step, ask_step, has_ticket, is_past, is_plain,
-    on_answer, on_request, read_by, ticket_of}
+use Rattle.choices.specs.machine.Lawful.{Holds, InFlight, IsLawful, IsResting, answer_step, ask_step, has_ticket, is_past, is_plain}
+use Rattle.choices.specs.machine.Lawful.{on_answer, on_request, read_by, ticket_of}
 use Rattle.choices.proofs.machine.Places.{count_all, put-other, put-same, put_in-column, put_in-rank, put_in-row, put_in-step}
 use Rattle.choices.proofs.machine.Flight.{fired_flight, returned_flight, taken_flight}
 use Rattle.choices.proofs.machine.Words.{fired_holds, length-from_to, opened_holds, returned_holds, taken_holds}

@@ -1,6 +1,6 @@
 -- A function that was changed at one place, and a count in which one more passes.
-use Rattle.std.proofs.Common.{ℕ, suc, Bool, true, false, cond, ◌&&◌, ◌+◌, ◌≡◌, ◌≤◌, ◌==◌, List, [], ◌∷◌, refl, length, ap, ap₂, ◌∙◌, sym,
-    subst, inl, inr, arith, eq-eqb, count_by}
+use Rattle.std.proofs.Common.{ℕ, suc, Bool, true, false, cond, ◌&&◌, ◌+◌, ◌≡◌, ◌≤◌, ◌==◌, List, [], ◌∷◌, refl, length, ap, ap₂, ◌∙◌, sym}
+use Rattle.std.proofs.Common.{subst, inl, inr, arith, eq-eqb, count_by}
 use Rattle.std.proofs.lemmas.Bool.{ne_eqb}
 use Rattle.plan_core.specs.Members.{Distinct, In}
 use Rattle.plan_core.proofs.Lists.{count-cons}

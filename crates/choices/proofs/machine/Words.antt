@@ -1,6 +1,6 @@
 -- The word of rank 0 in one step, after each move.
-use Rattle.std.proofs.Common.{ℕ, zero, suc, Bool, true, false, cond, ◌+◌, ◌%◌, ◌^◌, ◌≡◌, ◌≤◌, ◌<◌, ◌⊎◌, ◌==◌, Option, Some, refl, length,
-    ap, ◌∙◌, sym, subst, inl, inr, arith, eqb-true, is_some}
+use Rattle.std.proofs.Common.{ℕ, zero, suc, Bool, true, false, cond, ◌+◌, ◌%◌, ◌^◌, ◌≡◌, ◌≤◌, ◌<◌, ◌⊎◌, ◌==◌, Option, Some, refl, length}
+use Rattle.std.proofs.Common.{ap, ◌∙◌, sym, subst, inl, inr, arith, eqb-true, is_some}
 use Rattle.std.proofs.lemmas.Bool.{cases_eq, eqb-false}
 use Rattle.ptl_types.specs.Handles.{top}
 use Rattle.plan_core.specs.Plan.{from_to}

@@ -1,6 +1,6 @@
 -- Where the moments of the machine are the same, so are the enabled steps.
-use Rattle.std.proofs.Common.{ℕ, cond, ◌≡◌, ◌<◌, nat_lt, List, [], ◌∷◌, ◌++◌, refl, map, flat_map, ap, ap₂, ◌∙◌, sym, subst, inl, inr,
-    arith, count_by, lt-ltb}
+use Rattle.std.proofs.Common.{ℕ, cond, ◌≡◌, ◌<◌, nat_lt, List, [], ◌∷◌, ◌++◌, refl, map, flat_map, ap, ap₂, ◌∙◌, sym, subst, inl, inr}
+use Rattle.std.proofs.Common.{arith, count_by, lt-ltb}
 use Rattle.std.proofs.lemmas.Bool.{cases_eq}
 use Rattle.ptl_types.specs.declared.headers.Lane.{Lane}
 use Rattle.ptl_types.specs.declared.headers.Lane.TheVariants.{Request, Answer as AnswerLane}

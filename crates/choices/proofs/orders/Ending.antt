@@ -1,6 +1,6 @@
 -- A chosen run ends where no history grows past a bound: each word makes one step more.
-use Rattle.std.proofs.Common.{ℕ, zero, suc, ◌%◌, ◌+◌, ◌≡◌, ◌≤◌, ◌<◌, ◌⊎◌, List, [], ◌∷◌, refl, length, get_or, ap, ◌∙◌, sym, subst, inl,
-    inr, arith, length-append, replicate}
+use Rattle.std.proofs.Common.{ℕ, zero, suc, ◌%◌, ◌+◌, ◌≡◌, ◌≤◌, ◌<◌, ◌⊎◌, List, [], ◌∷◌, refl, length, get_or, ap, ◌∙◌, sym, subst, inl}
+use Rattle.std.proofs.Common.{inr, arith, length-append, replicate}
 use Rattle.std.proofs.lemmas.Bool.{cases_eq}
 use Rattle.std.proofs.lemmas.List.{length-replicate}
 use Rattle.std.proofs.Math.Nat.{mod-lt}
@@ -65,7 +65,7 @@ module _ (k : System) (most : ℕ → ℕ)
         at : (xs : List Step) → enabled_steps k (chosen k words n) ≡ xs
             → untaken room (chosen k words n).world k.count + n ≡ whole
             → Ended ⊎ (untaken room (choose k (enabled_steps k (chosen k words n)) (words n) (chosen k words n)).world k.count + suc n
-                ≡ whole)
+            ≡ whole)
         at [] q e = inl (n, q)
         at (x ∷ xs) q e =
             let h : 0 < length (x ∷ xs) = omega arith in

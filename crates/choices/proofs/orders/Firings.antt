@@ -1,6 +1,6 @@
 -- Which operations are ready at a seat, and of which step of the text each is, doesn't depend on the slots.
-use Rattle.std.proofs.Common.{ℕ, Bool, true, false, not, ◌≡◌, List, refl, map, filter, ap, ◌∙◌, sym, subst, inl, inr, Option, Some, None,
-    eqb-true}
+use Rattle.std.proofs.Common.{ℕ, Bool, true, false, not, ◌≡◌, List, refl, map, filter, ap, ◌∙◌, sym, subst, inl, inr, Option, Some, None}
+use Rattle.std.proofs.Common.{eqb-true}
 use Rattle.std.proofs.lemmas.Bool.{cases_eq, not-true}
 use Rattle.std.proofs.lemmas.Option.{none-some}
 use Rattle.std.proofs.lemmas.Simd.{map-map}
@@ -17,8 +17,8 @@ use Rattle.coll_lang.specs.declared.choices.ChoiceKind.TheVariants.{Elect, Ticke
 use Rattle.choices.specs.machine.Choices.{choice_at}
 use Rattle.choices.specs.machine.Machine.{Phase, advanced}
 use Rattle.choices.proofs.machine.Places.{put-other}
-use Rattle.choices.specs.view.Install.{ChoiceRank, Slots, RankOp, deed_of, first_deed, get_args, is_told, number_of, operation, put_args,
-    view, was_fired, was_read, was_sent, rank_ops}
+use Rattle.choices.specs.view.Install.{ChoiceRank, Slots, RankOp, deed_of, first_deed, get_args, is_told, number_of, operation, put_args}
+use Rattle.choices.specs.view.Install.{view, was_fired, was_read, was_sent, rank_ops}
 use Rattle.choices.specs.view.Install.Part.{Old, Result}
 use Rattle.choices.specs.view.Install.RankOp.{Look, Send, ForDone}
 use Rattle.choices.specs.view.Steps.{with_phase}

@@ -1,6 +1,6 @@
 -- A step that is named alike leads two scenes of one moment to two scenes of one moment.
-use Rattle.std.proofs.Common.{ℕ, Bool, true, false, cond, ◌==◌, ◌≡◌, ◌⊎◌, List, [], ◌∷◌, ◌++◌, refl, length, map, ap, ap₂, ◌∙◌, sym, subst,
-    inl, inr, arith, length-append}
+use Rattle.std.proofs.Common.{ℕ, Bool, true, false, cond, ◌==◌, ◌≡◌, ◌⊎◌, List, [], ◌∷◌, ◌++◌, refl, length, map, ap, ap₂, ◌∙◌, sym, subst}
+use Rattle.std.proofs.Common.{inl, inr, arith, length-append}
 use Rattle.std.proofs.lemmas.Bool.{cases_eq}
 use Rattle.std.proofs.lemmas.List.{map-append}
 use Rattle.ptl_types.specs.declared.headers.Lane.{Lane}

@@ -1,6 +1,6 @@
 -- Words choose one run, whatever slots the tables gave out.
-use Rattle.std.proofs.Common.{ℕ, zero, suc, ◌%◌, ◌+◌, ◌*◌, ◌≡◌, ◌≤◌, ◌<◌, List, [], ◌∷◌, refl, length, map, flat_map, get_or, ap, ◌∙◌, sym,
-    subst, inl, inr, arith}
+use Rattle.std.proofs.Common.{ℕ, zero, suc, ◌%◌, ◌+◌, ◌*◌, ◌≡◌, ◌≤◌, ◌<◌, List, [], ◌∷◌, refl, length, map, flat_map, get_or, ap, ◌∙◌, sym}
+use Rattle.std.proofs.Common.{subst, inl, inr, arith}
 use Rattle.std.proofs.lemmas.Bool.{cases_lt}
 use Rattle.std.proofs.Math.Nat.{mod-lt}
 use Rattle.ptl_types.specs.Elements.{part, pattern}

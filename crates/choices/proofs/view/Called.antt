@@ -1,6 +1,6 @@
 -- The calls of an installation, list by list; and each of them passes.
-use Rattle.std.proofs.Common.{ℕ, zero, suc, Bool, true, false, ◌==◌, ◌+◌, ◌-◌, ◌*◌, ◌^◌, ◌≡◌, ◌<◌, List, [], ◌∷◌, ◌++◌, refl, length, map,
-    flat_map, ap, ap₂, ◌∙◌, sym, subst, arith, None, if◌then◌else◌}
+use Rattle.std.proofs.Common.{ℕ, zero, suc, Bool, true, false, ◌==◌, ◌+◌, ◌-◌, ◌*◌, ◌^◌, ◌≡◌, ◌<◌, List, [], ◌∷◌, ◌++◌, refl, length, map}
+use Rattle.std.proofs.Common.{flat_map, ap, ap₂, ◌∙◌, sym, subst, arith, None, if◌then◌else◌}
 use Rattle.ni_model.specs.Append.{append_fault}
 use Rattle.ni_model.specs.Refusals.{alloc_fault, bind_fault}
 use Rattle.ni_model.specs.State.{State, opened, parts_of as target_parts}
@@ -10,10 +10,10 @@ use Rattle.plan_core.specs.Plan.{from_to}
 use Rattle.coll_lang.specs.declared.choices.ChoiceKind.{ChoiceKind}
 use Rattle.choices.specs.machine.Choices.{choice_at}
 use Rattle.choices.specs.machine.Machine.{first_word}
-use Rattle.choices.specs.view.Install.{Counter, Part, Slots, RankOp, counters_of, deed_of, descriptor_of, entries_of, four_words,
-    given_word, limits_of, parts_of, step_bytes, steps, view, word_entry, rank_ops}
-use Rattle.choices.specs.view.Calls.{AllPass, Call, MayMake, blank, call_fault, call_made, calls_made, first_bytes, install, install_calls,
-    no_seat, step_calls, word_calls}
+use Rattle.choices.specs.view.Install.{Counter, Part, Slots, RankOp, counters_of, deed_of, descriptor_of, entries_of, four_words}
+use Rattle.choices.specs.view.Install.{given_word, limits_of, parts_of, step_bytes, steps, view, word_entry, rank_ops}
+use Rattle.choices.specs.view.Calls.{AllPass, Call, MayMake, blank, call_fault, call_made, calls_made, first_bytes, install, install_calls}
+use Rattle.choices.specs.view.Calls.{no_seat, step_calls, word_calls}
 use Rattle.choices.specs.view.Calls.Call.{CtAlloc, MdBind, MeAppend, Trigger}
 use Rattle.choices.proofs.view.Folds.{counters_all, entered, entries_all, fresh, made_all, operations_all, parts_all}
 use Rattle.choices.proofs.view.Installed.{bare, entered_is, made_so}

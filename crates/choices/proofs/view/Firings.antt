@@ -1,6 +1,6 @@
 -- What each operation of a choice text does when it fires.
-use Rattle.std.proofs.Common.{ℕ, suc, true, false, not, ◌+◌, ◌*◌, ◌≡◌, ◌≤◌, ◌<◌, ◌⊎◌, List, refl, length, map, filter, ap, ap₂, ◌∙◌, sym,
-    subst, inl, inr, arith, flat_map, count_by, min, Some, None, add-zero}
+use Rattle.std.proofs.Common.{ℕ, suc, true, false, not, ◌+◌, ◌*◌, ◌≡◌, ◌≤◌, ◌<◌, ◌⊎◌, List, refl, length, map, filter, ap, ap₂, ◌∙◌, sym}
+use Rattle.std.proofs.Common.{subst, inl, inr, arith, flat_map, count_by, min, Some, None, add-zero}
 use Rattle.std.proofs.lemmas.Bool.{cases_eq}
 use Rattle.ptl_types.specs.declared.elements.AtomicOp.TheVariants.{Sum}
 use Rattle.ptl_types.specs.declared.elements.SwapOp.TheVariants.{Cswap}
@@ -24,10 +24,11 @@ use Rattle.choices.specs.machine.Machine.{Phase, advanced, put, value_of, is_rea
 use Rattle.choices.specs.machine.Machine.Phase.{Answered, Asked, Idle, Learned, Read, Reading, Served, Told}
 use Rattle.choices.proofs.machine.Places.{count_as, count_put, put-other, put-same}
 use Rattle.choices.proofs.machine.Words.{put_as}
-use Rattle.choices.specs.view.Install.{Counter, Part, ChoiceRank, Slots, RankOp, awaits_of, awaits_result, count_of, counters, ct_of,
-    ct_stamp, deed_of, first_deed, first_header, get_args, given_word, has_first, has_result, is_out, is_reading, is_told, live_counter,
-    live_part, md_of, md_stamp, none_or_one, number_of, old_of, operation, parts, put_args, result_counter, step_bytes, steps, view,
-    was_fired, was_read, was_sent, word, work_counter, rank_ops}
+use Rattle.choices.specs.view.Install.{Counter, Part, ChoiceRank, Slots, RankOp, awaits_of, awaits_result, count_of, counters, ct_of}
+use Rattle.choices.specs.view.Install.{ct_stamp, deed_of, first_deed, first_header, get_args, given_word, has_first, has_result, is_out}
+use Rattle.choices.specs.view.Install.{is_reading, is_told, live_counter, live_part, md_of, md_stamp, none_or_one, number_of, old_of}
+use Rattle.choices.specs.view.Install.{operation, parts, put_args, result_counter, step_bytes, steps, view, was_fired, was_read, was_sent}
+use Rattle.choices.specs.view.Install.{word, work_counter, rank_ops}
 use Rattle.choices.specs.view.Install.Counter.{Done, First, Go, Second}
 use Rattle.choices.specs.view.Install.Part.{Given, Old, Result}
 use Rattle.choices.specs.view.Install.RankOp.{Look, Send, ForDone}
@@ -37,8 +38,8 @@ use Rattle.choices.proofs.view.Memory.{read_given, read_part}
 use Rattle.choices.proofs.view.Named.{changed_named}
 use Rattle.choices.proofs.view.Stamps.{In-given, In-old, In-result, In-steps, IsWork, counters-In, ct_one, md_one, parts-In}
 use Rattle.choices.proofs.view.StepStart.{bound_for, bound_with, counts_as, memory_as, length-step, parts_as, view_with}
-use Rattle.choices.proofs.view.StepFire.{IsAnswered, IsLearned, IsReadyWork, done_fetch, done_get, done_swap, left_waiting, lookup_md,
-    read_answered, ready_work, sent_idle, sent_state, told_learned, true_one, one_true, work_ready}
+use Rattle.choices.proofs.view.StepFire.{IsAnswered, IsLearned, IsReadyWork, done_fetch, done_get, done_swap, left_waiting, lookup_md}
+use Rattle.choices.proofs.view.StepFire.{read_answered, ready_work, sent_idle, sent_state, told_learned, true_one, one_true, work_ready}
 
 -- the descriptor that awaits the first answer
 abbrev pub home_part : ChoiceKind → ℕ → Part

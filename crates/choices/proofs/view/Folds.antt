@@ -7,8 +7,8 @@ use Rattle.plan_core.specs.Plan.{from_to}
 use Rattle.cuts.specs.view.Calls.{with_entry}
 use Rattle.coll_lang.specs.declared.choices.ChoiceKind.{ChoiceKind}
 use Rattle.choices.specs.machine.Choices.{choice_at}
-use Rattle.choices.specs.view.Install.{Counter, Part, Slots, RankOp, counters_of, ct_of, deed_of, descriptor_of, limits_of, parts_of,
-    step_bytes, steps, word_entry, work_counter, rank_ops}
+use Rattle.choices.specs.view.Install.{Counter, Part, Slots, RankOp, counters_of, ct_of, deed_of, descriptor_of, limits_of, parts_of}
+use Rattle.choices.specs.view.Install.{step_bytes, steps, word_entry, work_counter, rank_ops}
 use Rattle.choices.specs.view.Calls.{no_seat}
 
 -- a counting event for each of these

@@ -1,6 +1,7 @@
 -- The closed form of an installed interface is the state after the calls.
-use Rattle.std.proofs.Common.{ℕ, zero, suc, Bool, true, false, cond, not, ◌==◌, ◌+◌, ◌≡◌, List, [], ◌∷◌, ◌++◌, refl, length, map, filter,
-    flat_map, ap, ap₂, ◌∙◌, sym, subst, arith, append_assoc, append-nil, add-zero, None, Some, length-append, if◌then◌else◌}
+use Rattle.std.proofs.Common.{ℕ, zero, suc, Bool, true, false, cond, not, ◌==◌, ◌+◌, ◌≡◌, List, [], ◌∷◌, ◌++◌, refl, length, map, filter}
+use Rattle.std.proofs.Common.{flat_map, ap, ap₂, ◌∙◌, sym, subst, arith, append_assoc, append-nil, add-zero, None, Some, length-append}
+use Rattle.std.proofs.Common.{if◌then◌else◌}
 use Rattle.std.proofs.lemmas.List.{map-append}
 use Rattle.ni_model.specs.declared.Bound.{Bound}
 use Rattle.ni_model.specs.declared.Linked.{Linked}
@@ -18,10 +19,10 @@ use Rattle.coll_lang.specs.declared.choices.ChoiceKind.TheVariants.{Elect, Ticke
 use Rattle.choices.specs.machine.Machine.Phase.{Idle}
 use Rattle.choices.proofs.machine.Places.{count_none}
 use Rattle.choices.proofs.machine.Words.{length-from_to}
-use Rattle.choices.specs.view.Install.{Counter, Part, Slots, RankOp, awaits_of, awaits_result, before, count_of, counters, counters_in,
-    counters_of, ct_of, ct_stamp, deed_of, descriptor_of, entries_of, entry_of, has_first, last_in, live_counter, live_part, md_of,
-    md_stamp, none_or_one, number_of, operation, parts, parts_of, steps, things_in, view, was_fired, word_entry, work_counter, rank_ops,
-    works_of}
+use Rattle.choices.specs.view.Install.{Counter, Part, Slots, RankOp, awaits_of, awaits_result, before, count_of, counters, counters_in}
+use Rattle.choices.specs.view.Install.{counters_of, ct_of, ct_stamp, deed_of, descriptor_of, entries_of, entry_of, has_first, last_in}
+use Rattle.choices.specs.view.Install.{live_counter, live_part, md_of, md_stamp, none_or_one, number_of, operation, parts, parts_of, steps}
+use Rattle.choices.specs.view.Install.{things_in, view, was_fired, word_entry, work_counter, rank_ops, works_of}
 use Rattle.choices.specs.view.Install.Counter.{Done, First, Go, Second}
 use Rattle.choices.specs.view.Install.Part.{Given, Old, Result}
 use Rattle.choices.specs.view.Install.RankOp.{Look, Send, ForDone}

@@ -1,6 +1,6 @@
 -- The region of a choice text: four words for each step.
-use Rattle.std.proofs.Common.{ℕ, zero, suc, Bool, true, false, cond, ◌+◌, ◌*◌, ◌==◌, ◌≡◌, ◌≤◌, ◌<◌, List, refl, length, flat_map, ap, ◌∙◌,
-    sym, arith, eqb-true}
+use Rattle.std.proofs.Common.{ℕ, zero, suc, Bool, true, false, cond, ◌+◌, ◌*◌, ◌==◌, ◌≡◌, ◌≤◌, ◌<◌, List, refl, length, flat_map, ap, ◌∙◌}
+use Rattle.std.proofs.Common.{sym, arith, eqb-true}
 use Rattle.std.proofs.lemmas.Bool.{eqb-false}
 use Rattle.ptl_types.specs.Elements.{part, written}
 use Rattle.plan_core.specs.Members.{In}

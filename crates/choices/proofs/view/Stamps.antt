@@ -6,8 +6,8 @@ use Rattle.plan_core.proofs.Links.{In-from_to, from_to-In}
 use Rattle.coll_lang.specs.declared.choices.ChoiceKind.{ChoiceKind}
 use Rattle.choices.specs.machine.Choices.{choice_at}
 use Rattle.coll_lang.specs.declared.choices.ChoiceKind.TheVariants.{Elect, Tickets}
-use Rattle.choices.specs.view.Install.{Counter, Part, RankOp, before, counters, counters_in, counters_of, ct_stamp, last_in, md_stamp,
-    number_of, parts, parts_of, result_counter, steps, things_in, work_counter, rank_ops, works_of}
+use Rattle.choices.specs.view.Install.{Counter, Part, RankOp, before, counters, counters_in, counters_of, ct_stamp, last_in, md_stamp}
+use Rattle.choices.specs.view.Install.{number_of, parts, parts_of, result_counter, steps, things_in, work_counter, rank_ops, works_of}
 use Rattle.choices.specs.view.Install.Counter.{Done, First, Go, Second}
 use Rattle.choices.specs.view.Install.Part.{Given, Old, Result}
 use Rattle.choices.specs.view.Install.RankOp.{Look, Send, ForDone}

@@ -1,6 +1,6 @@
 -- A firing: which operation is ready, and what it does.
-use Rattle.std.proofs.Common.{ℕ, Bool, true, false, cond, not, ◌&&◌, ◌==◌, ◌+◌, ◌≡◌, ◌≤◌, ◌⊎◌, nat_le, List, [], ◌∷◌, refl, map, filter, ap,
-    ◌∙◌, sym, subst, inl, inr, arith, Option, Some, None, Ok, is_some, eqb-true, eq-eqb}
+use Rattle.std.proofs.Common.{ℕ, Bool, true, false, cond, not, ◌&&◌, ◌==◌, ◌+◌, ◌≡◌, ◌≤◌, ◌⊎◌, nat_le, List, [], ◌∷◌, refl, map, filter, ap}
+use Rattle.std.proofs.Common.{◌∙◌, sym, subst, inl, inr, arith, Option, Some, None, Ok, is_some, eqb-true, eq-eqb}
 use Rattle.std.proofs.lemmas.Bool.{ne_eqb, leb-true, le-leb, not-true, cases_eq}
 use Rattle.ptl_types.specs.declared.handles.Count.{Count}
 use Rattle.ptl_types.specs.declared.elements.AtomicOp.{AtomicOp}
@@ -31,12 +31,13 @@ use Rattle.coll_lang.specs.declared.choices.ChoiceKind.{ChoiceKind}
 use Rattle.coll_lang.specs.declared.choices.ChoiceKind.TheVariants.{Elect}
 use Rattle.choices.specs.machine.Machine.{Phase}
 use Rattle.choices.specs.machine.Machine.Phase.{Answered, Asked, Idle, Learned, Read, Reading, Served, Told}
-use Rattle.choices.specs.view.Install.{Counter, Part, ChoiceRank, Slots, RankOp, count_of, counters, ct_of, ct_stamp, has_first, has_result,
-    is_told, md_of, md_stamp, none_or_one, number_of, operation, parts, view, was_fired, was_read, was_sent, work_counter, rank_ops}
+use Rattle.choices.specs.view.Install.{Counter, Part, ChoiceRank, Slots, RankOp, count_of, counters, ct_of, ct_stamp, has_first, has_result}
+use Rattle.choices.specs.view.Install.{is_told, md_of, md_stamp, none_or_one, number_of, operation, parts, view, was_fired, was_read}
+use Rattle.choices.specs.view.Install.{was_sent, work_counter, rank_ops}
 use Rattle.choices.specs.view.Install.Counter.{Done, First, Go, Second}
 use Rattle.choices.proofs.view.Named.{changed_named, lookup_named}
-use Rattle.choices.proofs.view.Stamps.{IsWork, In-go, In-work_counter, In-rank_ops, counters-In, ct_one, md_one, number_one, parts-In,
-    rank_ops-In}
+use Rattle.choices.proofs.view.Stamps.{IsWork, In-go, In-work_counter, In-rank_ops, counters-In, ct_one, md_one, number_one, parts-In}
+use Rattle.choices.proofs.view.Stamps.{rank_ops-In}
 use Rattle.choices.proofs.view.StepStart.{bound_for}
 
 -- ---- which operation is ready

@@ -1,6 +1,6 @@
 -- An answer at home: it writes its word, counts, and is awaited no longer.
-use Rattle.std.proofs.Common.{ℕ, Bool, true, false, cond, ◌+◌, ◌-◌, ◌*◌, ◌≡◌, ◌<◌, nat_lt, nat_le, ◌&&◌, List, refl, length, map, ap, ap₂,
-    ◌∙◌, sym, subst, inl, inr, arith, min, Option, Some, None, add-zero}
+use Rattle.std.proofs.Common.{ℕ, Bool, true, false, cond, ◌+◌, ◌-◌, ◌*◌, ◌≡◌, ◌<◌, nat_lt, nat_le, ◌&&◌, List, refl, length, map, ap, ap₂}
+use Rattle.std.proofs.Common.{◌∙◌, sym, subst, inl, inr, arith, min, Option, Some, None, add-zero}
 use Rattle.std.proofs.lemmas.Bool.{cases_eq}
 use Rattle.ptl_types.specs.declared.handles.Handle.{Handle}
 use Rattle.ptl_types.specs.declared.headers.Header.{Header}
@@ -22,10 +22,11 @@ use Rattle.choices.specs.machine.Machine.Phase.{Answered, Asked, Idle, Learned, 
 use Rattle.choices.specs.machine.Lawful.{IsAnswer, is_plain}
 use Rattle.choices.proofs.machine.Places.{count_as, put-other, put-same}
 use Rattle.choices.proofs.machine.Words.{put_as}
-use Rattle.choices.specs.view.Install.{Counter, Part, ChoiceRank, Slots, RankOp, answer_message, ask_header, awaits_of, awaits_result,
-    count_of, counters, ct_named, ct_of, ct_stamp, first_header, four_words, given_word, has_counter, has_first, has_result, is_out,
-    is_reading, is_told, live_counter, live_part, md_of, md_stamp, none_or_one, old_of, part_counter, part_start, parts, result_counter,
-    step_bytes, steps, view, was_fired, was_read, was_sent, word, rank_ops}
+use Rattle.choices.specs.view.Install.{Counter, Part, ChoiceRank, Slots, RankOp, answer_message, ask_header, awaits_of, awaits_result}
+use Rattle.choices.specs.view.Install.{count_of, counters, ct_named, ct_of, ct_stamp, first_header, four_words, given_word, has_counter}
+use Rattle.choices.specs.view.Install.{has_first, has_result, is_out, is_reading, is_told, live_counter, live_part, md_of, md_stamp}
+use Rattle.choices.specs.view.Install.{none_or_one, old_of, part_counter, part_start, parts, result_counter, step_bytes, steps, view}
+use Rattle.choices.specs.view.Install.{was_fired, was_read, was_sent, word, rank_ops}
 use Rattle.choices.specs.view.Install.Counter.{Done, First, Go, Second}
 use Rattle.choices.specs.view.Install.Part.{Given, Old, Result}
 use Rattle.choices.specs.view.Install.RankOp.{Look, Send, ForDone}

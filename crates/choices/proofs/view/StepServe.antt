@@ -1,6 +1,6 @@
 -- A request at rank 0: it finds the word of its step, and is answered with what stood there.
-use Rattle.std.proofs.Common.{ℕ, Bool, true, false, ◌&&◌, ◌==◌, ◌+◌, ◌*◌, ◌%◌, ◌^◌, ◌≡◌, ◌≤◌, ◌<◌, List, [], ◌∷◌, refl, length, map, find,
-    ap, ap₂, ◌∙◌, sym, arith, Option, Some, None, if◌then◌else◌}
+use Rattle.std.proofs.Common.{ℕ, Bool, true, false, ◌&&◌, ◌==◌, ◌+◌, ◌*◌, ◌%◌, ◌^◌, ◌≡◌, ◌≤◌, ◌<◌, List, [], ◌∷◌, refl, length, map, find}
+use Rattle.std.proofs.Common.{ap, ap₂, ◌∙◌, sym, arith, Option, Some, None, if◌then◌else◌}
 use Rattle.std.proofs.lemmas.Bool.{and_parts}
 use Rattle.ptl_types.specs.declared.headers.Header.{Header}
 use Rattle.ptl_types.specs.declared.calls.Outcome.TheVariants.{Matched}
@@ -26,8 +26,8 @@ use Rattle.coll_lang.specs.declared.choices.ChoiceKind.TheVariants.{Elect, Ticke
 use Rattle.choices.specs.machine.Machine.{answer, ask, value_of, word_after}
 use Rattle.choices.proofs.machine.Places.{put-other, put-same}
 use Rattle.choices.proofs.machine.Moments.{put-again}
-use Rattle.choices.specs.view.Install.{ChoiceRank, Slots, answer_message, ask_header, ask_message, entry_of, first_header, four_words,
-    given_word, old_of, step_bytes, steps, view, word}
+use Rattle.choices.specs.view.Install.{ChoiceRank, Slots, answer_message, ask_header, ask_message, entry_of, first_header, four_words}
+use Rattle.choices.specs.view.Install.{given_word, old_of, step_bytes, steps, view, word}
 use Rattle.choices.specs.view.Steps.{with_word}
 use Rattle.choices.proofs.view.MatchBits.{match_only, match_own}
 use Rattle.choices.proofs.view.Memory.{read_first, read_part, write_first, write_part}

@@ -1,6 +1,6 @@
 -- A start, and a request that rank 0 took: what the rank's interface shows.
-use Rattle.std.proofs.Common.{ℕ, Bool, true, false, cond, not, ◌≡◌, List, [], ◌∷◌, refl, length, map, filter, ap, ap₂, sym, inl, inr,
-    flat_map, min}
+use Rattle.std.proofs.Common.{ℕ, Bool, true, false, cond, not, ◌≡◌, List, [], ◌∷◌, refl, length, map, filter, ap, ap₂, sym, inl, inr}
+use Rattle.std.proofs.Common.{flat_map, min}
 use Rattle.ptl_types.specs.declared.handles.Count.{Count}
 use Rattle.ptl_types.specs.Handles.{top}
 use Rattle.ni_model.specs.declared.Bound.{Bound}
@@ -17,9 +17,10 @@ use Rattle.choices.specs.machine.Machine.{Phase, put, served, value_of}
 use Rattle.choices.specs.machine.Machine.Phase.{Asked, Read, Reading, Served}
 use Rattle.choices.proofs.machine.Places.{count_as}
 use Rattle.choices.proofs.machine.Words.{put_as}
-use Rattle.choices.specs.view.Install.{Counter, Part, ChoiceRank, Slots, RankOp, awaits_of, awaits_result, count_of, counters, ct_of,
-    ct_stamp, descriptor_of, four_words, given_word, has_first, has_result, is_out, is_reading, is_told, none_or_one, live_counter,
-    live_part, md_stamp, old_of, operation, parts, step_bytes, steps, view, was_fired, was_read, was_sent, rank_ops}
+use Rattle.choices.specs.view.Install.{Counter, Part, ChoiceRank, Slots, RankOp, awaits_of, awaits_result, count_of, counters, ct_of}
+use Rattle.choices.specs.view.Install.{ct_stamp, descriptor_of, four_words, given_word, has_first, has_result, is_out, is_reading, is_told}
+use Rattle.choices.specs.view.Install.{none_or_one, live_counter, live_part, md_stamp, old_of, operation, parts, step_bytes, steps, view}
+use Rattle.choices.specs.view.Install.{was_fired, was_read, was_sent, rank_ops}
 use Rattle.choices.specs.view.Install.Counter.{Done, First, Go, Second}
 use Rattle.choices.specs.view.Install.Part.{Given, Old, Result}
 use Rattle.choices.specs.view.Install.RankOp.{Look, Send, ForDone}

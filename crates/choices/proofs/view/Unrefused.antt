@@ -1,7 +1,7 @@
 -- None of the calls that install a choice text is refused.
-use Rattle.std.proofs.Common.{ℕ, zero, suc, Bool, true, false, not, ◌&&◌, ◌||◌, ◌+◌, ◌-◌, ◌*◌, ◌^◌, ◌≡◌, ◌≤◌, ◌<◌, ◌==◌, nat_le, List, [],
-    ◌∷◌, ◌++◌, refl, length, map, ap, ap₂, ◌∙◌, sym, subst, inl, inr, arith, Some, None, le-leb, is_some, suc-mul, add-zero, append-nil,
-    lit≤, flat_map, length-append, if◌then◌else◌}
+use Rattle.std.proofs.Common.{ℕ, zero, suc, Bool, true, false, not, ◌&&◌, ◌||◌, ◌+◌, ◌-◌, ◌*◌, ◌^◌, ◌≡◌, ◌≤◌, ◌<◌, ◌==◌, nat_le, List, []}
+use Rattle.std.proofs.Common.{◌∷◌, ◌++◌, refl, length, map, ap, ap₂, ◌∙◌, sym, subst, inl, inr, arith, Some, None, le-leb, is_some, suc-mul}
+use Rattle.std.proofs.Common.{add-zero, append-nil, lit≤, flat_map, length-append, if◌then◌else◌}
 use Rattle.std.specs.Prelude.{sum_by}
 use Rattle.std.proofs.lemmas.Bool.{leb-true, false_from_ne_true}
 use Rattle.std.proofs.lemmas.List.{length-map, map-append}
@@ -17,8 +17,8 @@ use Rattle.ni_model.specs.Counts.{successes}
 use Rattle.ni_model.specs.Lists.{entries_in}
 use Rattle.ni_model.specs.Calls.{with_counter}
 use Rattle.ni_model.specs.Conditions.{MayStart}
-use Rattle.ni_model.specs.Refusals.{alloc_fault, bind_fault, counts_on_live, deed_fits, deed_is_live, deed_passes, holds_part,
-    pt_alloc_fault, triggered_fault}
+use Rattle.ni_model.specs.Refusals.{alloc_fault, bind_fault, counts_on_live, deed_fits, deed_is_live, deed_passes, holds_part}
+use Rattle.ni_model.specs.Refusals.{pt_alloc_fault, triggered_fault}
 use Rattle.ni_model.specs.State.{State, opened, parts_of as target_parts, side_of}
 use Rattle.plan_core.specs.Members.{In}
 use Rattle.plan_core.specs.Plan.{from_to}
@@ -27,9 +27,10 @@ use Rattle.coll_lang.specs.declared.choices.ChoiceKind.{ChoiceKind}
 use Rattle.choices.specs.machine.Choices.{choice_at}
 use Rattle.coll_lang.specs.declared.choices.ChoiceKind.TheVariants.{Elect, Tickets}
 use Rattle.choices.proofs.machine.Words.{length-from_to}
-use Rattle.choices.specs.view.Install.{Counter, Part, Slots, RankOp, before, counters, counters_in, counters_of, ct_of, ct_stamp, deed_of,
-    descriptor_of, entries_of, entry_of, first_deed, limits_of, md_of, md_stamp, number_of, operation, part_start, parts, parts_of,
-    result_counter, step_bytes, steps, things_in, word_entry, work_counter, rank_ops, works_of}
+use Rattle.choices.specs.view.Install.{Counter, Part, Slots, RankOp, before, counters, counters_in, counters_of, ct_of, ct_stamp, deed_of}
+use Rattle.choices.specs.view.Install.{descriptor_of, entries_of, entry_of, first_deed, limits_of, md_of, md_stamp, number_of, operation}
+use Rattle.choices.specs.view.Install.{part_start, parts, parts_of, result_counter, step_bytes, steps, things_in, word_entry, work_counter}
+use Rattle.choices.specs.view.Install.{rank_ops, works_of}
 use Rattle.choices.specs.view.Install.Counter.{Done, First, Go}
 use Rattle.choices.specs.view.Install.Part.{Given, Old, Result}
 use Rattle.choices.specs.view.Install.RankOp.{Look, Send, ForDone}
@@ -41,9 +42,10 @@ use Rattle.choices.proofs.view.Memory.{inside_step}
 use Rattle.choices.proofs.view.StepStart.{length-step}
 use Rattle.choices.proofs.view.StepFire.{lookup_ct, lookup_md}
 use Rattle.choices.proofs.view.Stamps.{IsCounter, IsWork, In-done, In-given, In-old, In-result, In-work_counter, ct_one, rank_ops-In}
-use Rattle.choices.proofs.view.Installed.{Runs, Runs-left, after_counters, after_entries, after_made, after_operations, after_parts,
-    all_counters_run, all_parts_run, all_works_run, bare, counters_long, counters_run, cts_with, entered_is, made_is, mds_with, new_counter,
-    new_part, parts_long, parts_run, steps_run, tables_with, works_long}
+use Rattle.choices.proofs.view.Installed.{Runs, Runs-left, after_counters, after_entries, after_made, after_operations, after_parts}
+use Rattle.choices.proofs.view.Installed.{all_counters_run, all_parts_run, all_works_run, bare, counters_long, counters_run, cts_with}
+use Rattle.choices.proofs.view.Installed.{entered_is, made_is, mds_with, new_counter, new_part, parts_long, parts_run, steps_run}
+use Rattle.choices.proofs.view.Installed.{tables_with, works_long}
 
 -- ---- small facts
 above : (n m : ℕ) → n < m → nat_le m n ≡ false

@@ -87,7 +87,7 @@ module _ (starts : CombineStarts) (p : Plan) (inputs : Inputs) (sound : SoundPla
   pub all_fired : p.remote ≡ true → (v : RankOp) → In v (rank_ops p r) → was_fired (all_seen p (moves_at p w) r).fired v ≡ true
   all_fired rem (ForDone c) i =
       In-fired (all_seen p (moves_at p w) r).fired (ForDone c)
-          (told starts p inputs sound fit slots w cut r h done c (rank_ops-tell p r c i))
+      (told starts p inputs sound fit slots w cut r h done c (rank_ops-tell p r c i))
   all_fired rem (ForLink l) i = In-fired (all_seen p (moves_at p w) r).fired (ForLink l) (elim (cases_Bool (is_bump (link p l).kind)) [
     | inl b ↦ bumped l (rank_ops-along p r l i) b
     | inr b ↦ sent_before rem l (rank_ops-along p r l i) b

@@ -17,8 +17,8 @@ use Rattle.cuts.proofs.histories.FromCut.{answers_loc, answers_rem, came_all, ma
 use Rattle.cuts.proofs.histories.FromCut.{sender, sent_requests, simulation}
 use Rattle.cuts.proofs.histories.RunTraffic.{has_start}
 use Rattle.cuts.proofs.histories.SentOnce.{sent_once}
-use Rattle.cuts.proofs.histories.Traffic.{In-owned, ack, as_message, came_from, goes_to, number_in, outs_are, own_received,
-    own_received-got}
+use Rattle.cuts.proofs.histories.Traffic.{In-owned, ack, as_message, came_from, goes_to, number_in, outs_are, own_received}
+use Rattle.cuts.proofs.histories.Traffic.{own_received-got}
 use Rattle.cuts.proofs.histories.Traffic.{to_came}
 use Rattle.cuts.specs.histories.Cut.{IsCut, got_by, owned, is_stray}
 use Rattle.cuts.specs.histories.History.{got}

@@ -28,4 +28,4 @@ made-clean p inputs sound s r es m i =
     linked f =
         let q = out_links-In p r f.l f.out in
         link-no_stray p inputs sound s (cell p (link p f.l).target).rank f.l (record { known = q.0; sends = f.sends; here = refl }) m
-            f.header
+        f.header

@@ -1,6 +1,6 @@
 -- What a rank receives in a cut conforms to its plan.
-use Rattle.std.proofs.Common.{ℕ, Bool, true, false, not, ◌≡◌, ◌⊎◌, List, [], ◌∷◌, refl, ap, ap₂, ◌∙◌, sym, subst, inl, inr, map, filter,
-    Option, Some, None, if◌then◌else◌}
+use Rattle.std.proofs.Common.{ℕ, Bool, true, false, not, ◌≡◌, ◌⊎◌, List, [], ◌∷◌, refl, ap, ap₂, ◌∙◌, sym, subst, inl, inr, map, filter}
+use Rattle.std.proofs.Common.{Option, Some, None, if◌then◌else◌}
 use Rattle.std.proofs.lemmas.Bool.{and_parts, and_left}
 use Rattle.ptl_types.specs.declared.handles.Handle.{Handle}
 use Rattle.ptl_types.specs.declared.headers.Header.{Header}
@@ -8,8 +8,9 @@ use Rattle.ptl_types.specs.Messages.{Sent}
 use Rattle.ptl_types.specs.declared.headers.MessageKind.{MessageKind}
 use Rattle.ptl_types.specs.declared.elements.AtomicOp.{AtomicOp}
 use Rattle.ptl_types.specs.Kinds.{is_answer, is_no_ack, is_put_or_atomic}
-use Rattle.ptl_types.specs.declared.headers.MessageKind.TheVariants.{Put as PutKind, Get as GetKind, Atomic as AtomicKind,
-    FetchAtomic as FetchAtomicKind, Swap as SwapKind, Ack as AckKind, Reply as ReplyKind}
+use Rattle.ptl_types.specs.declared.headers.MessageKind.TheVariants.{Put as PutKind, Get as GetKind, Atomic as AtomicKind}
+use Rattle.ptl_types.specs.declared.headers.MessageKind.TheVariants.{FetchAtomic as FetchAtomicKind, Swap as SwapKind, Ack as AckKind}
+use Rattle.ptl_types.specs.declared.headers.MessageKind.TheVariants.{Reply as ReplyKind}
 use Rattle.ptl_types.specs.declared.headers.AckRequest.TheVariants.{CtAck, NoAck}
 use Rattle.ptl_types.specs.declared.headers.Lane.TheVariants.{Answer, Request}
 use Rattle.plan_core.specs.Members.{In}
@@ -59,7 +60,7 @@ pub reply-to_link : (b : Bool) (ok : Bool) (n : ℕ) (bs : List ℕ) (h : Header
 reply-to_link true ok n bs h m e f q =
     let x : answer ok n bs h ≡ Some (record { header = ack_with CtAck ok n h; bytes = [] }) =
     ap₂ (λ t a. if t then (if is_no_ack a then None else Some (record { header = ack_with a ok n h; bytes = [] })) else Some
-        (record { header = reply_header ok n h; bytes = if ok then bs else [] })) e f in
+    (record { header = reply_header ok n h; bytes = if ok then bs else [] })) e f in
     (refl, ap (λ (y : Sent). y.header) (one (sym q ∙ x)))
   where
     one : {a b : Sent} → Some a ≡ Some b → a ≡ b
@@ -67,7 +68,7 @@ reply-to_link true ok n bs h m e f q =
 reply-to_link false ok n bs h m e f q =
     let x : answer ok n bs h ≡ None =
     ap₂ (λ t a. if t then (if is_no_ack a then None else Some (record { header = ack_with a ok n h; bytes = [] })) else Some
-        (record { header = reply_header ok n h; bytes = if ok then bs else [] })) e f in
+    (record { header = reply_header ok n h; bytes = if ok then bs else [] })) e f in
     absurd (none (sym x ∙ q))
   where
     none : {a : Sent} → None ≡ Some a → ⊥
@@ -78,7 +79,7 @@ stray-no_answer ok n bs q e =
     let a = and_parts _ _ e in
     let b = and_parts _ _ a.1 in
     ap₂ (λ t c. if t then (if c then None else Some (record { header = ack_with q.header.ack ok n q.header; bytes = [] })) else Some
-        (record { header = reply_header ok n q.header; bytes = if ok then bs else [] })) a.0 b.0
+    (record { header = reply_header ok n q.header; bytes = if ok then bs else [] })) a.0 b.0
 
 pub link-is_put : (p : Plan) (k : Slots) (l : ℕ) → is_put_or_atomic (link_header p k l).kind ≡ true
 link-is_put p k l = at (cell p (link p l).target).op
@@ -97,9 +98,13 @@ pub build_conform : (p : Plan) (k : ℕ → Slots) (r : ℕ) (es : List Local)
 build_conform p k r [] a b = tt
 build_conform p k r (Start ∷ es) a b = (tt, build_conform p k r es a b)
 build_conform p k r (Fire t ∷ es) a b = (tt, build_conform p k r es a b)
-build_conform p k r (Receive s Request m ∷ es) a b = (a s m (got_first s Request m es),
-    build_conform p k r es (λ v x i. a v x (got_later (Receive s Request m) es v Request x i))
-    (λ v x i. b v x (got_later (Receive s Request m) es v Answer x i)))
-build_conform p k r (Receive s Answer m ∷ es) a b = (b s m (got_first s Answer m es),
-    build_conform p k r es (λ v x i. a v x (got_later (Receive s Answer m) es v Request x i))
-    (λ v x i. b v x (got_later (Receive s Answer m) es v Answer x i)))
+build_conform p k r (Receive s Request m ∷ es) a b = (
+  a s m (got_first s Request m es),
+  build_conform p k r es (λ v x i. a v x (got_later (Receive s Request m) es v Request x i))
+      (λ v x i. b v x (got_later (Receive s Request m) es v Answer x i)),
+)
+build_conform p k r (Receive s Answer m ∷ es) a b = (
+  b s m (got_first s Answer m es),
+  build_conform p k r es (λ v x i. a v x (got_later (Receive s Answer m) es v Request x i))
+      (λ v x i. b v x (got_later (Receive s Answer m) es v Answer x i)),
+)

@@ -3,8 +3,8 @@ use Rattle.cuts.specs.histories.System.{Histories, sent_by}
 use Rattle.cuts.specs.histories.Plans.{start_of, system_of}
 use Rattle.cuts.specs.histories.Cut.{IsCut, got_by, is_stray, owned}
 use Rattle.cuts.specs.view.Slots.{Slots, the_md}
-use Rattle.std.proofs.Common.{ℕ, Bool, true, false, ◌≡◌, ◌<◌, List, [], ◌∷◌, refl, length, ap, ◌∙◌, sym, subst, inl, inr, map, filter,
-    Option, Some, None, if◌then◌else◌, cond}
+use Rattle.std.proofs.Common.{ℕ, Bool, true, false, ◌≡◌, ◌<◌, List, [], ◌∷◌, refl, length, ap, ◌∙◌, sym, subst, inl, inr, map, filter}
+use Rattle.std.proofs.Common.{Option, Some, None, if◌then◌else◌, cond}
 use Rattle.std.proofs.lemmas.Bool.{cases_Bool, cases_lt, not-true}
 use Rattle.std.proofs.lemmas.List.{map-append}
 use Rattle.cuts.proofs.histories.Origin.{Received, FromLink, IsOf, Reply, from_link-request, legal_got, made_from, reply-answer}
@@ -17,12 +17,12 @@ use Rattle.plan_core.specs.Members.{Distinct, In}
 use Rattle.plan_core.specs.Plan.{Plan, cell, link}
 use Rattle.plan_core.specs.Sound.{AreInputsOf, SoundPlan}
 use Rattle.plan_core.specs.Values.{Inputs}
-use Rattle.cuts.proofs.histories.Conform.{build_conform, home-remote, pending_of, link-is_put, prefix-In, reply-to_link, stray-no_answer,
-    stray_request}
+use Rattle.cuts.proofs.histories.Conform.{build_conform, home-remote, pending_of, link-is_put, prefix-In, reply-to_link, stray-no_answer}
+use Rattle.cuts.proofs.histories.Conform.{stray_request}
 use Rattle.cuts.proofs.histories.SentOnce.{sent_once}
 use Rattle.cuts.proofs.histories.Simulate.{AllConform, IsLink}
-use Rattle.cuts.proofs.histories.Traffic.{In-owned, ack, all_distinct, as_message, came_from, goes_to, number_in, own_received,
-    own_received-got, to_came}
+use Rattle.cuts.proofs.histories.Traffic.{In-owned, ack, all_distinct, as_message, came_from, goes_to, number_in, own_received}
+use Rattle.cuts.proofs.histories.Traffic.{own_received-got, to_came}
 use Rattle.cuts.specs.histories.History.{Legal, got, is_for, made}
 use Rattle.cuts.proofs.start.Areas.{MayLie}
 use Rattle.cuts.proofs.histories.Runs.{nothing_raised, SimulatesRun, before_start, run_moves, simulates_run}
@@ -62,7 +62,7 @@ module _ (starts : CombineStarts) (p : Plan) (inputs : Inputs) (sound : SoundPla
   was_sent r s lane m h k i e =
       In-filter_cases (is_for r lane) m (made (start_of p (slots s) s) (prepare p inputs (slots s) s) (w s))
       (prefix-In m (got_by w r s lane) (sent_by (system_of p inputs slots) w s r lane) (cut.lanes s r lane k h)
-          (In-owned m (got (w r) s lane) i e))
+      (In-owned m (got (w r) s lane) i e))
 
   -- a request that is received is a stray or a link's message
   pub request_is : (r s : ℕ) (m : Sent) → r < p.ranks → In m (got (w r) s Request) → is_stray m ≡ false → (k : IsLink p slots r m) ×
@@ -72,7 +72,7 @@ module _ (starts : CombineStarts) (p : Plan) (inputs : Inputs) (sound : SoundPla
       let x = received r s Request m h i in
       let o = was_sent r s Request m h k i e in
       elim (made_from p (slots s) s (start_of p (slots s) s) (w s) (prepare p inputs (slots s) s) m
-          (prepared_of p inputs sound (slots s) s) o.0) [
+      (prepared_of p inputs sound (slots s) s) o.0) [
         | inl f ↦ here f x k
         | inr a ↦ absurd (both (reply-answer (w s) m a) (not-true _ x.kind))
       ]
@@ -104,7 +104,7 @@ module _ (starts : CombineStarts) (p : Plan) (inputs : Inputs) (sound : SoundPla
       let x = received r s Answer m h i in
       let o = was_sent r s Answer m h k i (stray_request m x.kind) in
       elim (made_from p (slots s) s (start_of p (slots s) s) (w s) (prepare p inputs (slots s) s) m
-          (prepared_of p inputs sound (slots s) s) o.0) [
+      (prepared_of p inputs sound (slots s) s) o.0) [
         | inl f ↦ absurd (both x.kind (from_link-request p (slots s) s m f))
         | inr a ↦ reply a x k
       ]
@@ -121,7 +121,7 @@ module _ (starts : CombineStarts) (p : Plan) (inputs : Inputs) (sound : SoundPla
               let l = q.l in
               let f = a.answers in
               let y = reply-to_link p.remote f.ok f.length f.bytes (link_header p (slots (source_rank p q.l)) q.l) m
-                    (link-is_put p (slots (source_rank p q.l)) q.l) refl (ap (answer f.ok f.length f.bytes) (sym q.header) ∙ f.is) in
+              (link-is_put p (slots (source_rank p q.l)) q.l) refl (ap (answer f.ok f.length f.bytes) (sym q.header) ∙ f.is) in
               let z : source_rank p q.l ≡ r = sym (ap (λ (v : Header). v.target) y.1) ∙ x.target in
               record {
                 kind = ap (λ (v : Header). v.kind) y.1;
@@ -152,7 +152,7 @@ module _ (starts : CombineStarts) (p : Plan) (inputs : Inputs) (sound : SoundPla
         (subst Distinct (map-append number_in (got_by w r s Request) x.0)
         (subst (λ v. Distinct (map number_in v)) (sym x.1)
         (sent_once p (slots s) s (start_of p (slots s) s) (w s) false (prepare p inputs (slots s) s)
-            (prepared_of p inputs sound (slots s) s) (cut.legal s k) r))))
+        (prepared_of p inputs sound (slots s) s) (cut.legal s k) r))))
     | inr k ↦ subst (λ v. Distinct (map number_in (owned v))) (sym (cut.known r s Request h k)) tt
   ]
 
@@ -183,7 +183,7 @@ module _ (starts : CombineStarts) (p : Plan) (inputs : Inputs) (sound : SoundPla
   early_lie r h =
       let f = before-front (w r) in
       let inside : (a : Came) → In a (before_start (w r)) → In a (map to_came (own_received Request (w r))) =
-            (λ a i. prefix-In a (before_start (w r)) (map to_came (own_received Request (w r))) f i) in
+      (λ a i. prefix-In a (before_start (w r)) (map to_came (own_received Request (w r))) f i) in
       record {
         here = λ a i. (received_link r h a (inside a i)).0;
         size = λ a i. (received_link r h a (inside a i)).1;
@@ -194,9 +194,9 @@ module _ (starts : CombineStarts) (p : Plan) (inputs : Inputs) (sound : SoundPla
   pub simulation : (r : ℕ) → r < p.ranks → SimulatesRun p inputs slots r [] nothing_seen (w r)
   simulation r h =
       simulates_run p inputs sound starts slots r h (w r) [] nothing_seen (λ d i. length-initial p inputs sound fit d i) refl
-          (nothing_raised p r r) (early_lie r h)
+      (nothing_raised p r r) (early_lie r h)
       (subst (λ v. Legal (start_of p (slots r) r) false v (w r)) (prepared p inputs (slots r) r slots (length inputs) sound)
-          (cut.legal r h)) (conforms r h)
+      (cut.legal r h)) (conforms r h)
 
   pub sent_requests : (s d : ℕ) → s < p.ranks → sent_by (system_of p inputs slots) w s d Request ≡ map (as_message p (slots s))
       (filter (goes_to p d) (outs p inputs nothing_seen (moves_at p w s)))
@@ -254,7 +254,7 @@ module _ (starts : CombineStarts) (p : Plan) (inputs : Inputs) (sound : SoundPla
           let o = came_out r g.from q.0 h g.got_it g.clean in
           let n : source_rank p a.link ≡ g.from = ap (source_rank p) (sym (ap link_of q.2)) ∙ source_of r g.from q.0 h g.got_it g.clean in
           subst (λ v. In a (outs p inputs nothing_seen (moves_at p w v))) (sym n)
-              (subst (λ v. In v (outs p inputs nothing_seen (moves_at p w g.from))) q.2 o)
+          (subst (λ v. In v (outs p inputs nothing_seen (moves_at p w g.from))) q.2 o)
 
   -- what answers were sent
   pub answers_rem : p.remote ≡ true → (s d : ℕ) → s < p.ranks → sent_by (system_of p inputs slots) w s d Answer ≡ map ack

@@ -1,6 +1,6 @@
 -- Histories in two parts, and what can follow where no operation is pending.
-use Rattle.std.proofs.Common.{ℕ, Bool, true, false, cond, not, ◌&&◌, ◌||◌, ◌≡◌, ◌<◌, ◌==◌, List, [], ◌∷◌, ◌++◌, refl, length, ap, ap₂, ◌∙◌,
-    subst, inl, inr, find, Option, Some, None, arith, count_by, length-append}
+use Rattle.std.proofs.Common.{ℕ, Bool, true, false, cond, not, ◌&&◌, ◌||◌, ◌≡◌, ◌<◌, ◌==◌, List, [], ◌∷◌, ◌++◌, refl, length, ap, ap₂, ◌∙◌}
+use Rattle.std.proofs.Common.{subst, inl, inr, find, Option, Some, None, arith, count_by, length-append}
 use Rattle.std.proofs.lemmas.Bool.{not_from_false}
 use Rattle.std.proofs.lemmas.List.{nil_from_length}
 use Rattle.ptl_types.specs.Messages.{Sent}
@@ -10,8 +10,8 @@ use Rattle.ptl_types.specs.declared.headers.Lane.TheVariants.{Answer, Request}
 use Rattle.plan_core.specs.Members.{In}
 use Rattle.ni_model.specs.State.{Posted, State, target, Operations}
 use Rattle.ni_model.specs.Ready.{is_ready, is_number, is_ready_op}
-use Rattle.cuts.specs.histories.History.{Beginning, Legal, Local, after, and_then, got, is_for, is_start, made, made_by, same_lane, sent,
-    state}
+use Rattle.cuts.specs.histories.History.{Beginning, Legal, Local, after, and_then, got, is_for, is_start, made, made_by, same_lane, sent}
+use Rattle.cuts.specs.histories.History.{state}
 use Rattle.cuts.specs.histories.History.Local.{Fire, Receive, Start}
 use Rattle.cuts.specs.histories.Cut.{is_stray, owned}
 use Rattle.plan_core.proofs.Lists.{count-cons}
@@ -80,7 +80,7 @@ pub only_receipts : (go : Beginning) (v : State) (es : List Local) → v.pending
 only_receipts go v [] e l = tt
 only_receipts go v (Start ∷ es) e l = let q = l.0 in cc
 only_receipts go v (Fire t ∷ es) e l = let q = l.0 in let n : is_ready v t ≡ false =
-                                                            ap (λ (qs : List Posted). is_ready_op v.cts (find (is_number t) qs)) e in cc
+    ap (λ (qs : List Posted). is_ready_op v.cts (find (is_number t) qs)) e in cc
 only_receipts go v (Receive s lane m ∷ es) e l = only_receipts go (target v m).state es
     (ap (λ (ps : Operations). ps.waiting) (target_stays v m).pending ∙ e) l.1
 
@@ -159,8 +159,8 @@ same-front {X} (x ∷ xs) us (y ∷ ys) vs e l = ap₂ (λ a b. a ∷ b) (head_o
 -- a front with nothing after it
 pub nothing-behind : {X : Type 0} (xs ys zs : List X) → (xs ++ ys) ++ zs ≡ xs → ys ≡ []
 nothing-behind xs ys zs e = nil_from_length ys (let l = ap length e in let a = length-append (xs ++ ys) zs in let b =
-                                                                                                                    length-append xs ys in
-                                                                                                                    omega arith)
+    length-append xs ys in
+    omega arith)
 
 pub nil-left : {X : Type 0} (xs ys : List X) → xs ++ ys ≡ [] → xs ≡ []
 nil-left xs ys e = nil_from_length xs (let l = ap length e in let a = length-append xs ys in omega arith)

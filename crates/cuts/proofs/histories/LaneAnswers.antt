@@ -1,6 +1,6 @@
 -- In a legal history a rank answers each request at most once, and only to its sender.
-use Rattle.std.proofs.Common.{ℕ, suc, Bool, true, false, cond, ◌||◌, ◌&&◌, ◌==◌, ◌≡◌, ◌≤◌, List, [], ◌∷◌, refl, length, ap, ap₂, ◌∙◌, sym,
-    subst, arith, filter, Option, Some, None, eqb-true, eq-eqb, if◌then◌else◌, zero-le}
+use Rattle.std.proofs.Common.{ℕ, suc, Bool, true, false, cond, ◌||◌, ◌&&◌, ◌==◌, ◌≡◌, ◌≤◌, List, [], ◌∷◌, refl, length, ap, ap₂, ◌∙◌, sym}
+use Rattle.std.proofs.Common.{subst, arith, filter, Option, Some, None, eqb-true, eq-eqb, if◌then◌else◌, zero-le}
 use Rattle.std.proofs.lemmas.Bool.{and_parts, and_right}
 use Rattle.ptl_types.specs.declared.headers.Header.{Header}
 use Rattle.ptl_types.specs.declared.headers.Lane.{Lane}
@@ -44,9 +44,9 @@ few_answers p s r go (Fire t ∷ es) b v h legal d = at (made_by v (Fire t)) ref
     at None q k = k
     at (Some x) q k =
         let n : is_for d Answer x ≡ false = and_right (x.header.target == d) (is_answer x.header.kind)
-              (from_link-request p s r x (fired_link p s r t v x h q)) in
+        (from_link-request p s r x (fired_link p s r t v x h q)) in
         subst (λ c. length (cond c (x ∷ filter (is_for d Answer) (made go (after go v (Fire t)) es))
-            (filter (is_for d Answer) (made go (after go v (Fire t)) es))) ≤ length (got es d Request)) (sym n) k
+        (filter (is_for d Answer) (made go (after go v (Fire t)) es))) ≤ length (got es d Request)) (sym n) k
 few_answers p s r go (Receive source lane y ∷ es) b v h legal d =
     at (made_by v (Receive source lane y)) refl (few_answers p s r go es (b || false) (after go v (Receive source lane y))
     (after_of p s r go v (Receive source lane y) h) legal.1 d)
@@ -58,7 +58,7 @@ few_answers p s r go (Receive source lane y ∷ es) b v h legal d =
     at : (o : Option Sent) → made_by v (Receive source lane y) ≡ o →
         length (filter (is_for d Answer) (made go (after go v (Receive source lane y)) es)) ≤ length (got es d Request)
         → length (filter (is_for d Answer) (and_then o (made go (after go v (Receive source lane y)) es))) ≤ length
-            (got (Receive source lane y ∷ es) d Request)
+        (got (Receive source lane y ∷ es) d Request)
     at None q k = let g = grows ((source == d) && same_lane lane Request) in omega (arith, g, k)
     at (Some x) q k = pick (is_for d Answer x) refl
       where
@@ -71,13 +71,13 @@ few_answers p s r go (Receive source lane y ∷ es) b v h legal d =
 
         pick : (c : Bool) → is_for d Answer x ≡ c
             → length (cond (is_for d Answer x) (x ∷ filter (is_for d Answer) (made go (after go v (Receive source lane y)) es))
-                (filter (is_for d Answer) (made go (after go v (Receive source lane y)) es))) ≤ length
-                (got (Receive source lane y ∷ es) d Request)
+            (filter (is_for d Answer) (made go (after go v (Receive source lane y)) es))) ≤ length
+            (got (Receive source lane y ∷ es) d Request)
         pick false e =
             let g = grows ((source == d) && same_lane lane Request) in
             subst (λ c. length (cond c (x ∷ filter (is_for d Answer) (made go (after go v (Receive source lane y)) es))
-                (filter (is_for d Answer) (made go (after go v (Receive source lane y)) es))) ≤ length
-                (got (Receive source lane y ∷ es) d Request)) (sym e) (omega (arith, g, k))
+            (filter (is_for d Answer) (made go (after go v (Receive source lane y)) es))) ≤ length
+            (got (Receive source lane y ∷ es) d Request)) (sym e) (omega (arith, g, k))
         pick true e =
             let t : source ≡ d = sym legal.0.0 ∙ sym z.1 ∙ eqb-true _ _ (and_parts (x.header.target == d) (is_answer x.header.kind) e).0 in
             let c : ((source == d) && same_lane lane Request) ≡ true = ap₂ (λ a b. a && b) (eq-eqb _ _ t) (on_request lane legal.0.2) in
@@ -85,10 +85,10 @@ few_answers p s r go (Receive source lane y ∷ es) b v h legal d =
           where
             ends : ((source == d) && same_lane lane Request) ≡ true
                 → length (cond (is_for d Answer x) (x ∷ filter (is_for d Answer) (made go (after go v (Receive source lane y)) es))
-                    (filter (is_for d Answer) (made go (after go v (Receive source lane y)) es))) ≤ length
-                    (cond ((source == d) && same_lane lane Request) (y ∷ got es d Request) (got es d Request))
+                (filter (is_for d Answer) (made go (after go v (Receive source lane y)) es))) ≤ length
+                (cond ((source == d) && same_lane lane Request) (y ∷ got es d Request) (got es d Request))
             ends c = subst (λ a. length (cond a (x ∷ filter (is_for d Answer) (made go (after go v (Receive source lane y)) es))
                 (filter (is_for d Answer) (made go (after go v (Receive source lane y)) es))) ≤ length
                 (cond ((source == d) && same_lane lane Request) (y ∷ got es d Request) (got es d Request))) (sym e)
                 (subst (λ a. suc (length (filter (is_for d Answer) (made go (after go v (Receive source lane y)) es))) ≤ length
-                    (cond a (y ∷ got es d Request) (got es d Request))) (sym c) (omega (arith, k)))
+                (cond a (y ∷ got es d Request) (got es d Request))) (sym c) (omega (arith, k)))

@@ -1,11 +1,12 @@
 -- No entry of a rank of a plan allows a get, so what it answers carries no bytes, whatever it receives.
-use Rattle.std.proofs.Common.{ℕ, zero, suc, Bool, true, false, cond, not, ◌&&◌, ◌≡◌, ◌⊎◌, List, [], ◌∷◌, refl, ap, ◌∙◌, sym, subst, inl,
-    inr, map, find, Option, Some, None, if◌then◌else◌, length}
+use Rattle.std.proofs.Common.{ℕ, zero, suc, Bool, true, false, cond, not, ◌&&◌, ◌≡◌, ◌⊎◌, List, [], ◌∷◌, refl, ap, ◌∙◌, sym, subst, inl}
+use Rattle.std.proofs.Common.{inr, map, find, Option, Some, None, if◌then◌else◌, length}
 use Rattle.std.specs.Prelude.{slice_set}
 use Rattle.std.proofs.lemmas.Bool.{and_right, cases_Bool}
 use Rattle.ptl_types.specs.declared.calls.TriggeredOp.{TriggeredOp}
-use Rattle.ptl_types.specs.declared.calls.TriggeredOp.TheVariants.{Put as PutDeed, Get as GetDeed, Atomic as AtomicDeed,
-    FetchAtomic as FetchAtomicDeed, Swap as SwapDeed, Inc as IncDeed, Set as SetDeed}
+use Rattle.ptl_types.specs.declared.calls.TriggeredOp.TheVariants.{Put as PutDeed, Get as GetDeed, Atomic as AtomicDeed}
+use Rattle.ptl_types.specs.declared.calls.TriggeredOp.TheVariants.{FetchAtomic as FetchAtomicDeed, Swap as SwapDeed, Inc as IncDeed}
+use Rattle.ptl_types.specs.declared.calls.TriggeredOp.TheVariants.{Set as SetDeed}
 use Rattle.ptl_types.specs.declared.calls.NiFault.{NiFault}
 use Rattle.ptl_types.specs.declared.calls.Outcome.TheVariants.{Dropped, Violation}
 use Rattle.ptl_types.specs.declared.entries.Entry.{Entry}
@@ -14,8 +15,8 @@ use Rattle.ptl_types.specs.declared.entries.List.TheVariants.{Priority, Overflow
 use Rattle.ptl_types.specs.declared.handles.Handle.{Handle}
 use Rattle.ptl_types.specs.declared.headers.Header.{Header}
 use Rattle.ptl_types.specs.declared.headers.MessageKind.{MessageKind}
-use Rattle.ptl_types.specs.declared.headers.MessageKind.TheVariants.{Ack as AckKind, Atomic as AtomicKind, FetchAtomic as FetchAtomicKind,
-    Get as GetKind, Put as PutKind, Reply as ReplyKind, Swap as SwapKind}
+use Rattle.ptl_types.specs.declared.headers.MessageKind.TheVariants.{Ack as AckKind, Atomic as AtomicKind, FetchAtomic as FetchAtomicKind}
+use Rattle.ptl_types.specs.declared.headers.MessageKind.TheVariants.{Get as GetKind, Put as PutKind, Reply as ReplyKind, Swap as SwapKind}
 use Rattle.ptl_types.specs.Handles.{same_handle}
 use Rattle.ptl_types.specs.Kinds.{is_answer, is_no_ack, is_put_or_atomic}
 use Rattle.ptl_types.specs.Messages.{Sent, message}
@@ -23,8 +24,8 @@ use Rattle.ni_model.specs.declared.Found.{Found}
 use Rattle.ni_model.specs.declared.Linked.{Linked}
 use Rattle.ni_model.specs.Answers.{answered}
 use Rattle.ni_model.specs.Append.{append, append_fault, fresh, linked_at, next_handle}
-use Rattle.ni_model.specs.Arrive.{accepted, ack_header, answer, as_found, chosen, chosen_at, entries_after, is_over, is_overflow, judged,
-    or_else, received, refused, reply_header, request, running_after, settled_at}
+use Rattle.ni_model.specs.Arrive.{accepted, ack_header, answer, as_found, chosen, chosen_at, entries_after, is_over, is_overflow, judged}
+use Rattle.ni_model.specs.Arrive.{or_else, received, refused, reply_header, request, running_after, settled_at}
 use Rattle.ni_model.specs.Calls.{ends_by}
 use Rattle.ni_model.specs.Counts.{plus, successes}
 use Rattle.ni_model.specs.Tables.{changed}
@@ -221,10 +222,10 @@ judged-empty v q m g (Some f) w e = elim (cases_Bool (is_put_or_atomic q.header.
   | inl put ↦ at (allows f.linked.entry q.header.kind) (is_overflow f.list && no_room v.headers) put e
   | inr other ↦ (
       let none = allows-none f.linked.entry q.header.kind (chosen-no_get q.header (index_at q.header.pt v.indices)
-            (at-no_gets v.indices q.header.pt g) f w) other in
+      (at-no_gets v.indices q.header.pt g) f w) other in
       empty-answer false 0 [] q.header m (inr refl)
       (sym (ap (λ b. (cond b (cond (is_overflow f.list && no_room v.headers) (received (parts_of v) (refused Dropped q.header))
-          (accepted (parts_of v) q f)) (received (parts_of v) (refused Violation q.header))).arrived.answer) none) ∙ e))
+      (accepted (parts_of v) q f)) (received (parts_of v) (refused Violation q.header))).arrived.answer) none) ∙ e))
 ]
   where
     at : (a b : Bool) → is_put_or_atomic q.header.kind ≡ true →
@@ -270,9 +271,14 @@ made-empty p k r (e ∷ es) v m h g i a = at (made_by v e) refl i
 
 prepared-no_gets : (p : Plan) (inputs : Inputs) → SoundPlan p (length inputs) → (k : Slots) (r : ℕ) →
     NoGetsIn (prepare p inputs k r).indices
-prepared-no_gets p inputs sound k r = subst (λ (v : State). NoGetsIn v.indices) (sym (prepared p inputs k r (λ n. k) (length inputs) sound))
-    (((λ x i. absurd i), (λ x i. let q = In-map_cases (area_linked p k r []) x (classes p r) i in
-        subst (λ (y : Linked). y.entry.allow_get ≡ false) q.2 refl)), tt)
+prepared-no_gets p inputs sound k r = subst (λ (v : State). NoGetsIn v.indices) (sym (prepared p inputs k r (λ n. k) (length inputs) sound)) (
+  (
+    (λ x i. absurd i),
+    (λ x i. let q = In-map_cases (area_linked p k r []) x (classes p r) i in
+        subst (λ (y : Linked). y.entry.allow_get ≡ false) q.2 refl),
+  ),
+  tt,
+)
 
 pub answers-empty : (p : Plan) (inputs : Inputs) → SoundPlan p (length inputs) → (k : Slots) (r : ℕ) (es : List Local) (m : Sent) →
     IsOf p k r (prepare p inputs k r) → In m (made (start_of p k r) (prepare p inputs k r) es) → is_answer m.header.kind ≡ true →

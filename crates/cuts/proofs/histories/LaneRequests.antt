@@ -1,6 +1,6 @@
 -- In a legal history that begins with the plan's operations a lane carries at most the plan's messages, whatever is received.
-use Rattle.std.proofs.Common.{ℕ, Bool, true, false, cond, not, ◌==◌, ◌+◌, ◌≡◌, ◌≤◌, List, [], ◌∷◌, refl, length, ap, ◌∙◌, sym, subst, inl,
-    inr, arith, map, filter, drop, Option, Some, None, eqb-true, eq-eqb, sum_by, zero-le}
+use Rattle.std.proofs.Common.{ℕ, Bool, true, false, cond, not, ◌==◌, ◌+◌, ◌≡◌, ◌≤◌, List, [], ◌∷◌, refl, length, ap, ◌∙◌, sym, subst, inl}
+use Rattle.std.proofs.Common.{inr, arith, map, filter, drop, Option, Some, None, eqb-true, eq-eqb, sum_by, zero-le}
 use Rattle.std.proofs.lemmas.Bool.{and_from, and_parts, not-true}
 use Rattle.std.proofs.lemmas.List.{length-take}
 use Rattle.std.proofs.lemmas.List.Sums.{sum_by-cons}
@@ -29,8 +29,8 @@ use Rattle.cuts.specs.view.Slots.{Slots, cell_ct, the_md}
 use Rattle.cuts.specs.view.TriggeredOps.{operation, send_deed}
 use Rattle.cuts.specs.histories.History.{Beginning, Legal, Local, after, and_then, is_for, made, made_by}
 use Rattle.cuts.specs.histories.History.Local.{Fire, Receive, Start}
-use Rattle.cuts.proofs.histories.Origin.{FromLink, IsOf, after_of, made_from, reply-answer, some_one, target_answers, answer_kind, without,
-    send_link}
+use Rattle.cuts.proofs.histories.Origin.{FromLink, IsOf, after_of, made_from, reply-answer, some_one, target_answers, answer_kind, without}
+use Rattle.cuts.proofs.histories.Origin.{send_link}
 use Rattle.cuts.proofs.histories.SentOnce.{sent_once}
 use Rattle.cuts.proofs.histories.Traffic.{number_in}
 use Rattle.cuts.specs.histories.Lanes.{bytes_in}
@@ -64,7 +64,7 @@ work_short p s r v m e (ForLink l) h i = at (is_bump (link p l).kind) i
     at false i =
         let hd = send_link p s r l v m (cell p (link p l).target).op refl (e ∙ sym (out_links-In p r l (rank_ops-along p r l h)).1) i in
         subst (λ n. length m.bytes ≤ (link p n).length) (sym (ap (λ (x : Header). x.hdr_data) hd))
-            (send_short p s l v m (cell p (link p l).target).op i)
+        (send_short p s l v m (cell p (link p l).target).op i)
 
 fired_short : (p : Plan) (s : Slots) (r t : ℕ) (v : State) (m : Sent) → IsOf p s r v → (fired v t).message ≡ Some m →
     length m.bytes ≤ (link p (number_in m)).length
@@ -77,7 +77,7 @@ fired_short p s r t v m h e = at (posted_at t v.pending) refl e
         let i = h.pending x (find-In (is_number t) v.pending.waiting x q).0 in
         let k = In-map_cases (operation p s r) x (rank_ops p r) i in
         work_short p s r (without x.number v) m h.rank k.0 k.1
-            (subst (λ (y : Posted). (done (without x.number v) y.deed).message ≡ Some m) (sym k.2) e)
+        (subst (λ (y : Posted). (done (without x.number v) y.deed).message ≡ Some m) (sym k.2) e)
 
 made_short : (p : Plan) (s : Slots) (r : ℕ) (go : Beginning) (es : List Local) (v : State) (m : Sent) → IsOf p s r v →
     In m (made go v es) → is_answer m.header.kind ≡ false → length m.bytes ≤ (link p (number_in m)).length
@@ -142,7 +142,7 @@ module _ (p : Plan) (s : Slots) (r : ℕ) (go : Beginning) (es : List Local) (b 
 
   pub few_bytes : bytes_in on_lane ≤ lane_bytes p r d
   few_bytes = let a = short on_lane (λ m i. i) in let w = sum-Within (λ l. (link p l).length) (map number_in on_lane) (lane_links p r d)
-                                                        once within in omega (arith, a, w)
+      once within in omega (arith, a, w)
     where
       short : (ms : List Sent) → ((m : Sent) → In m ms → In m on_lane) → bytes_in ms ≤ sum_by (λ l. (link p l).length) (map number_in ms)
       short [] sub = zero-le

@@ -1,6 +1,6 @@
 -- In a legal history each number is fired at most once.
-use Rattle.std.proofs.Common.{◌++◌, IsTrue, ℕ, Bool, true, false, cond, not, ◌||◌, ◌==◌, ◌≡◌, ◌≤◌, List, [], ◌∷◌, refl, ap, subst, arith,
-    Option, Some, None, count_by, eqb-true}
+use Rattle.std.proofs.Common.{◌++◌, IsTrue, ℕ, Bool, true, false, cond, not, ◌||◌, ◌==◌, ◌≡◌, ◌≤◌, List, [], ◌∷◌, refl, ap, subst, arith}
+use Rattle.std.proofs.Common.{Option, Some, None, count_by, eqb-true}
 use Rattle.std.proofs.lemmas.Bool.{not-true, false_from_ne_true}
 use Rattle.plan_core.specs.Members.{In}
 use Rattle.ni_model.specs.State.{Posted, State, Operations}
@@ -47,10 +47,10 @@ never_again t go [] b v h l = refl
 never_again t go (Start ∷ es) b v h l = let k = never_again t go es (b || true) (after go v Start) (gone_after t go v Start h) l.1 in
     let c = count-cons (is_fire t) Start es in omega (arith, k, c)
 never_again t go (Receive s lane m ∷ es) b v h l = let k = never_again t go es (b || false) (after go v (Receive s lane m))
-                                                         (gone_after t go v (Receive s lane m) h) l.1 in let c =
-                                                                                                               count-cons (is_fire t)
-                                                                                                               (Receive s lane m) es in
-                                                                                                               omega (arith, k, c)
+    (gone_after t go v (Receive s lane m) h) l.1 in let c =
+    count-cons (is_fire t)
+    (Receive s lane m) es in
+    omega (arith, k, c)
 never_again t go (Fire u ∷ es) b v h l =
     let k = never_again t go es (b || false) (after go v (Fire u)) (gone_after t go v (Fire u) h) l.1 in
     let c = count-cons (is_fire t) (Fire u) es in
@@ -66,16 +66,16 @@ gone_now t v r = at (posted_at t v.pending) refl r
     at (Some q) e r = λ x i.
         let n : q.number ≡ t = eqb-true _ _ (find-In (is_number t) v.pending.waiting q e).1 in
         let j = In-filter_cases (λ y. not (is_number q.number y)) x v.pending.waiting
-              (subst (λ (ps : Operations). In x ps.waiting) (done_stays (without q.number v) q.deed).pending i) in
+        (subst (λ (ps : Operations). In x ps.waiting) (done_stays (without q.number v) q.deed).pending i) in
         subst (λ m. is_number m x ≡ false) n (not-true _ j.1)
 
 pub fired_once : (t : ℕ) (go : Beginning) (es : List Local) (b : Bool) (v : State) → Legal go b v es → count_by (is_fire t) es ≤ 1
 fired_once t go [] b v l = omega arith
 fired_once t go (Start ∷ es) b v l = let k = fired_once t go es (b || true) (after go v Start) l.1 in let c =
-                                                                                                            count-cons (is_fire t) Start
-                                                                                                            es in omega (arith, k, c)
+    count-cons (is_fire t) Start
+    es in omega (arith, k, c)
 fired_once t go (Receive s lane m ∷ es) b v l = let k = fired_once t go es (b || false) (after go v (Receive s lane m)) l.1 in let c =
-                                                                                                                                     count-cons (is_fire t) (Receive s lane m) es in omega (arith, k, c)
+    count-cons (is_fire t) (Receive s lane m) es in omega (arith, k, c)
 fired_once t go (Fire u ∷ es) b v l = at (u == t) refl (fired_once t go es (b || false) (after go v (Fire u)) l.1)
   where
     at : (x : Bool) → (u == t) ≡ x → count_by (is_fire t) es ≤ 1 → count_by (is_fire t) (Fire u ∷ es) ≤ 1

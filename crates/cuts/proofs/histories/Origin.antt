@@ -1,7 +1,7 @@
 -- What any history of an installed interface can send, whatever it receives: its requests are its plan's links, its answers answer
 -- requests.
-use Rattle.std.proofs.Common.{ℕ, Bool, true, false, cond, not, ◌&&◌, ◌||◌, ◌≡◌, ◌⊎◌, ◌==◌, List, [], ◌∷◌, refl, ap, ap₂, ◌∙◌, sym, subst,
-    inl, inr, map, Option, Some, None, if◌then◌else◌, eq-eqb, eqb-true}
+use Rattle.std.proofs.Common.{ℕ, Bool, true, false, cond, not, ◌&&◌, ◌||◌, ◌≡◌, ◌⊎◌, ◌==◌, List, [], ◌∷◌, refl, ap, ap₂, ◌∙◌, sym, subst}
+use Rattle.std.proofs.Common.{inl, inr, map, Option, Some, None, if◌then◌else◌, eq-eqb, eqb-true}
 use Rattle.std.proofs.lemmas.Bool.{and_parts}
 use Rattle.ptl_types.specs.declared.headers.Header.{Header}
 use Rattle.ptl_types.specs.declared.headers.AckRequest.{AckRequest}
@@ -11,8 +11,8 @@ use Rattle.ptl_types.specs.declared.calls.TriggeredOp.{TriggeredOp}
 use Rattle.ptl_types.specs.declared.elements.AtomicOp.{AtomicOp}
 use Rattle.ptl_types.specs.Kinds.{is_answer, is_no_ack, is_put_or_atomic}
 use Rattle.cuts.specs.histories.History.{Beginning, Legal, Local, after, and_then, got, is_lane, made, made_by, same_lane}
-use Rattle.ptl_types.specs.declared.calls.TriggeredOp.TheVariants.{Atomic as AtomicDeed, FetchAtomic as FetchAtomicDeed, Get as GetDeed,
-    Inc as IncDeed, Put as PutDeed, Set as SetDeed, Swap as SwapDeed}
+use Rattle.ptl_types.specs.declared.calls.TriggeredOp.TheVariants.{Atomic as AtomicDeed, FetchAtomic as FetchAtomicDeed, Get as GetDeed}
+use Rattle.ptl_types.specs.declared.calls.TriggeredOp.TheVariants.{Inc as IncDeed, Put as PutDeed, Set as SetDeed, Swap as SwapDeed}
 use Rattle.ptl_types.specs.declared.headers.Lane.TheVariants.{Answer, Request}
 use Rattle.plan_core.specs.Members.{In, Within}
 use Rattle.ni_model.specs.State.{Posted, State, home_of, target, Operations, after_request, after_answer, parts_of}
@@ -69,13 +69,19 @@ pub record IsOf (p : Plan) (s : Slots) (r : ℕ) (v : State) : Type 0 where
   pub pending : Within v.pending.waiting (map (operation p s r) (rank_ops p r))
 
 stays_of : (p : Plan) (s : Slots) (r : ℕ) (a b : State) → Stays a b → IsOf p s r b → IsOf p s r a
-stays_of p s r a b h i = record { rank = h.rank ∙ i.rank; pending =
-    λ q j. i.pending q (subst (λ (ps : Operations). In q ps.waiting) h.pending j) }
+stays_of p s r a b h i = record {
+  rank = h.rank ∙ i.rank;
+  pending =
+      λ q j. i.pending q (subst (λ (ps : Operations). In q ps.waiting) h.pending j);
+}
 
 pub after_of : (p : Plan) (s : Slots) (r : ℕ) (go : Beginning) (v : State) (e : Local) → IsOf p s r v → IsOf p s r (after go v e)
 unfolding fired
-after_of p s r go v Start h = record { rank = go.rank v ∙ h.rank; pending =
-    λ q i. h.pending q (subst (λ (ps : Operations). In q ps.waiting) (go.pending v) i) }
+after_of p s r go v Start h = record {
+  rank = go.rank v ∙ h.rank;
+  pending =
+      λ q i. h.pending q (subst (λ (ps : Operations). In q ps.waiting) (go.pending v) i);
+}
 after_of p s r go v (Receive source lane m) h = stays_of p s r (target v m).state v (target_stays v m) h
 after_of p s r go v (Fire t) h = at (posted_at t v.pending)
   where
@@ -154,8 +160,13 @@ work_link p s r v m e (ForLink l) h i = at (is_bump (link p l).kind) refl i
     at true q i = cc
     at false q i =
         let o = rank_ops-along p r l h in
-        record { l = l; out = o; sends = q; header = send_link p s r l v m (cell p (link p l).target).op refl
-            (e ∙ sym (out_links-In p r l o).1) i }
+        record {
+          l = l;
+          out = o;
+          sends = q;
+          header = send_link p s r l v m (cell p (link p l).target).op refl
+              (e ∙ sym (out_links-In p r l o).1) i;
+        }
 
 pub fired_link : (p : Plan) (s : Slots) (r t : ℕ) (v : State) (m : Sent) → IsOf p s r v → (fired v t).message ≡ Some m → FromLink p s r m
 unfolding fired
@@ -167,7 +178,7 @@ fired_link p s r t v m h e = at (posted_at t v.pending) refl e
         let i = h.pending x (find-In (is_number t) v.pending.waiting x q).0 in
         let k = In-map_cases (operation p s r) x (rank_ops p r) i in
         work_link p s r (without x.number v) m h.rank k.0 k.1 (subst (λ (y : Posted). (done (without x.number v) y.deed).message ≡ Some m)
-            (sym k.2) e)
+        (sym k.2) e)
 
 -- ---- what a history makes
 pub record Reply (es : List Local) (m : Sent) : Type 0 where
@@ -196,8 +207,15 @@ got_later (Receive source lane x) es s l m h = at ((source == s) && same_lane la
     at false = h
 
 reply_later : (e : Local) (es : List Local) (m : Sent) → Reply es m → Reply (e ∷ es) m
-reply_later e es m h = record { source = h.source; lane = h.lane; to = h.to; came = got_later e es h.source h.lane h.to h.came; request =
-    h.request; answers = h.answers }
+reply_later e es m h = record {
+  source = h.source;
+  lane = h.lane;
+  to = h.to;
+  came = got_later e es h.source h.lane h.to h.came;
+  request =
+      h.request;
+  answers = h.answers;
+}
 
 pub made_from : (p : Plan) (s : Slots) (r : ℕ) (go : Beginning) (es : List Local) (v : State) (m : Sent) → IsOf p s r v →
     In m (made go v es) → FromLink p s r m ⊎ Reply es m
@@ -245,7 +263,7 @@ legal_got p s r go (Fire t ∷ es) b v h legal source lane m i = legal_got p s r
     (after_of p s r go v (Fire t) h) legal.1 source lane m i
 legal_got p s r go (Receive from l x ∷ es) b v h legal source lane m i =
     at ((from == source) && same_lane l lane) refl i (legal_got p s r go es (b || false) (after go v (Receive from l x))
-        (after_of p s r go v (Receive from l x) h) legal.1 source lane m)
+    (after_of p s r go v (Receive from l x) h) legal.1 source lane m)
   where
     one_lane : (a c : Lane) → same_lane a c ≡ true → a ≡ c
     one_lane Request Request e = refl

@@ -1,6 +1,6 @@
 -- What the moves of a rank's history count.
-use Rattle.std.proofs.Common.{if◌then◌else◌, ℕ, suc, Bool, true, false, cond, ◌+◌, ◌≡◌, ◌<◌, List, [], ◌∷◌, ◌++◌, refl, ap, ◌∙◌, sym, inl,
-    inr, arith, map, Option, Some, None, count_by}
+use Rattle.std.proofs.Common.{if◌then◌else◌, ℕ, suc, Bool, true, false, cond, ◌+◌, ◌≡◌, ◌<◌, List, [], ◌∷◌, ◌++◌, refl, ap, ◌∙◌, sym, inl}
+use Rattle.std.proofs.Common.{inr, arith, map, Option, Some, None, count_by}
 use Rattle.ni_model.specs.State.{State}
 use Rattle.plan_core.proofs.Lists.{count-cons}
 use Rattle.plan_core.specs.Members.{In}
@@ -49,7 +49,7 @@ run_heard p r (Receive s Request m ∷ es) early = at (is_stray m) (run_heard p 
     at : (b : Bool) → heard p (run_moves p r early es) ≡ heard p (moves_of p r es) → heard p (run_moves p r (early ++ to_came m ∷ []) es)
         ≡ heard p (moves_of p r es)
         → heard p (cond b (Strayed ∷ run_moves p r early es) (run_moves p r (early ++ to_came m ∷ []) es)) ≡ heard p
-            (cond b Strayed (Took m.header.hdr_data m.bytes) ∷ moves_of p r es)
+        (cond b Strayed (Took m.header.hdr_data m.bytes) ∷ moves_of p r es)
     at true x y = x
     at false x y = y
 
@@ -78,8 +78,8 @@ run_strays p r (Start ∷ es) early g h =
     let e = count-cons is_received_stray Start es in
     let k = strays_are p r es (took (note p g Began) early) h in
     ap (λ (v : Seen). v.strays) (seen-took-append p early (note p g Began) (moves_of p r es))
-        ∙ (let q : (seen p (took (note p g Began) early) (moves_of p r es)).strays ≡ g.strays + count_by is_received_stray (Start ∷ es) =
-                 omega (arith, e, k) in q)
+    ∙ (let q : (seen p (took (note p g Began) early) (moves_of p r es)).strays ≡ g.strays + count_by is_received_stray (Start ∷ es) =
+    omega (arith, e, k) in q)
 run_strays p r (Fire t ∷ es) early g h = at (work_numbered p r t) (λ o. run_strays p r es early (note p g (did o)) h)
   where
     at : (o : Option RankOp) → ((o : Option RankOp) → (seen p (note p g (did o)) (run_moves p r early es)).strays
@@ -98,7 +98,7 @@ run_strays p r (Receive s Request m ∷ es) early g h = at (is_stray m) refl (ru
     at : (b : Bool) → is_stray m ≡ b → (seen p (note p g Strayed) (run_moves p r early es)).strays ≡ suc g.strays + count_by
         is_received_stray es → (seen p g (run_moves p r (early ++ to_came m ∷ []) es)).strays ≡ g.strays + count_by is_received_stray es
         → (seen p g (cond b (Strayed ∷ run_moves p r early es) (run_moves p r (early ++ to_came m ∷ []) es))).strays ≡ g.strays + count_by
-            is_received_stray (Receive s Request m ∷ es)
+        is_received_stray (Receive s Request m ∷ es)
     at true q x y = let e = count-cons is_received_stray (Receive s Request m) es in let z = one_if (is_stray m) q in omega (arith, e, x, z)
     at false q x y = let e = count-cons is_received_stray (Receive s Request m) es in let z = none_if (is_stray m) q in
         omega (arith, e, y, z)
@@ -132,8 +132,11 @@ pub record Ended (p : Plan) (inputs : Inputs) (k : ℕ → Slots) (r : ℕ) (v :
 pub run_ended : (p : Plan) (inputs : Inputs) (k : ℕ → Slots) (r : ℕ) (es : List Local) (early : List Came) (g : Seen) →
     has_start es ≡ true → Ended p inputs k r (run_state p inputs k r early g es) (seen p g (run_moves p r early es))
 run_ended p inputs k r [] early g h = cc
-run_ended p inputs k r (Start ∷ es) early g h = record { early = early; is = ap (view (annex_of p (k r) r early) p inputs (k r) r)
-    (sym (seen-took-append p early (note p g Began) (moves_of p r es))) }
+run_ended p inputs k r (Start ∷ es) early g h = record {
+  early = early;
+  is = ap (view (annex_of p (k r) r early) p inputs (k r) r)
+      (sym (seen-took-append p early (note p g Began) (moves_of p r es)));
+}
 run_ended p inputs k r (Fire t ∷ es) early g h = run_ended p inputs k r es early (note p g (did (work_numbered p r t))) h
 run_ended p inputs k r (Receive s Answer m ∷ es) early g h = run_ended p inputs k r es early (note p g (Heard m.header.ok)) h
 run_ended p inputs k r (Receive s Request m ∷ es) early g h = at (is_stray m) (run_ended p inputs k r es early (note p g Strayed) h)
@@ -143,7 +146,7 @@ run_ended p inputs k r (Receive s Request m ∷ es) early g h = at (is_stray m) 
         (seen p (note p g Strayed) (run_moves p r early es)) → Ended p inputs k r (run_state p inputs k r (early ++ to_came m ∷ []) g es)
         (seen p g (run_moves p r (early ++ to_came m ∷ []) es))
         → Ended p inputs k r (cond b (run_state p inputs k r early (note p g Strayed) es)
-            (run_state p inputs k r (early ++ to_came m ∷ []) g es))
-            (seen p g (cond b (Strayed ∷ run_moves p r early es) (run_moves p r (early ++ to_came m ∷ []) es)))
+        (run_state p inputs k r (early ++ to_came m ∷ []) g es))
+        (seen p g (cond b (Strayed ∷ run_moves p r early es) (run_moves p r (early ++ to_came m ∷ []) es)))
     at true x y = x
     at false x y = y

@@ -1,6 +1,7 @@
 -- A rank's history is a history of its plan's machine: what came early lands at the start.
-use Rattle.std.proofs.Common.{if◌then◌else◌, ℕ, true, false, cond, ◌≡◌, ◌<◌, ◌⊎◌, List, [], ◌∷◌, ◌++◌, refl, length, ap, ap₂, ◌∙◌, sym,
-    subst, inl, inr, map, Option, Some, None, append-nil, append_assoc, arith, ◌&&◌, ◌+◌, ◌==◌, count_by, zero-add}
+use Rattle.std.proofs.Common.{if◌then◌else◌, ℕ, true, false, cond, ◌≡◌, ◌<◌, ◌⊎◌, List, [], ◌∷◌, ◌++◌, refl, length, ap, ap₂, ◌∙◌, sym}
+use Rattle.std.proofs.Common.{subst, inl, inr, map, Option, Some, None, append-nil, append_assoc, arith, ◌&&◌, ◌+◌, ◌==◌, count_by}
+use Rattle.std.proofs.Common.{zero-add}
 use Rattle.ni_model.specs.Ready.{Fires}
 use Rattle.ni_model.specs.State.{Delivers, State, target}
 use Rattle.op_laws.specs.Combining.{CombineStarts}
@@ -19,8 +20,8 @@ use Rattle.std.proofs.lemmas.Bool.{and_right, ne_eqb}
 use Rattle.plan_core.specs.Sound.{SoundPlan}
 use Rattle.plan_core.specs.Values.{Inputs}
 use Rattle.cuts.proofs.histories.Origin.{ack_with}
-use Rattle.cuts.proofs.histories.Simulate.{go_up, AllConform, IsLink, ack_to, all_made, did, link-no_stray, moves_of, numbered,
-    sent_by_work, simulates_all, sized_work, started_work, work_numbered}
+use Rattle.cuts.proofs.histories.Simulate.{go_up, AllConform, IsLink, ack_to, all_made, did, link-no_stray, moves_of, numbered}
+use Rattle.cuts.proofs.histories.Simulate.{sent_by_work, simulates_all, sized_work, started_work, work_numbered}
 use Rattle.cuts.proofs.histories.Traffic.{to_came}
 use Rattle.cuts.specs.histories.Cut.{is_stray}
 use Rattle.cuts.specs.histories.History.{Beginning, Legal, Local, after, and_then, made, made_by, state}
@@ -69,8 +70,11 @@ made-any go to v (Fire t ∷ es) l = ap (and_then (made_by v (Fire t))) (made-an
 pub moves-took : (p : Plan) (r : ℕ) (early : List Came) (g : Seen) (ms : List Move) → Moves p r (took g early) ms →
     Moves p r g (map tk early ++ ms)
 moves-took p r [] g ms h = subst (λ v. Moves p r v ms) (ap (λ v. record g { came = v }) (append-nil g.came)) h
-moves-took p r (a ∷ early) g ms h = (tt, moves-took p r early (note p g (tk a)) ms
-    (subst (λ v. Moves p r v ms) (ap (λ v. record g { came = v }) (sym (append_assoc g.came (a ∷ []) early))) h))
+moves-took p r (a ∷ early) g ms h = (
+  tt,
+  moves-took p r early (note p g (tk a)) ms
+      (subst (λ v. Moves p r v ms) (ap (λ v. record g { came = v }) (sym (append_assoc g.came (a ∷ []) early))) h),
+)
 
 pub seen-took-append : (p : Plan) (early : List Came) (g : Seen) (ms : List Move) → seen p g (map tk early ++ ms) ≡ seen p (took g early) ms
 seen-took-append p [] g ms = ap (λ v. seen p (record g { came = v }) ms) (sym (append-nil g.came))
@@ -125,7 +129,7 @@ sized_all p inputs sound r [] h g sized = subst (Sized p inputs) (ap (λ v. reco
 sized_all p inputs sound r (a ∷ early) h g sized =
     subst (Sized p inputs) (ap (λ v. record g { came = v }) (append_assoc g.came (a ∷ []) early))
     (sized_all p inputs sound r early (record { here = λ b i. h.here b (inr i); size = λ b i. h.size b (inr i); once = h.once.1 })
-        (note p g (tk a)) (sized_took p inputs sound r a.link g (h.here a (inl refl)) sized a.bytes (h.size a (inl refl))))
+    (note p g (tk a)) (sized_took p inputs sound r a.link g (h.here a (inl refl)) sized a.bytes (h.size a (inl refl))))
 
 -- after a start there is none
 accepted-behind : (p : Plan) (k : Slots) (r : ℕ) (v : State) (es : List Local) → Legal (start_of p k r) true v es → StartsPass p k r v es
@@ -147,19 +151,19 @@ pub unraised_work : (p : Plan) (inputs : Inputs) → SoundPlan p (length inputs)
     In w (rank_ops p r) → reached_count p (note_work p g w) r r ≡ reached_count p g r r
 unraised_work p inputs sound r in_range g (ForDone c) i =
     ap (λ n. cond ((r == r) && g.started) 1 0 + (count_by (to_cell p r) g.came + n)) (count-cons (bumps p r) (ForDone c) g.fired
-        ∙ zero-add (count_by (bumps p r) g.fired))
+    ∙ zero-add (count_by (bumps p r) g.fired))
 unraised_work p inputs sound r in_range g (ForLink l) i =
     let known = (out_links-In p r l (rank_ops-along p r l i)).0 in
     let q : ((link p l).target == r) ≡ false = ne_eqb _ _ (λ e. subst (λ v. In l v) (sound.go_needs r in_range).1
-          (In-in_links p r l known e)) in
+    (In-in_links p r l known e)) in
     ap (λ n. cond ((r == r) && g.started) 1 0 + (count_by (to_cell p r) g.came + n))
     (count-cons (bumps p r) (ForLink l) g.fired ∙ ap (λ b. cond b 1 0 + count_by (bumps p r) g.fired)
-        (and_right (is_bump (link p l).kind) _ q) ∙ zero-add (count_by (bumps p r) g.fired))
+    (and_right (is_bump (link p l).kind) _ q) ∙ zero-add (count_by (bumps p r) g.fired))
 
 pub simulates_run : (p : Plan) (inputs : Inputs) → SoundPlan p (length inputs) → CombineStarts → (k : ℕ → Slots) (r : ℕ) → r < p.ranks →
     (es : List Local) (early : List Came) (g : Seen) → Sized p inputs g → g.started ≡ false → reached_count p g r r ≡ 0
     → MayLie p r (early ++ before_start es) → Legal (start_of p (k r) r) false (waiting_view p inputs (k r) r k early g) es →
-        AllConform p k r es → SimulatesRun p inputs k r early g es
+    AllConform p k r es → SimulatesRun p inputs k r early g es
 simulates_run p inputs sound starts k r in_range [] early g sized fresh unraised lie legal fine =
     record { ends = refl; moves = tt; sized = sized; makes_them = refl; accepted = tt }
 simulates_run p inputs sound starts k r in_range (Start ∷ es) early g sized fresh unraised lie legal fine =
@@ -169,21 +173,25 @@ simulates_run p inputs sound starts k r in_range (Start ∷ es) early g sized fr
     let g' = took (note p g Began) early in
     let one = step_run_start p inputs sound (k r) r k starts in_range early lie_early g sized fresh unraised in
     let next : (start_of p (k r) r).by (waiting_view p inputs (k r) r k early g) ≡ view (annex_of p (k r) r early) p inputs (k r) r
-          (took (note p g Began) early) =
+    (took (note p g Began) early) =
     one.next ∙ ap (view (annex_of p (k r) r early) p inputs (k r) r) (seen_took p (note p g Began) early) in
     let legal' = subst (λ v. Legal (start_of p (k r) r) true v es) next legal.1 in
     let all = simulates_all (annex_of p (k r) r early) (annex-quiet p inputs sound (k r) r k early) p inputs sound k r in_range es
-          (took (note p g Began) early) (sized_all p inputs sound r early lie_early (note p g Began) sized)
+    (took (note p g Began) early) (sized_all p inputs sound r early lie_early (note p g Began) sized)
     (legal-any (start_of p (k r) r) (go_up (cell_ct p (k r) r))
-        (view (annex_of p (k r) r early) p inputs (k r) r (took (note p g Began) early)) es legal') fine.1 in
+    (view (annex_of p (k r) r early) p inputs (k r) r (took (note p g Began) early)) es legal') fine.1 in
     record {
       ends = ap (λ v. state go v es) next ∙ state-any go (go_up (cell_ct p (k r) r)) (view n p inputs (k r) r g') es legal' ∙ all.ends;
       moves = (fresh, moves-took p r early (note p g Began) (moves_of p r es) all.moves);
       sized = subst (Sized p inputs) (sym (seen-took-append p early (note p g Began) (moves_of p r es))) all.sized;
       makes_them = ap (λ v. made go v es) next ∙ made-any go (go_up (cell_ct p (k r) r)) (view n p inputs (k r) r g') es legal'
           ∙ all.makes_them;
-      accepted = (one.appends, one.raises, accepted-behind p (k r) r ((start_of p (k r) r).by (waiting_view p inputs (k r) r k early g))
-          es legal.1);
+      accepted = (
+        one.appends,
+        one.raises,
+        accepted-behind p (k r) r ((start_of p (k r) r).by (waiting_view p inputs (k r) r k early g))
+            es legal.1,
+      );
     }
 simulates_run p inputs sound starts k r in_range (Fire t ∷ es) early g sized fresh unraised lie legal fine =
     let n = annex_of p (k r) r early in
@@ -193,13 +201,13 @@ simulates_run p inputs sound starts k r in_range (Fire t ∷ es) early g sized f
     let f = waiting_fire p inputs sound (k r) r k early g t q.0 sized q.1 in
     let g' = note p g (did (work_numbered p r t)) in
     let next : after go (waiting_view p inputs (k r) r k early g) (Fire t) ≡ waiting_view p inputs (k r) r k early
-          (note p g (did (work_numbered p r t))) = ap (λ (x : Fires). x.state) f
-          ∙ ap (λ (o : Option RankOp). waiting_view p inputs (k r) r k early (note p g (did o))) (sym num) in
+    (note p g (did (work_numbered p r t))) = ap (λ (x : Fires). x.state) f
+    ∙ ap (λ (o : Option RankOp). waiting_view p inputs (k r) r k early (note p g (did o))) (sym num) in
     let rest = simulates_run p inputs sound starts k r in_range es early (note p g (did (work_numbered p r t)))
     (subst (λ (o : Option RankOp). Sized p inputs (note p g (did o))) (sym num) (sized_work p inputs g q.0 sized))
     (subst (λ (o : Option RankOp). (note p g (did o)).started ≡ false) (sym num) (started_work p g q.0 ∙ fresh))
     (subst (λ (o : Option RankOp). reached_count p (note p g (did o)) r r ≡ 0) (sym num)
-        (unraised_work p inputs sound r in_range g q.0 q.1.ours ∙ unraised))
+    (unraised_work p inputs sound r in_range g q.0 q.1.ours ∙ unraised))
     lie (subst (λ v. Legal (start_of p (k r) r) false v es) next legal.1) fine.1 in
     record {
       ends = ap (λ v. state go v es) next ∙ rest.ends;
@@ -215,7 +223,7 @@ simulates_run p inputs sound starts k r in_range (Receive source Answer m ∷ es
     let go = start_of p (k r) r in
     let f = waiting_ack p inputs sound (k r) r k early g m fine.0 (due-here n p inputs (k r) r g m fine.0 legal.0.4) in
     let rest = simulates_run p inputs sound starts k r in_range es early (note p g (Heard m.header.ok)) sized fresh unraised lie
-          (subst (λ v. Legal (start_of p (k r) r) false v es) (ap (λ (x : Delivers). x.state) f) legal.1) fine.1 in
+    (subst (λ v. Legal (start_of p (k r) r) false v es) (ap (λ (x : Delivers). x.state) f) legal.1) fine.1 in
     record {
       ends = ap (λ (x : Delivers). state go x.state es) f ∙ rest.ends;
       moves = (tt, rest.moves);
@@ -231,15 +239,15 @@ simulates_run p inputs sound starts k r in_range (Receive source Request m ∷ e
 
     at : (is_stray m ≡ true) ⊎ IsLink p k r m
         → ((g' : Seen) → Sized p inputs g' → (early' : List Came) → g'.started ≡ false → reached_count p g' r r ≡ 0 →
-            MayLie p r (early' ++ before_start es) → Legal (start_of p (k r) r) false (waiting_view p inputs (k r) r k early' g') es →
-            AllConform p k r es → SimulatesRun p inputs k r early' g' es)
+        MayLie p r (early' ++ before_start es) → Legal (start_of p (k r) r) false (waiting_view p inputs (k r) r k early' g') es →
+        AllConform p k r es → SimulatesRun p inputs k r early' g' es)
         → SimulatesRun p inputs k r early g (Receive source Request m ∷ es)
     at (inl stray) later =
         let f = waiting_stray p inputs sound (k r) r k early g m stray in
         let lie' : MayLie p r (early ++ before_start es) = subst
-              (λ b. MayLie p r (early ++ cond b (before_start es) (to_came m ∷ before_start es))) stray lie in
+        (λ b. MayLie p r (early ++ cond b (before_start es) (to_came m ∷ before_start es))) stray lie in
         let rest = later (note p g Strayed) sized early fresh unraised lie'
-              (subst (λ v. Legal (start_of p (k r) r) false v es) (ap (λ (x : Delivers). x.state) f) legal.1) fine.1 in
+        (subst (λ v. Legal (start_of p (k r) r) false v es) (ap (λ (x : Delivers). x.state) f) legal.1) fine.1 in
         record {
           ends = ap (λ (x : Delivers). state go x.state es) f ∙ rest.ends
               ∙ ap (λ b. cond b (run_state p inputs k r early (note p g Strayed) es)
@@ -250,7 +258,7 @@ simulates_run p inputs sound starts k r in_range (Receive source Request m ∷ e
               (run_moves p r (early ++ to_came m ∷ []) es)))) (sym stray) rest.sized;
           makes_them = ap (λ (x : Delivers). and_then x.delivered.answer (made go x.state es)) f ∙ rest.makes_them
               ∙ ap (λ b. cond b (run_made p inputs (k r) r early (note p g Strayed) es)
-                  (and_then (ack_to p m) (run_made p inputs (k r) r (early ++ to_came m ∷ []) g es))) (sym stray);
+              (and_then (ack_to p m) (run_made p inputs (k r) r (early ++ to_came m ∷ []) g es))) (sym stray);
           accepted = subst (λ v. StartsPass p (k r) r v es) (sym (ap (λ (x : Delivers). x.state) f)) rest.accepted;
         }
     at (inr x) later =
@@ -259,22 +267,22 @@ simulates_run p inputs sound starts k r in_range (Receive source Request m ∷ e
         let is : came x.l m.bytes ≡ to_came m = ap (λ n. came n m.bytes) number in
         let lie' : MayLie p r ((early ++ to_came m ∷ []) ++ before_start es) =
         subst (MayLie p r) (sym (append_assoc early (to_came m ∷ []) (before_start es)))
-            (subst (λ b. MayLie p r (early ++ cond b (before_start es) (to_came m ∷ before_start es))) clean lie) in
+        (subst (λ b. MayLie p r (early ++ cond b (before_start es) (to_came m ∷ before_start es))) clean lie) in
         let more : MayLie p r (early ++ came x.l m.bytes ∷ []) = subst (λ c. MayLie p r (early ++ c ∷ [])) (sym is)
-              (lie-front p r (early ++ to_came m ∷ []) (before_start es) lie') in
+        (lie-front p r (early ++ to_came m ∷ []) (before_start es) lie') in
         let front : MayLie p r early = lie-front p r early (came x.l m.bytes ∷ []) more in
         let whole : m ≡ link_message p (k (source_rank p x.l)) x.l m.bytes = ap (λ (h : Header). record { header = h; bytes = m.bytes })
-              x.header in
+        x.header in
         let f = ap (target (waiting_view p inputs (k r) r k early g)) whole ∙ step_early p inputs sound (k r) r early x.l m.bytes front
-              more k g sized in
+        more k g sized in
         let next : after go (waiting_view p inputs (k r) r k early g) (Receive source Request m) ≡ waiting_view p inputs (k r) r k
-              (early ++ to_came m ∷ []) g = ap (λ (d : Delivers). d.state) f
-              ∙ ap (λ c. waiting_view p inputs (k r) r k (early ++ c ∷ []) g) is in
+        (early ++ to_came m ∷ []) g = ap (λ (d : Delivers). d.state) f
+        ∙ ap (λ c. waiting_view p inputs (k r) r k (early ++ c ∷ []) g) is in
         let rest = later g sized (early ++ to_came m ∷ []) fresh unraised lie'
-              (subst (λ v. Legal (start_of p (k r) r) false v es) next legal.1) fine.1 in
+        (subst (λ v. Legal (start_of p (k r) r) false v es) next legal.1) fine.1 in
         let answers : (target (waiting_view p inputs (k r) r k early g) m).delivered.answer ≡ ack_to p m =
         ap (λ (d : Delivers). d.delivered.answer) f ∙ ap (λ (h : Header). if p.remote then Some
-            (record { header = ack_with CtAck true h.length h; bytes = [] }) else None) (sym x.header) in
+        (record { header = ack_with CtAck true h.length h; bytes = [] }) else None) (sym x.header) in
         record {
           ends = ap (λ v. state go v es) next ∙ rest.ends ∙ ap
               (λ b. cond b (run_state p inputs k r early (note p g Strayed) es) (run_state p inputs k r (early ++ to_came m ∷ []) g es))
@@ -285,6 +293,6 @@ simulates_run p inputs sound starts k r in_range (Receive source Request m ∷ e
               (run_moves p r (early ++ to_came m ∷ []) es)))) (sym clean) rest.sized;
           makes_them = ap₂ (λ o v. and_then o (made go v es)) answers next ∙ ap (and_then (ack_to p m)) rest.makes_them
               ∙ ap (λ b. cond b (run_made p inputs (k r) r early (note p g Strayed) es)
-                  (and_then (ack_to p m) (run_made p inputs (k r) r (early ++ to_came m ∷ []) g es))) (sym clean);
+              (and_then (ack_to p m) (run_made p inputs (k r) r (early ++ to_came m ∷ []) g es))) (sym clean);
           accepted = subst (λ v. StartsPass p (k r) r v es) (sym next) rest.accepted;
         }

@@ -1,6 +1,6 @@
 -- In a legal history from an installed state no link's message is sent twice, whatever is received.
-use Rattle.std.proofs.Common.{ℕ, Bool, true, false, cond, not, ◌||◌, ◌==◌, ◌≡◌, List, [], ◌∷◌, refl, ap, ◌∙◌, sym, subst, inl, inr, map,
-    filter, Option, Some, None, eqb-true, eq-eqb}
+use Rattle.std.proofs.Common.{ℕ, Bool, true, false, cond, not, ◌||◌, ◌==◌, ◌≡◌, List, [], ◌∷◌, refl, ap, ◌∙◌, sym, subst, inl, inr, map}
+use Rattle.std.proofs.Common.{filter, Option, Some, None, eqb-true, eq-eqb}
 use Rattle.std.proofs.lemmas.Bool.{and_parts, not-true}
 use Rattle.ptl_types.specs.declared.headers.Header.{Header}
 use Rattle.ptl_types.specs.Messages.{Sent}
@@ -52,8 +52,8 @@ fired_sent p s r t v m h e = at (posted_at t v.pending) refl e
     of_work : (x : Posted) → In x v.pending.waiting → is_number t x ≡ true → (done (without x.number v) x.deed).message ≡ Some m →
         (w : RankOp) → In w (rank_ops p r) → operation p s r w ≡ x → DepartsNow p s r t v m
     of_work x i n e (ForDone c) j q = let z : (done (without x.number v) (deed_of p s (ForDone c))).message ≡ Some m =
-                                            subst (λ (y : Posted). (done (without x.number v) y.deed).message ≡ Some m) (sym q) e in
-                                            absurd (none_some z)
+        subst (λ (y : Posted). (done (without x.number v) y.deed).message ≡ Some m) (sym q) e in
+        absurd (none_some z)
       where
         none_some : None ≡ Some m → ⊥
         none_some e = cc
@@ -132,14 +132,14 @@ sent_once p s r go (e ∷ es) b v h legal d = at (made_by v e) refl
         let k = In-map_cases number_in (number_in x) (filter (is_for d Request) (made go (after go v e) es)) i in
         let g = In-filter_cases (is_for d Request) k.0 (made go (after go v e) es) k.1 in
         let later = made_sent p s r go es (after go v e) k.0 (after_of p s r go v e h) g.0
-              (not-true (is_answer k.0.header.kind) (and_parts (k.0.header.target == d) (not (is_answer k.0.header.kind)) g.1).1) in
+        (not-true (is_answer k.0.header.kind) (and_parts (k.0.header.target == d) (not (is_answer k.0.header.kind)) g.1).1) in
         let same : later.l ≡ now.2.sent.l = sym (ap (λ (y : Header). y.hdr_data) later.header) ∙ k.2
-              ∙ ap (λ (y : Header). y.hdr_data) now.2.sent.header in
+        ∙ ap (λ (y : Header). y.hdr_data) now.2.sent.header in
         let gone : Gone now.0 (after go v (Fire now.0)) = gone_now now.0 v (subst (λ (y : Local). May b v y) now.1 legal.0) in
         let op : In (operation p s r (ForLink later.l)) (after go v (Fire now.0)).pending.waiting =
-              subst (λ (y : Local). In (operation p s r (ForLink later.l)) (after go v y).pending.waiting) now.1 later.op in
+        subst (λ (y : Local). In (operation p s r (ForLink later.l)) (after go v y).pending.waiting) now.1 later.op in
         both (eq-eqb (number_of p r (ForLink later.l)) now.0 (ap (λ l. number_of p r (ForLink l)) same ∙ now.2.number))
-            (gone (operation p s r (ForLink later.l)) op)
+        (gone (operation p s r (ForLink later.l)) op)
 
     at : (o : Option Sent) → made_by v e ≡ o → Distinct (map number_in (filter (is_for d Request) (made go (after go v e) es))) →
         Distinct (map number_in (filter (is_for d Request) (and_then o (made go (after go v e) es))))

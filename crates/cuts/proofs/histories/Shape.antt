@@ -33,11 +33,18 @@ pub record Shaped (p : Plan) (inputs : Inputs) (k : ℕ → Slots) (r : ℕ) (v 
 
 run_shaped : (p : Plan) (inputs : Inputs) (k : ℕ → Slots) (r : ℕ) (es : List Local) (early : List Came) (g : Seen) →
     Shaped p inputs k r (run_state p inputs k r early g es) (seen p g (run_moves p r early es))
-run_shaped p inputs k r [] early g = record { annex = annex_of p (k r) r early; rank = refl; memory = refl; cts = refl; mds =
-    refl; pending = refl }
+run_shaped p inputs k r [] early g = record {
+  annex = annex_of p (k r) r early;
+  rank = refl;
+  memory = refl;
+  cts = refl;
+  mds =
+      refl;
+  pending = refl;
+}
 run_shaped p inputs k r (Start ∷ es) early g =
     subst (Shaped p inputs k r (view (annex_of p (k r) r early) p inputs (k r) r
-        (seen p (took (note p g Began) early) (moves_of p r es)))) (sym (seen-took-append p early (note p g Began) (moves_of p r es)))
+    (seen p (took (note p g Began) early) (moves_of p r es)))) (sym (seen-took-append p early (note p g Began) (moves_of p r es)))
     (record { annex = annex_of p (k r) r early; rank = refl; memory = refl; cts = refl; mds = refl; pending = refl })
 run_shaped p inputs k r (Fire t ∷ es) early g = run_shaped p inputs k r es early (note p g (did (work_numbered p r t)))
 run_shaped p inputs k r (Receive s Answer m ∷ es) early g = run_shaped p inputs k r es early (note p g (Heard m.header.ok))
@@ -48,8 +55,8 @@ run_shaped p inputs k r (Receive s Request m ∷ es) early g = at (is_stray m) (
         (seen p (note p g Strayed) (run_moves p r early es)) → Shaped p inputs k r (run_state p inputs k r (early ++ to_came m ∷ []) g es)
         (seen p g (run_moves p r (early ++ to_came m ∷ []) es))
         → Shaped p inputs k r (cond b (run_state p inputs k r early (note p g Strayed) es)
-            (run_state p inputs k r (early ++ to_came m ∷ []) g es))
-            (seen p g (cond b (Strayed ∷ run_moves p r early es) (run_moves p r (early ++ to_came m ∷ []) es)))
+        (run_state p inputs k r (early ++ to_came m ∷ []) g es))
+        (seen p g (cond b (Strayed ∷ run_moves p r early es) (run_moves p r (early ++ to_came m ∷ []) es)))
     at true x y = x
     at false x y = y
 
@@ -59,5 +66,5 @@ pub shape : (starts : CombineStarts) (p : Plan) (inputs : Inputs) (sound : Sound
 shape starts p inputs sound fit slots w cut r h =
     subst (λ v. Shaped p inputs slots r v (all_seen p (moves_at p w) r))
     (sym (ap (λ v. state (start_of p (slots r) r) v (w r)) (prepared p inputs (slots r) r slots (length inputs) sound)
-        ∙ (simulation starts p inputs sound fit slots w cut r h).ends))
+    ∙ (simulation starts p inputs sound fit slots w cut r h).ends))
     (run_shaped p inputs slots r (w r) [] nothing_seen)

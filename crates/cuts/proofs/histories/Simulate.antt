@@ -1,6 +1,6 @@
 -- The history of an installed interface is the history of its plan's machine, whatever its slots and the order of its steps.
-use Rattle.std.proofs.Common.{ℕ, Bool, true, false, cond, not, ◌||◌, ◌/◌, ◌^◌, ◌%◌, ◌≡◌, ◌<◌, ◌⊎◌, ◌==◌, List, [], ◌∷◌, refl, length, ap,
-    ap₂, ◌∙◌, sym, subst, inl, inr, map, find, Option, Some, None, eqb-true, eq-eqb, if◌then◌else◌}
+use Rattle.std.proofs.Common.{ℕ, Bool, true, false, cond, not, ◌||◌, ◌/◌, ◌^◌, ◌%◌, ◌≡◌, ◌<◌, ◌⊎◌, ◌==◌, List, [], ◌∷◌, refl, length, ap}
+use Rattle.std.proofs.Common.{ap₂, ◌∙◌, sym, subst, inl, inr, map, find, Option, Some, None, eqb-true, eq-eqb, if◌then◌else◌}
 use Rattle.std.proofs.lemmas.Bool.{and_right, and_parts, not-true}
 use Rattle.ptl_types.specs.declared.headers.Header.{Header}
 use Rattle.ptl_types.specs.Messages.{Sent}
@@ -111,7 +111,7 @@ pub link-no_stray : (p : Plan) (inputs : Inputs) → SoundPlan p (length inputs)
     m.header ≡ link_header p k l → is_stray m ≡ false
 link-no_stray p inputs sound k r l h m e =
     and_right _ _ (and_right _ _ (ap (λ b. not b) (eq-eqb _ _ (ap (λ (x : Header). x.match_bits / 2 ^ 48 % 2 ^ 16) e
-        ∙ bits-job p inputs sound r l h))))
+    ∙ bits-job p inputs sound r l h))))
 
 pub or_false : (b : Bool) → (b || false) ≡ b
 or_false true = refl
@@ -175,9 +175,9 @@ module _ (annex : Annex) (quiet : IsQuiet annex) where
   simulates p inputs sound k r in_range g sized (Receive source Request m) may (inr link_m) =
       let s = k (source_rank p link_m.l) in
       let whole : m ≡ link_message p (k (source_rank p link_m.l)) link_m.l m.bytes =
-            ap (λ (h : Header). record { header = h; bytes = m.bytes }) link_m.header in
+      ap (λ (h : Header). record { header = h; bytes = m.bytes }) link_m.header in
       let f = ap (target (view annex p inputs (k r) r g)) whole ∙ step_link annex quiet p inputs sound (k r) (k (source_rank p link_m.l))
-            r link_m.l g link_m.here sized m.bytes link_m.size in
+      r link_m.l g link_m.here sized m.bytes link_m.size in
       let clean = link-no_stray p inputs sound (k (source_rank p link_m.l)) r link_m.l link_m.here m link_m.header in
       let number : link_m.l ≡ m.header.hdr_data = sym (ap (λ (h : Header). h.hdr_data) link_m.header) in
       record {
@@ -186,10 +186,10 @@ module _ (annex : Annex) (quiet : IsQuiet annex) where
         may = subst (λ b. MayMove p r g (cond b Strayed (Took m.header.hdr_data m.bytes))) (sym clean) tt;
         sized = subst (λ b. Sized p inputs (note p g (cond b Strayed (Took m.header.hdr_data m.bytes)))) (sym clean)
             (subst (λ n. Sized p inputs (note p g (Took n m.bytes))) number
-                (sized_took p inputs sound r link_m.l g link_m.here sized m.bytes link_m.size));
+            (sized_took p inputs sound r link_m.l g link_m.here sized m.bytes link_m.size));
         makes_it = ap (λ (x : Delivers). x.delivered.answer) f
             ∙ ap (λ (h : Header). if p.remote then Some (record { header = ack_with CtAck true h.length h; bytes = [] }) else None)
-                (sym link_m.header)
+            (sym link_m.header)
             ∙ ap (λ b. cond b None (ack_to p m)) (sym clean);
         flag = or_false g.started ∙ ap (λ b. (note p g (cond b Strayed (Took m.header.hdr_data m.bytes))).started) (sym clean);
       }
@@ -213,7 +213,7 @@ module _ (annex : Annex) (quiet : IsQuiet annex) where
   pub simulates_all : (p : Plan) (inputs : Inputs) → SoundPlan p (length inputs) → (k : ℕ → Slots) (r : ℕ) → r < p.ranks →
       (es : List Local) (g : Seen) → Sized p inputs g
       → Legal (go_up (cell_ct p (k r) r)) g.started (view annex p inputs (k r) r g) es → AllConform p k r es →
-          SimulatesAll p inputs (k r) r g es
+      SimulatesAll p inputs (k r) r g es
   simulates_all p inputs sound k r in_range [] g sized legal fine = record { ends = refl; moves = tt; sized = sized; makes_them = refl }
   simulates_all p inputs sound k r in_range (e ∷ es) g sized legal fine =
       let one = simulates p inputs sound k r in_range g sized e legal.0 fine.0 in

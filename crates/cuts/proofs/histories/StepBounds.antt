@@ -1,6 +1,6 @@
 -- How many steps a legal history may have: one start, each operation once, and its receipts.
-use Rattle.std.proofs.Common.{ℕ, suc, Bool, true, false, cond, ◌||◌, ◌==◌, ◌+◌, ◌≡◌, ◌≤◌, ◌<◌, List, [], ◌∷◌, refl, length, ap, ◌∙◌, subst,
-    inl, inr, arith, count_by, Option, Some, None, eqb-true, eq-eqb, zero-le}
+use Rattle.std.proofs.Common.{ℕ, suc, Bool, true, false, cond, ◌||◌, ◌==◌, ◌+◌, ◌≡◌, ◌≤◌, ◌<◌, List, [], ◌∷◌, refl, length, ap, ◌∙◌, subst}
+use Rattle.std.proofs.Common.{inl, inr, arith, count_by, Option, Some, None, eqb-true, eq-eqb, zero-le}
 use Rattle.ni_model.specs.Ready.{is_number, is_ready, is_ready_op, posted_at}
 use Rattle.ni_model.specs.State.{Posted, State}
 use Rattle.plan_core.specs.Members.{Distinct, In}
@@ -87,7 +87,7 @@ pub few_firings : (p : Plan) (s : Slots) (r : ℕ) (go : Beginning) (es : List L
     Legal go b v es → length (firings es) ≤ length (rank_ops p r)
 few_firings p s r go es b v h l =
     let q = length-Within (firings es) (from_to 0 (length (rank_ops p r))) (firings-once go es b v l)
-          (λ t i. let k = firings-known p s r go es b v h l t i in In-from_to 0 (length (rank_ops p r)) t zero-le (omega arith)) in
+    (λ t i. let k = firings-known p s r go es b v h l t i in In-from_to 0 (length (rank_ops p r)) t zero-le (omega arith)) in
     let z = length-from_to 0 (length (rank_ops p r)) in
     omega (arith, q, z)
 
@@ -99,24 +99,24 @@ few_starts go (Start ∷ es) true v l = let q = l.0 in cc
 few_starts go (Start ∷ es) false v l = let k = few_starts go es true (after go v Start) l.1 in let c = count-cons is_start Start es in
     omega (arith, k, c)
 few_starts go (Receive s lane m ∷ es) true v l = let k = few_starts go es true (after go v (Receive s lane m)) l.1 in let c =
-                                                                                                                            count-cons is_start (Receive s lane m) es in omega (arith, k, c)
+    count-cons is_start (Receive s lane m) es in omega (arith, k, c)
 few_starts go (Receive s lane m ∷ es) false v l = let k = few_starts go es false (after go v (Receive s lane m)) l.1 in let c =
-                                                                                                                              count-cons is_start (Receive s lane m) es in omega (arith, k, c)
+    count-cons is_start (Receive s lane m) es in omega (arith, k, c)
 few_starts go (Fire t ∷ es) true v l = let k = few_starts go es true (after go v (Fire t)) l.1 in let c =
-                                                                                                        count-cons is_start (Fire t) es in
-                                                                                                        omega (arith, k, c)
+    count-cons is_start (Fire t) es in
+    omega (arith, k, c)
 few_starts go (Fire t ∷ es) false v l = let k = few_starts go es false (after go v (Fire t)) l.1 in let c =
-                                                                                                          count-cons is_start (Fire t) es
-                                                                                                          in omega (arith, k, c)
+    count-cons is_start (Fire t) es
+    in omega (arith, k, c)
 
 parts-of : (es : List Local) → length es ≡ count_by is_start es + (length (firings es) + count_by is_receipt es)
 parts-of [] = refl
 parts-of (Start ∷ es) = let k = parts-of es in let a = count-cons is_start Start es in let b = count-cons is_receipt Start es in
     omega (arith, k, a, b)
 parts-of (Receive s l m ∷ es) = let k = parts-of es in let a = count-cons is_start (Receive s l m) es in let b =
-                                                                                                               count-cons is_receipt
-                                                                                                               (Receive s l m) es in
-                                                                                                               omega (arith, k, a, b)
+    count-cons is_receipt
+    (Receive s l m) es in
+    omega (arith, k, a, b)
 parts-of (Fire t ∷ es) = let k = parts-of es in let a = count-cons is_start (Fire t) es in let b = count-cons is_receipt (Fire t) es in
     omega (arith, k, a, b)
 

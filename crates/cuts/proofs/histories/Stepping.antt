@@ -1,6 +1,7 @@
 -- The steps of a rank's interface: before its start, the start, and after it.
-use Rattle.std.proofs.Common.{if◌then◌else◌, ℕ, true, false, cond, ◌+◌, ◌*◌, ◌/◌, ◌%◌, ◌^◌, ◌≡◌, ◌≤◌, ◌<◌, List, [], ◌∷◌, ◌++◌, refl,
-    length, ap, ap₂, ◌∙◌, sym, subst, inl, inr, arith, map, find, flat_map, Option, Some, None, append_assoc, ◌==◌, suc, zero}
+use Rattle.std.proofs.Common.{if◌then◌else◌, ℕ, true, false, cond, ◌+◌, ◌*◌, ◌/◌, ◌%◌, ◌^◌, ◌≡◌, ◌≤◌, ◌<◌, List, [], ◌∷◌, ◌++◌, refl}
+use Rattle.std.proofs.Common.{length, ap, ap₂, ◌∙◌, sym, subst, inl, inr, arith, map, find, flat_map, Option, Some, None, append_assoc}
+use Rattle.std.proofs.Common.{◌==◌, suc, zero}
 use Rattle.std.proofs.lemmas.Bool.{and_parts, and_left, eqb-false, false_from_ne_true, ne_eqb}
 use Rattle.std.proofs.lemmas.List.{map-append}
 use Rattle.ni_model.specs.Answers.{is_due, Returned, answered}
@@ -16,8 +17,9 @@ use Rattle.ni_model.specs.Refusals.{ct_inc_fault}
 use Rattle.ptl_types.specs.Messages.{message, Sent}
 use Rattle.ptl_types.specs.declared.calls.Outcome.TheVariants.{Answered, Dropped}
 use Rattle.ptl_types.specs.declared.calls.TriggeredOp.{TriggeredOp}
-use Rattle.ptl_types.specs.declared.calls.TriggeredOp.TheVariants.{Put as PutDeed, Get as GetDeed, Atomic as AtomicDeed,
-    FetchAtomic as FetchAtomicDeed, Swap as SwapDeed, Inc as IncDeed, Set as SetDeed}
+use Rattle.ptl_types.specs.declared.calls.TriggeredOp.TheVariants.{Put as PutDeed, Get as GetDeed, Atomic as AtomicDeed}
+use Rattle.ptl_types.specs.declared.calls.TriggeredOp.TheVariants.{FetchAtomic as FetchAtomicDeed, Swap as SwapDeed, Inc as IncDeed}
+use Rattle.ptl_types.specs.declared.calls.TriggeredOp.TheVariants.{Set as SetDeed}
 use Rattle.plan_core.proofs.Lists.{length-map', Distinct_left, In-append_left, In-append_right, In-map_cases}
 use Rattle.plan_core.specs.Plan.{from_to, own, Plan, link}
 use Rattle.cuts.proofs.start.Starting.{length-from_to, IsEarly, start_is}
@@ -38,8 +40,8 @@ use Rattle.plan_core.specs.Values.{Inputs}
 use Rattle.cuts.proofs.histories.Simulate.{stray-parts}
 use Rattle.cuts.specs.histories.Cut.{is_stray}
 use Rattle.cuts.proofs.start.Areas.{MayLie, area-part, classes-small, filled-fits, filled-push, length-area, link-class}
-use Rattle.cuts.specs.start.Waiting.{Early, annex_of, area, area_linked, early_all, early_came, early_from, early_of, filled, waiting_view,
-    stored}
+use Rattle.cuts.specs.start.Waiting.{Early, annex_of, area, area_linked, early_all, early_came, early_from, early_of, filled, waiting_view}
+use Rattle.cuts.specs.start.Waiting.{stored}
 use Rattle.cuts.specs.machine.Machine.{link_of, note, note_work, seen}
 use Rattle.cuts.specs.machine.Machine.Move.{Began, Heard, Strayed, Took}
 use Rattle.plan_calls.specs.RankOps.{RankOp}
@@ -68,10 +70,10 @@ pub answer_framed : (v : State) (is : List (Option Index)) (hs : UnexpectedList)
 unfolding target
 answer_framed v is hs n m e =
     ap (λ b. cond b (after_answer (framed v is hs n) (answered (home_of v) m))
-        (after_request (framed v is hs n) (request (parts_of (framed v is hs n)) m))) e
+    (after_request (framed v is hs n) (request (parts_of (framed v is hs n)) m))) e
     ∙ told (answered (home_of v) m)
     ∙ ap (λ b. framed_delivers (cond b (after_answer v (answered (home_of v) m)) (after_request v (request (parts_of v) m))) is hs n)
-        (sym e)
+    (sym e)
   where
     told : (r : Returned) → after_answer (framed v is hs n) r ≡ framed_delivers (after_answer v r) is hs n
     told r = refl
@@ -115,7 +117,7 @@ module _ (p : Plan) (inputs : Inputs) (sound : SoundPlan p (length inputs)) (s :
     ours = λ x i m e. let q = In-map_cases (area_linked p s r early) x (classes p r) i in
         subst (λ (y : Linked). is_match y.entry m ≡ false) q.2
         (false_from_ne_true _ (λ t. eqb-false _ _ e (job_of m.match_bits q.0 (classes-small p inputs sound r q.0 q.1)
-            (top_match-true _ _ (and_parts _ _ t).0))));
+        (top_match-true _ _ (and_parts _ _ t).0))));
   }
     where
       job_of : (b k : ℕ) → k < 81 → top_bits b ≡ top_bits (bits_above k 0 * 2 ^ 16) → b / 2 ^ 48 % 2 ^ 16 ≡ 1
@@ -125,7 +127,7 @@ module _ (p : Plan) (inputs : Inputs) (sound : SoundPlan p (length inputs)) (s :
   lies_at : (front : List Came) (a : Came) (later : List Came) → MayLie p r (front ++ a ∷ later) → (cells : List ℕ) →
       length cells ≡ region_length p r
       → part (early_of p s r senders front a).place (link p a.link).length (cells ++ (annex_of p s r (front ++ a ∷ later)).tail) ≡ stored
-          p a
+      p a
   lies_at front a later h cells e =
       let total = front ++ a ∷ later in
       let n = (link p a.link).length in
@@ -136,7 +138,7 @@ module _ (p : Plan) (inputs : Inputs) (sound : SoundPlan p (length inputs)) (s :
       let off = filled p (link_class p a.link) front in
       let tail = flat_map (area p r (front ++ a ∷ later)) (classes p r) in
       let lens : (j : ℕ) → In j (classes p r) → length (area p r (front ++ a ∷ later) j) ≡ area_length p r j =
-            (λ j i. length-area p inputs sound r j (front ++ a ∷ later) h) in
+      (λ j i. length-area p inputs sound r j (front ++ a ∷ later) h) in
       let hf = lie-front p r front (a ∷ later) h in
       let h1 = lie-front p r (front ++ a ∷ []) later (subst (MayLie p r) (sym (append_assoc front (a ∷ []) later)) h) in
       let room = filled-fits p inputs sound r (link_class p a.link) (front ++ a ∷ []) h1 in
@@ -161,13 +163,13 @@ module _ (p : Plan) (inputs : Inputs) (sound : SoundPlan p (length inputs)) (s :
       let base = start_by (area_length p r) (classes p r) (link_class p a.link) in
       let off = filled p (link_class p a.link) front in
       let lens : (j : ℕ) → In j (classes p r) → length (area p r (front ++ a ∷ later) j) ≡ area_length p r j =
-            (λ j i. length-area p inputs sound r j (front ++ a ∷ later) h) in
+      (λ j i. length-area p inputs sound r j (front ++ a ∷ later) h) in
       let h1 = lie-front p r (front ++ a ∷ []) later (subst (MayLie p r) (sym (append_assoc front (a ∷ []) later)) h) in
       let room = filled-fits p inputs sound r (link_class p a.link) (front ++ a ∷ []) h1 in
       let push = filled-push p inputs sound r (link_class p a.link) front a refl in
       let inside = within_flat (area_length p r) (area p r (front ++ a ∷ later)) (classes p r) lens (link_class p a.link) in_k in
       place_fits (link p a.link).length (area_start p r (link_class p a.link) + filled p (link_class p a.link) front)
-          (region_length p r + length (flat_map (area p r (front ++ a ∷ later)) (classes p r))) (omega (arith, room, push, inside))
+      (region_length p r + length (flat_map (area p r (front ++ a ∷ later)) (classes p r))) (omega (arith, room, push, inside))
     where
       place_fits : (n q m : ℕ) → q + n ≤ m → (if n == 0 then 0 else q) + n ≤ m
       place_fits zero q m h = omega arith
@@ -180,8 +182,13 @@ module _ (p : Plan) (inputs : Inputs) (sound : SoundPlan p (length inputs)) (s :
   early_facts front (a ∷ later) h x (inl e) =
       let at_a = In-append_right a front (a ∷ later) (inl refl) in
       subst (IsEarly (annex_of p s r (front ++ a ∷ later)) p r) e
-          (record { here = h.here a at_a; size = h.size a at_a; lies = λ cells q. lies_at front a later h cells q; inside =
-          lies_inside front a later h })
+      (record {
+        here = h.here a at_a;
+        size = h.size a at_a;
+        lies = λ cells q. lies_at front a later h cells q;
+        inside =
+            lies_inside front a later h;
+      })
   early_facts front (a ∷ later) h x (inr i) =
       let q = append_assoc front (a ∷ []) later in
       subst (λ v. IsEarly (annex_of p s r v) p r x) q (early_facts (front ++ a ∷ []) later (subst (MayLie p r) (sym q) h) x i)
@@ -207,7 +214,7 @@ module _ (p : Plan) (inputs : Inputs) (sound : SoundPlan p (length inputs)) (s :
       g.started ≡ false → reached_count p g r r ≡ 0 → Starts early g
   step_run_start starts in_range early h g sized fresh unraised =
       let all = start_is starts (annex_of p s r early) p inputs sound s r (few_areas early) in_range (early_all p s r senders early)
-            (λ x i. early_facts [] early h x i) g sized fresh unraised in
+      (λ x i. early_facts [] early h x i) g sized fresh unraised in
       record {
         appends = all.appends;
         raises = all.raises;
@@ -219,7 +226,7 @@ module _ (p : Plan) (inputs : Inputs) (sound : SoundPlan p (length inputs)) (s :
   pub waiting_fire : (early : List Came) (g : Seen) (t : ℕ) (w : RankOp) → Sized p inputs g →
       IsReady (annex_of p s r early) p inputs s r g t w
       → fired (waiting_view p inputs s r senders early g) t ≡ fires (waiting_view p inputs s r senders early (note_work p g w))
-          (sent_message p inputs s g w)
+      (sent_message p inputs s g w)
   waiting_fire early g t w sized h =
       let v = view (annex_of p s r early) p inputs s r g in
       let u = waiting_view p inputs s r senders early g in
@@ -229,7 +236,7 @@ module _ (p : Plan) (inputs : Inputs) (sound : SoundPlan p (length inputs)) (s :
   pub waiting_ack : (early : List Came) (g : Seen) (m : Sent) → IsAckHere s m →
       is_due m.header (md_of (annex_of p s r early) p s r g.awaits) ≡ true
       → target (waiting_view p inputs s r senders early g) m ≡ delivers
-          (waiting_view p inputs s r senders early (note p g (Heard m.header.ok))) Answered None
+      (waiting_view p inputs s r senders early (note p g (Heard m.header.ok))) Answered None
   waiting_ack early g m h due =
       let v = view (annex_of p s r early) p inputs s r g in
       let u = waiting_view p inputs s r senders early g in
@@ -238,19 +245,19 @@ module _ (p : Plan) (inputs : Inputs) (sound : SoundPlan p (length inputs)) (s :
 
   pub waiting_stray : (early : List Came) (g : Seen) (m : Sent) → is_stray m ≡ true
       → target (waiting_view p inputs s r senders early g) m ≡ delivers (waiting_view p inputs s r senders early (note p g Strayed))
-          Dropped None
+      Dropped None
   unfolding target request answered
   waiting_stray early g m e =
       let q = stray-parts m e in
       let u = waiting_view p inputs s r senders early g in
       let none : find (fits m.header) (annex_of p s r early).before ≡ None = find-none (fits m.header) (annex_of p s r early).before
-            (λ x i. and_left _ _ ((annex-quiet early).ours x i m.header q.2)) in
+      (λ x i. and_left _ _ ((annex-quiet early).ours x i m.header q.2)) in
       ap (λ b. cond b (after_answer u (answered (home_of u) m)) (after_request u (request (parts_of u) m)))
-          (put-no-answer m.header.kind q.0)
+      (put-no-answer m.header.kind q.0)
       ∙ ap (λ f. after_request u (judged (parts_of u) m f))
       (one-index m.header _ m.header.pt (none-chosen m.header
-          (record { eq = None; priority = []; overflow = (annex_of p s r early).before }) refl none))
+      (record { eq = None; priority = []; overflow = (annex_of p s r early).before }) refl none))
       ∙ delivered-pair _ _ Dropped _ _
       (ap (λ n. record (waiting_view p inputs s r senders early g) { drops = n }) (more-min g.strays top))
       (ap₂ (λ t a. if t then (if a then None else Some (message (ack_header false 0 m.header) [])) else Some
-          (message (reply_header false 0 m.header) [])) q.0 q.1)
+      (message (reply_header false 0 m.header) [])) q.0 q.1)

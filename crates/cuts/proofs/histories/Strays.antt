@@ -38,7 +38,7 @@ module _ (p : Plan) (inputs : Inputs) (sound : SoundPlan p (length inputs)) (k :
       let q = stray-parts m e in
       step_stray (annex_of p (k r) r early) (annex-quiet p inputs sound (k r) r k early) p inputs sound (k r) r g m q.0 q.1 q.2
       ∙ ap (λ n. delivers (record (view (annex_of p (k r) r early) p inputs (k r) r g) { drops = n }) Dropped None)
-          (sym (more-min g.strays _))
+      (sym (more-min g.strays _))
 
   at_waiting : (early : List Came) (g : Seen) → Drops (waiting_view p inputs (k r) r k early g) m
   at_waiting early g =
@@ -62,9 +62,9 @@ module _ (p : Plan) (inputs : Inputs) (sound : SoundPlan p (length inputs)) (k :
 pub stray_drops : (starts : CombineStarts) (p : Plan) (inputs : Inputs) (sound : SoundPlan p (length inputs)) (fit : AreInputsOf p inputs)
     (slots : ℕ → Slots) (w : Histories) (cut : IsCut (system_of p inputs slots) w)
     (r : ℕ) → r < p.ranks → (m : Sent) → is_stray m ≡ true → target (state_at (system_of p inputs slots) w r) m ≡ delivers
-        (record (state_at (system_of p inputs slots) w r) { drops = one_more (state_at (system_of p inputs slots) w r).drops }) Dropped None
+    (record (state_at (system_of p inputs slots) w r) { drops = one_more (state_at (system_of p inputs slots) w r).drops }) Dropped None
 stray_drops starts p inputs sound fit slots w cut r h m e =
     subst (λ v. Drops v m)
     (sym (ap (λ v. state (start_of p (slots r) r) v (w r)) (prepared p inputs (slots r) r slots (length inputs) sound)
-        ∙ (simulation starts p inputs sound fit slots w cut r h).ends))
+    ∙ (simulation starts p inputs sound fit slots w cut r h).ends))
     (run_strayed p inputs sound slots r m e (w r) [] nothing_seen)

@@ -1,6 +1,7 @@
 -- What a rank's done counter was told, and what was ready.
-use Rattle.std.proofs.Common.{ℕ, zero, suc, Bool, true, false, cond, not, ◌+◌, ◌≡◌, ◌<◌, ◌≤◌, ◌==◌, List, [], ◌∷◌, refl, length, ap, ap₂,
-    ◌∙◌, sym, subst, inl, inr, map, filter, Option, Some, None, if◌then◌else◌, eq-eqb, eqb-true, arith, count_by, min, le-leb, add-zero}
+use Rattle.std.proofs.Common.{ℕ, zero, suc, Bool, true, false, cond, not, ◌+◌, ◌≡◌, ◌<◌, ◌≤◌, ◌==◌, List, [], ◌∷◌, refl, length, ap, ap₂}
+use Rattle.std.proofs.Common.{◌∙◌, sym, subst, inl, inr, map, filter, Option, Some, None, if◌then◌else◌, eq-eqb, eqb-true, arith, count_by}
+use Rattle.std.proofs.Common.{min, le-leb, add-zero}
 use Rattle.std.proofs.lemmas.Bool.{cases_lt, not_from_false}
 use Rattle.std.proofs.lemmas.List.Sums.{length-filter, count_by-le-length}
 use Rattle.ptl_types.specs.declared.handles.Count.{Count}
@@ -63,9 +64,9 @@ ready_from annex p inputs sound s r g w h f n =
     (In-filter (λ v. not (was_fired g.fired v)) w (rank_ops p r) h (not_from_false _ f)) (eq-eqb _ _ refl)
     (λ v i e. number_of-one p r v w (In-filter_cases (λ u. not (was_fired g.fired u)) v (rank_ops p r) i).0 h (eqb-true _ _ e)))
     ∙ met (cell p (cell_of p w)).needs (reached_count p g r (cell_of p w))
-        (lookup (cell_ct p s (cell_of p w)) (view annex p inputs s r g).cts.live)
+    (lookup (cell_ct p s (cell_of p w)) (view annex p inputs s r g).cts.live)
     (lookup_counter annex p inputs s r g (cell_of p w) own_c) n
-        (needs_small p (length inputs) sound (cell_of p w) (own-In p r (cell_of p w) own_c).0)
+    (needs_small p (length inputs) sound (cell_of p w) (own-In p r (cell_of p w) own_c).0)
 
 -- ---- started
 started_stays : (p : Plan) (g : Seen) (m : Move) → g.started ≡ true → (note p g m).started ≡ true
@@ -99,8 +100,11 @@ answers_in-got [] m h = absurd h
 answers_in-got (Start ∷ es) m h = answers_in-got es m h
 answers_in-got (Fire t ∷ es) m h = answers_in-got es m h
 answers_in-got (Receive s Request x ∷ es) m h = let k = answers_in-got es m h in (k.0, got_later (Receive s Request x) es k.0 Answer m k.1)
-answers_in-got (Receive s Answer x ∷ es) m (inl e) = (s, subst (λ v. In v (got (Receive s Answer x ∷ es) s Answer)) e
-    (got_first s Answer x es))
+answers_in-got (Receive s Answer x ∷ es) m (inl e) = (
+  s,
+  subst (λ v. In v (got (Receive s Answer x ∷ es) s Answer)) e
+      (got_first s Answer x es),
+)
 answers_in-got (Receive s Answer x ∷ es) m (inr h) = let k = answers_in-got es m h in
     (k.0, got_later (Receive s Answer x) es k.0 Answer m k.1)
 
@@ -135,11 +139,11 @@ strays_are p r (Receive s Request m ∷ es) g h = at (is_stray m) refl
     at : (b : Bool) → is_stray m ≡ b → ((b : Bool) → (seen p (note p g (cond b Strayed (Took m.header.hdr_data m.bytes)))
         (moves_of p r es)).strays ≡ (note p g (cond b Strayed (Took m.header.hdr_data m.bytes))).strays + count_by is_received_stray es)
         → (seen p (note p g (cond b Strayed (Took m.header.hdr_data m.bytes))) (moves_of p r es)).strays ≡ g.strays + count_by
-            is_received_stray (Receive s Request m ∷ es)
+        is_received_stray (Receive s Request m ∷ es)
     at true q rest = let e = count-cons is_received_stray (Receive s Request m) es in let z = one_if (is_stray m) q in let k =
-                                                                                                                             rest true in omega (arith, e, k, z)
+        rest true in omega (arith, e, k, z)
     at false q rest = let e = count-cons is_received_stray (Receive s Request m) es in let z = none_if (is_stray m) q in let k =
-                                                                                                                               rest false in omega (arith, e, k, z)
+        rest false in omega (arith, e, k, z)
 
 -- ---- the done counter
 abbrev pub heard : Plan → List Move → ℕ
@@ -172,12 +176,12 @@ done_seen p (Did (ForLink l) ∷ ms) g n ok e = done_seen p ms (note p g (Did (F
     (e ∙ done_min _ _ (let k = count-cons tells (ForLink l) g.fired in omega (arith, k)))
 done_seen p (Did (ForDone c) ∷ ms) g n ok e =
     done_seen p ms (note p g (Did (ForDone c))) n ok (ap (bump (successes 1)) e ∙ bump-successes (count_by tells g.fired + n)
-        ∙ done_min _ _ (let k = count-cons tells (ForDone c) g.fired in omega (arith, k)))
+    ∙ done_min _ _ (let k = count-cons tells (ForDone c) g.fired in omega (arith, k)))
 done_seen p (Heard b ∷ ms) g n ok e =
     done_seen p ms (note p g (Heard b)) ((if p.remote then 1 else 0) + n) ok.1
-        (heard_step p.remote b g.done (count_by tells g.fired) n ok.0 e)
+    (heard_step p.remote b g.done (count_by tells g.fired) n ok.0 e)
     ∙ done_min _ _ (ap (λ v. count_by tells (seen p (note p g (Heard b)) ms).fired + v)
-        (let q : (if p.remote then 1 else 0) + n + heard p ms ≡ n + ((if p.remote then 1 else 0) + heard p ms) = omega arith in q))
+    (let q : (if p.remote then 1 else 0) + n + heard p ms ≡ n + ((if p.remote then 1 else 0) + heard p ms) = omega arith in q))
 
 pub heard_is : (p : Plan) (r : ℕ) (es : List Local) → ((m : Sent) → In m (answers_in es) → is_stray m ≡ false) →
     heard p (moves_of p r es) ≡ (if p.remote then length (own_received Answer es) else 0)

@@ -1,6 +1,6 @@
 -- The messages of a history as lists: what it sends, what it acknowledges, what came to it.
-use Rattle.std.proofs.Common.{ℕ, Bool, true, false, cond, not, ◌&&◌, ◌≡◌, ◌==◌, List, [], ◌∷◌, ◌++◌, refl, ap, ◌∙◌, sym, subst, inl, inr,
-    map, filter, Option, Some, None, if◌then◌else◌, eq-eqb, append-nil, append_assoc}
+use Rattle.std.proofs.Common.{ℕ, Bool, true, false, cond, not, ◌&&◌, ◌≡◌, ◌==◌, List, [], ◌∷◌, ◌++◌, refl, ap, ◌∙◌, sym, subst, inl, inr}
+use Rattle.std.proofs.Common.{map, filter, Option, Some, None, if◌then◌else◌, eq-eqb, append-nil, append_assoc}
 use Rattle.std.proofs.lemmas.Bool.{and_from, and_right, not-true, not_from_false, or_parts}
 use Rattle.std.proofs.lemmas.List.{map-append}
 use Rattle.std.proofs.lemmas.List.Elements.{filter-append}
@@ -57,7 +57,7 @@ ack_not_for p d m rest = at p.remote
 
 pub work_requests : (p : Plan) (inputs : Inputs) (s : Slots) (d : ℕ) (g : Seen) (o : Option RankOp) (rest : List Sent)
     → filter (is_for d Request) (and_then (sent_by_work p inputs s g o) rest) ≡ map (as_message p s)
-        (filter (goes_to p d) (out_of p inputs g (did o))) ++ filter (is_for d Request) rest
+    (filter (goes_to p d) (out_of p inputs g (did o))) ++ filter (is_for d Request) rest
 work_requests p inputs s d g None rest = refl
 work_requests p inputs s d g (Some (ForDone c)) rest = refl
 work_requests p inputs s d g (Some (ForLink l)) rest = at (is_bump (link p l).kind)
@@ -75,7 +75,7 @@ work_requests p inputs s d g (Some (ForLink l)) rest = at (is_bump (link p l).ki
 
 step_requests : (p : Plan) (inputs : Inputs) (s : Slots) (r d : ℕ) (g : Seen) (e : Local) (rest : List Sent)
     → filter (is_for d Request) (and_then (makes p inputs s r g e) rest) ≡ map (as_message p s)
-        (filter (goes_to p d) (out_of p inputs g (move_of p r e))) ++ filter (is_for d Request) rest
+    (filter (goes_to p d) (out_of p inputs g (move_of p r e))) ++ filter (is_for d Request) rest
 step_requests p inputs s r d g Start rest = refl
 step_requests p inputs s r d g (Fire t) rest = work_requests p inputs s d g (work_numbered p r t) rest
 step_requests p inputs s r d g (Receive source Answer m) rest = refl
@@ -88,16 +88,16 @@ step_requests p inputs s r d g (Receive source Request m) rest = at (is_stray m)
 
 pub requests : (p : Plan) (inputs : Inputs) (s : Slots) (r d : ℕ) (es : List Local) (g : Seen)
     → filter (is_for d Request) (all_made p inputs s r g es) ≡ map (as_message p s)
-        (filter (goes_to p d) (outs p inputs g (moves_of p r es)))
+    (filter (goes_to p d) (outs p inputs g (moves_of p r es)))
 requests p inputs s r d [] g = refl
 requests p inputs s r d (e ∷ es) g =
     step_requests p inputs s r d g e (all_made p inputs s r (note p g (move_of p r e)) es)
     ∙ ap (λ ms. map (as_message p s) (filter (goes_to p d) (out_of p inputs g (move_of p r e))) ++ ms)
-        (requests p inputs s r d es (note p g (move_of p r e)))
+    (requests p inputs s r d es (note p g (move_of p r e)))
     ∙ sym (ap (map (as_message p s)) (filter-append (goes_to p d) (out_of p inputs g (move_of p r e))
-        (outs p inputs (note p g (move_of p r e)) (moves_of p r es)))
+    (outs p inputs (note p g (move_of p r e)) (moves_of p r es)))
     ∙ map-append (as_message p s) (filter (goes_to p d) (out_of p inputs g (move_of p r e)))
-        (filter (goes_to p d) (outs p inputs (note p g (move_of p r e)) (moves_of p r es))))
+    (filter (goes_to p d) (outs p inputs (note p g (move_of p r e)) (moves_of p r es))))
 
 -- each link is sent along at most once
 pub record Outs (p : Plan) (r : ℕ) (g : Seen) (a : Came) : Type 0 where
@@ -147,8 +147,11 @@ outs_once p inputs r (m ∷ ms) g h = at m h.0 (outs_once p inputs r ms (note p 
         ((a : Came) → In a rest → was_fired (ForLink l ∷ g.fired) (ForLink a.link) ≡ false) → (b : Bool) →
         Distinct (map link_of (cond b [] (sending p inputs g l ∷ []) ++ rest))
     along l rest d new true = d
-    along l rest d new false = ((λ i. let k = In-map_cases link_of l rest i in
-        apart (or_parts _ _ (new k.0 k.1)).0 (eq-eqb l k.0.link (sym k.2))), d)
+    along l rest d new false = (
+      (λ i. let k = In-map_cases link_of l rest i in
+          apart (or_parts _ _ (new k.0 k.1)).0 (eq-eqb l k.0.link (sym k.2))),
+      d,
+    )
       where
         apart : {b : Bool} → b ≡ false → b ≡ true → ⊥
         apart e i = cc
@@ -191,7 +194,7 @@ came_is p r (Receive s Request m ∷ es) g = at (is_stray m) (λ b. came_is p r 
     at : (b : Bool) → ((b : Bool) → (seen p (note p g (cond b Strayed (Took m.header.hdr_data m.bytes))) (moves_of p r es)).came
         ≡ (note p g (cond b Strayed (Took m.header.hdr_data m.bytes))).came ++ map to_came (own_received Request es))
         → (seen p (note p g (cond b Strayed (Took m.header.hdr_data m.bytes))) (moves_of p r es)).came ≡ g.came ++ map to_came
-            (cond (not b) (m ∷ own_received Request es) (own_received Request es))
+        (cond (not b) (m ∷ own_received Request es) (own_received Request es))
     at true rest = rest true
     at false rest = rest false ∙ append_assoc g.came (to_came m ∷ []) (map to_came (own_received Request es))
 
@@ -240,16 +243,16 @@ answers_remote p inputs s r d rem (Receive source Request m ∷ es) g =
         (all_made p inputs s r (note p g (cond b Strayed (Took m.header.hdr_data m.bytes))) es) ≡ map ack
         (filter (came_from d) (own_received Request es)))
         → filter (is_for d Answer) (and_then (cond b None (ack_to p m))
-            (all_made p inputs s r (note p g (cond b Strayed (Took m.header.hdr_data m.bytes))) es)) ≡ map ack
-            (filter (came_from d) (cond (not b) (m ∷ own_received Request es) (own_received Request es)))
+        (all_made p inputs s r (note p g (cond b Strayed (Took m.header.hdr_data m.bytes))) es)) ≡ map ack
+        (filter (came_from d) (cond (not b) (m ∷ own_received Request es) (own_received Request es)))
     at true rest = rest true
     at false rest =
         let more = all_made p inputs s r (note p g (Took m.header.hdr_data m.bytes)) es in
         ap (λ v. filter (is_for d Answer) (and_then (if v then Some (ack m) else None)
-            (all_made p inputs s r (note p g (Took m.header.hdr_data m.bytes)) es))) rem
+        (all_made p inputs s r (note p g (Took m.header.hdr_data m.bytes)) es))) rem
         ∙ ap (λ t. cond t (ack m ∷ filter (is_for d Answer) (all_made p inputs s r (note p g (Took m.header.hdr_data m.bytes)) es))
-            (filter (is_for d Answer) (all_made p inputs s r (note p g (Took m.header.hdr_data m.bytes)) es)))
-            (and_true (m.header.source == d))
+        (filter (is_for d Answer) (all_made p inputs s r (note p g (Took m.header.hdr_data m.bytes)) es)))
+        (and_true (m.header.source == d))
         ∙ here (m.header.source == d) _ (filter (came_from d) (own_received Request es)) (rest false)
       where
         and_true : (b : Bool) → (b && true) ≡ b
@@ -287,7 +290,7 @@ answers_local p inputs s r d rem (Receive source Request m ∷ es) g =
     at : (b : Bool) → ((b : Bool) → filter (is_for d Answer)
         (all_made p inputs s r (note p g (cond b Strayed (Took m.header.hdr_data m.bytes))) es) ≡ [])
         → filter (is_for d Answer) (and_then (cond b None (ack_to p m))
-            (all_made p inputs s r (note p g (cond b Strayed (Took m.header.hdr_data m.bytes))) es)) ≡ []
+        (all_made p inputs s r (note p g (cond b Strayed (Took m.header.hdr_data m.bytes))) es)) ≡ []
     at true rest = rest true
     at false rest = ap (λ v. filter (is_for d Answer) (and_then (if v then Some (ack m) else None)
         (all_made p inputs s r (note p g (Took m.header.hdr_data m.bytes)) es))) rem ∙ rest false
@@ -376,7 +379,7 @@ all_distinct lane home (Fire t ∷ es) tells d = all_distinct lane home es tells
 all_distinct lane home (Receive s l x ∷ es) tells d =
     at (same_lane l lane) (is_stray x) refl refl
     (all_distinct lane home es (λ v m i f. tells v m (got_later (Receive s l x) es v lane m i) f)
-        (λ v. distinct_later lane (Receive s l x) es v (d v)))
+    (λ v. distinct_later lane (Receive s l x) es v (d v)))
   where
     first : same_lane l lane ≡ true → is_stray x ≡ false → In (number_in x) (map number_in (own_received lane es)) → ⊥
     first e f h =
@@ -389,7 +392,7 @@ all_distinct lane home (Receive s l x ∷ es) tells d =
         let whole : Distinct (map number_in (x ∷ owned (got es s lane))) =
         subst (λ c. Distinct (map number_in (cond c (x ∷ owned (got es s lane)) (owned (got es s lane))))) (not_from_false (is_stray x) f)
         (subst (λ c. Distinct (map number_in (owned (cond c (x ∷ got es s lane) (got es s lane))))) (and_from _ _ (eq-eqb s s refl) e)
-            (d s)) in
+        (d s)) in
         whole.0 (subst (λ v. In v (map number_in (owned (got es s lane)))) k.2 (In-map number_in k.0 (owned (got es s lane)) i))
 
     at : (a b : Bool) → same_lane l lane ≡ a → is_stray x ≡ b → Distinct (map number_in (own_received lane es)) →

@@ -1,6 +1,6 @@
 -- In every cut, a cell that has reached its needs has sources that have reached theirs, and so on down: what barriers rest on.
-use Rattle.std.proofs.Common.{ℕ, Bool, true, false, cond, ◌&&◌, ◌≡◌, ◌<◌, ◌≤◌, ◌⊎◌, ◌==◌, List, [], ◌∷◌, refl, length, ap, ◌∙◌, sym, subst,
-    inl, inr, arith, count_by, le_trans, le_refl}
+use Rattle.std.proofs.Common.{ℕ, Bool, true, false, cond, ◌&&◌, ◌≡◌, ◌<◌, ◌≤◌, ◌⊎◌, ◌==◌, List, [], ◌∷◌, refl, length, ap, ◌∙◌, sym, subst}
+use Rattle.std.proofs.Common.{inl, inr, arith, count_by, le_trans, le_refl}
 use Rattle.plan_core.specs.Members.{In}
 use Rattle.plan_core.specs.Plan.{Plan, cell, in_links, is_bump, link}
 use Rattle.plan_core.specs.declared.LinkKind.{LinkKind}
@@ -9,8 +9,8 @@ use Rattle.plan_core.specs.declared.LinkKind.TheVariants.{Atomic, Bump, Put}
 use Rattle.cuts.specs.machine.Seen.{Came, Seen, bumps, nothing_seen, reached_count, to_cell}
 use Rattle.plan_calls.specs.RankOps.{RankOp, cell_of}
 use Rattle.plan_calls.specs.RankOps.RankOp.{ForLink, ForDone}
-use Rattle.cuts.specs.machine.Machine.{HasReached, IsMachineCut, Leads, MayMove, Move, Moves, all_seen, came, note, out_of, outs, seen,
-    sending, source_rank}
+use Rattle.cuts.specs.machine.Machine.{HasReached, IsMachineCut, Leads, MayMove, Move, Moves, all_seen, came, note, out_of, outs, seen}
+use Rattle.cuts.specs.machine.Machine.{sending, source_rank}
 use Rattle.cuts.specs.machine.Machine.Move.{Began, Did, Heard, Strayed, Took}
 use Rattle.cuts.specs.machine.Machine.Leads.{along, here}
 use Rattle.plan_core.proofs.Lists.{In-append_cases, count-append, count-cons}
@@ -109,15 +109,15 @@ sources_reached p inputs sound ms cut c h n l i =
     let source_in = sound.ranks_known (link p l).source (omega arith) in
     let all = all_in p inputs sound (cell p c).rank c (all_seen p ms (cell p c).rank) in_range h (cut.proper (cell p c).rank in_range)
     (ours_seen p (cell p c).rank (ms (cell p c).rank) nothing_seen (ours_nothing p (cell p c).rank) (cut.moves (cell p c).rank in_range))
-        n l i in
+    n l i in
     elim (In-append_cases l (came_to p c (all_seen p ms (cell p c).rank).came) (bumped_to p c (all_seen p ms (cell p c).rank).fired) all) [
       | inl j ↦ (let a = came_to-In p c (all_seen p ms (cell p c).rank).came l j in
           let o = cut.made (cell p c).rank a.0 in_range a.1 in
           let o' : In a.0 (outs p inputs nothing_seen (ms (source_rank p l))) =
-                subst (λ m. In a.0 (outs p inputs nothing_seen (ms (source_rank p m)))) a.2 o in
+          subst (λ m. In a.0 (outs p inputs nothing_seen (ms (source_rank p m)))) a.2 o in
           let f : In (ForLink l) (all_seen p ms (source_rank p l)).fired =
-                subst (λ m. In (ForLink m) (all_seen p ms (source_rank p l)).fired) a.2
-                (sent_fired p inputs (ms (source_rank p l)) nothing_seen a.0 o') in
+          subst (λ m. In (ForLink m) (all_seen p ms (source_rank p l)).fired) a.2
+          (sent_fired p inputs (ms (source_rank p l)) nothing_seen a.0 o') in
           by_firing (source_rank p l) source_in f)
       | inr j ↦ (let b = bumped_to-In p c (all_seen p ms (cell p c).rank).fired l j in
           let same : source_rank p l ≡ (cell p c).rank = s.bump_stays (bump_kind (link p l).kind b.1) ∙ ap (λ d. (cell p d).rank) k.1 in

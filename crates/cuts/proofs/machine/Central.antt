@@ -1,6 +1,6 @@
 -- The central theorem, over the machine of a plan: no message, handle, match bit or time occurs in it.
-use Rattle.std.proofs.Common.{ℕ, zero, suc, Bool, true, false, cond, ◌≡◌, ◌≤◌, ◌<◌, ◌⊎◌, ◌==◌, List, [], ◌∷◌, ◌++◌, refl, length, ap, ◌∙◌,
-    sym, subst, inl, inr, arith, map, eq-eqb}
+use Rattle.std.proofs.Common.{ℕ, zero, suc, Bool, true, false, cond, ◌≡◌, ◌≤◌, ◌<◌, ◌⊎◌, ◌==◌, List, [], ◌∷◌, ◌++◌, refl, length, ap, ◌∙◌}
+use Rattle.std.proofs.Common.{sym, subst, inl, inr, arith, map, eq-eqb}
 use Rattle.std.proofs.lemmas.Bool.{cases_lt}
 use Rattle.std.proofs.lemmas.List.{map-append}
 use Rattle.plan_core.specs.Members.{Distinct, In, Within}
@@ -13,14 +13,14 @@ use Rattle.plan_core.specs.declared.LinkKind.TheVariants.{Atomic, Bump, Put}
 use Rattle.cuts.specs.machine.Seen.{Came, Seen, content, nothing_seen, reached_count, was_fired}
 use Rattle.plan_calls.specs.RankOps.{RankOp, rank_ops}
 use Rattle.plan_calls.specs.RankOps.RankOp.{ForLink, ForDone}
-use Rattle.cuts.specs.machine.Machine.{IsMachineCut, IsMachineRest, MayMove, Move, Moves, Proper, all_seen, came, link_of, note, note_work,
-    out_of, outs, seen, sending, source_rank}
+use Rattle.cuts.specs.machine.Machine.{IsMachineCut, IsMachineRest, MayMove, Move, Moves, Proper, all_seen, came, link_of, note, note_work}
+use Rattle.cuts.specs.machine.Machine.{out_of, outs, seen, sending, source_rank}
 use Rattle.cuts.specs.machine.Machine.Move.{Began, Did, Heard, Strayed, Took}
 use Rattle.plan_core.proofs.Lists.{Distinct_left, In-append_cases, In-append_left, In-append_right, length-Within}
 use Rattle.plan_core.proofs.Links.{Distinct-in_links, In-out_links, in_links-In, out_links-In, own-In}
 use Rattle.cuts.proofs.machine.RankOps.{In-works_along, rank_ops-along, rank_ops-tell}
-use Rattle.cuts.proofs.machine.Reached.{Good, In-bumped_to, In-came_to, In-fired, Ours, bumped_to, came_to, count_unless_go, fired-In,
-    holds_value, length-reached_by, reached_by}
+use Rattle.cuts.proofs.machine.Reached.{Good, In-bumped_to, In-came_to, In-fired, Ours, bumped_to, came_to, count_unless_go, fired-In}
+use Rattle.cuts.proofs.machine.Reached.{holds_value, length-reached_by, reached_by}
 
 -- ---- what is true at the end was true before
 came_more : (p : Plan) (g : Seen) (m : Move) (a : Came) → In a g.came → In a (note p g m).came
@@ -82,7 +82,7 @@ ours_nothing p r = record { ours = λ v h. absurd h; once = tt }
 -- ---- what is sent from a cell is what its value says
 pub outs_good : CombineSwaps → (p : Plan) (inputs : Inputs) → SoundPlan p (length inputs) → AreInputsOf p inputs
     → (r n : ℕ) → r < p.ranks → (ms : List Move) (g : Seen) → Moves p r g ms → Ours p r g.fired → Proper p r (seen p g ms) →
-        ((c : ℕ) → c < n → Good p inputs c (seen p g ms))
+    ((c : ℕ) → c < n → Good p inputs c (seen p g ms))
     → (a : Came) → In a (outs p inputs g ms) → (link p a.link).source < n → a.bytes ≡ due p inputs a.link
 outs_good swaps p inputs sound fit r n in_range [] g moves mine proper good a h l = absurd h
 outs_good swaps p inputs sound fit r n in_range (m ∷ ms) g moves mine proper good a h l =
@@ -102,7 +102,7 @@ outs_good swaps p inputs sound fit r n in_range (m ∷ ms) g moves mine proper g
         let top = s.cells in
         let below : (link p k).source < n = subst (λ v. (link p v).source < n) (sym (ap link_of e)) l in
         let v = holds_value swaps p inputs sound fit r (link p k).source g in_range (omega arith) here mine (fine (link p k).source below)
-              may.2 in
+        may.2 in
         subst (λ (x : Came). x.bytes ≡ due p inputs x.link) e (ap (λ x. carried_of p x k) v)
 
     first : (m : Move) → MayMove p r g m → Proper p r g → ((c : ℕ) → c < n → Good p inputs c g) → In a (out_of p inputs g m) →
@@ -125,7 +125,7 @@ good_below swaps p inputs sound fit ms cut (suc n) r c in_range h a i e =
     let top = s.cells in
     let t = sound.ranks_known (link p a.link).source (omega arith) in
     outs_good swaps p inputs sound fit (source_rank p a.link) n t (ms (source_rank p a.link)) nothing_seen
-        (cut.moves (source_rank p a.link) t) (ours_nothing p (source_rank p a.link)) (cut.proper (source_rank p a.link) t)
+    (cut.moves (source_rank p a.link) t) (ours_nothing p (source_rank p a.link)) (cut.proper (source_rank p a.link) t)
     (λ d l. good_below swaps p inputs sound fit ms cut n (source_rank p a.link) d t l)
     a (cut.made r a in_range i) (omega arith)
 
@@ -139,8 +139,8 @@ pub cut_holds : CombineSwaps → (p : Plan) (inputs : Inputs) → SoundPlan p (l
     → (cell p c).needs ≤ reached_count p (all_seen p ms r) r c → content p (all_seen p ms r).came c (initial p inputs c) ≡ value p inputs c
 cut_holds swaps p inputs sound fit ms cut r c in_range h n =
     holds_value swaps p inputs sound fit r c (all_seen p ms r) in_range h (cut.proper r in_range)
-        (ours_seen p r (ms r) nothing_seen (ours_nothing p r) (cut.moves r in_range))
-        (all_good swaps p inputs sound fit ms cut r c in_range) n
+    (ours_seen p r (ms r) nothing_seen (ours_nothing p r) (cut.moves r in_range))
+    (all_good swaps p inputs sound fit ms cut r c in_range) n
 
 -- ---- at rest every cell has reached its needs
 
@@ -159,8 +159,12 @@ sent_along p inputs (m ∷ ms) g l b h = elim (sent_along p inputs ms (note p g 
     now : (m : Move) → In (ForLink l) (note p g m).fired → In (ForLink l) g.fired ⊎
         ((a : Came) × In a (out_of p inputs g m ++ outs p inputs (note p g m) ms) × (a.link ≡ l))
     now (Did w) h = elim (subst (λ vs. In (ForLink l) vs) (fired_note p g w) h) [
-      | inl e ↦ inr (sending p inputs g l, In-append_left (sending p inputs g l) (out_of p inputs g (Did w))
-          (outs p inputs (note p g (Did w)) ms) (here w e), refl)
+      | inl e ↦ inr (
+        sending p inputs g l,
+        In-append_left (sending p inputs g l) (out_of p inputs g (Did w))
+            (outs p inputs (note p g (Did w)) ms) (here w e),
+        refl,
+      )
       | inr i ↦ inl i
     ]
     now Began i = inl i
@@ -196,7 +200,7 @@ reached_next p inputs sound ms rest c h before = elim (cases_lt c p.ranks) [
         let top = s.cells in
         let t : (link p l).target ≡ c = k.1 in
         rest.idle (source_rank p l) (ForLink l) (sound.ranks_known (link p l).source (omega arith))
-            (In-works_along p (source_rank p l) l (In-out_links p (source_rank p l) l k.0 refl)) (before (link p l).source (omega arith))
+        (In-works_along p (source_rank p l) l (In-out_links p (source_rank p l) l k.0 refl)) (before (link p l).source (omega arith))
 
     arrived_as : (l : ℕ) → In l (in_links p c) → (b : Bool) → is_bump (link p l).kind ≡ b →
         In l (reached_by p c (all_seen p ms (cell p c).rank))
@@ -205,9 +209,9 @@ reached_next p inputs sound ms rest c h before = elim (cases_lt c p.ranks) [
         let s = sound.links_sound l k.0 in
         let r : source_rank p l ≡ (cell p c).rank = s.bump_stays (bump_kind (link p l).kind b) ∙ ap (λ d. (cell p d).rank) k.1 in
         let f : In (ForLink l) (all_seen p ms (cell p c).rank).fired = subst (λ v. In (ForLink l) (all_seen p ms v).fired) r
-              (fired-In (all_seen p ms (source_rank p l)).fired (ForLink l) (fired l i)) in
+        (fired-In (all_seen p ms (source_rank p l)).fired (ForLink l) (fired l i)) in
         In-append_right l (came_to p c (all_seen p ms (cell p c).rank).came) (bumped_to p c (all_seen p ms (cell p c).rank).fired)
-            (In-bumped_to p c (all_seen p ms (cell p c).rank).fired l f b k.1)
+        (In-bumped_to p c (all_seen p ms (cell p c).rank).fired l f b k.1)
       where
         bump_kind : (k : LinkKind) → is_bump k ≡ true → k ≡ Bump
         bump_kind Bump e = refl
@@ -232,7 +236,7 @@ reached_next p inputs sound ms rest c h before = elim (cases_lt c p.ranks) [
             let j' : In a (all_seen p ms (cell p c).rank).came = subst (λ d. In a (all_seen p ms (cell p d).rank).came) tt' j in
             In-append_left l (came_to p c (all_seen p ms (cell p c).rank).came) (bumped_to p c (all_seen p ms (cell p c).rank).fired)
             (subst (λ m. In m (came_to p c (all_seen p ms (cell p c).rank).came)) e
-                (In-came_to p c (all_seen p ms (cell p c).rank).came a j' tt'))
+            (In-came_to p c (all_seen p ms (cell p c).rank).came a j' tt'))
 
     arrived : Within (in_links p c) (reached_by p c (all_seen p ms (cell p c).rank))
     arrived l i = arrived_as l i (is_bump (link p l).kind) refl
@@ -256,11 +260,11 @@ rest_fires p inputs sound ms rest r in_range (ForLink l) h =
     let up = s.rising in
     let top = s.cells in
     rest.idle r (ForLink l) in_range h (subst (λ v. (cell p (link p l).source).needs ≤ reached_count p (all_seen p ms v) v
-        (link p l).source) k.1 (rest_reaches p inputs sound ms rest (link p l).source (omega arith)))
+    (link p l).source) k.1 (rest_reaches p inputs sound ms rest (link p l).source (omega arith)))
 rest_fires p inputs sound ms rest r in_range (ForDone c) h =
     let k = own-In p r c (rank_ops-tell p r c h) in
     rest.idle r (ForDone c) in_range h (subst (λ v. (cell p c).needs ≤ reached_count p (all_seen p ms v) v c) k.1
-        (rest_reaches p inputs sound ms rest c k.0))
+    (rest_reaches p inputs sound ms rest c k.0))
 
 -- each cell holds its value
 pub rest_values : CombineSwaps → (p : Plan) (inputs : Inputs) → SoundPlan p (length inputs) → AreInputsOf p inputs

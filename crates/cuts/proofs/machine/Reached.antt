@@ -1,6 +1,6 @@
 -- A cell whose counter has reached its needs has all its incoming links, and holds its value.
-use Rattle.std.proofs.Common.{ℕ, Bool, true, false, cond, ◌&&◌, ◌||◌, ◌+◌, ◌≡◌, ◌≤◌, ◌<◌, ◌==◌, List, [], ◌∷◌, ◌++◌, refl, length, ap, ◌∙◌,
-    sym, subst, inl, inr, arith, count_by, map, filter, eqb-true, eq-eqb, length-append, zero-le}
+use Rattle.std.proofs.Common.{ℕ, Bool, true, false, cond, ◌&&◌, ◌||◌, ◌+◌, ◌≡◌, ◌≤◌, ◌<◌, ◌==◌, List, [], ◌∷◌, ◌++◌, refl, length, ap, ◌∙◌}
+use Rattle.std.proofs.Common.{sym, subst, inl, inr, arith, count_by, map, filter, eqb-true, eq-eqb, length-append, zero-le}
 use Rattle.std.proofs.lemmas.Bool.{and_parts, or_cases, cases_lt, cases_eq, ne_eqb}
 use Rattle.std.proofs.lemmas.List.Sums.{length-filter}
 use Rattle.plan_core.specs.Members.{Distinct, In, Within}
@@ -15,8 +15,8 @@ use Rattle.cuts.specs.machine.Seen.{Came, Seen, bumps, content, is_same_work, re
 use Rattle.plan_calls.specs.RankOps.{RankOp, rank_ops}
 use Rattle.plan_calls.specs.RankOps.RankOp.{ForLink, ForDone}
 use Rattle.cuts.specs.machine.Machine.{Proper, link_of}
-use Rattle.plan_core.proofs.Lists.{Distinct-append, Distinct-filter, Distinct-map, In-append_cases, In-filter, In-filter_cases, In-map,
-    In-map_cases, all_Within, each, each-append, each_same, length-map'}
+use Rattle.plan_core.proofs.Lists.{Distinct-append, Distinct-filter, Distinct-map, In-append_cases, In-filter, In-filter_cases, In-map}
+use Rattle.plan_core.proofs.Lists.{In-map_cases, all_Within, each, each-append, each_same, length-map'}
 use Rattle.plan_core.proofs.Links.{In-in_links, Lands, in_links-In, land_swaps, length-land, out_links-In}
 use Rattle.cuts.proofs.machine.RankOps.{rank_ops-along}
 use Rattle.plan_core.proofs.Values.{Lands-of, length-due, length-initial, length-value, step, value-eq}
@@ -94,9 +94,11 @@ bumped_to-In p c ws l h =
     let k = In-map_cases link_along l (filter (bumps p c) ws) h in
     let q = In-filter_cases (bumps p c) k.0 ws k.1 in
     let b = bumps-is p c k.0 q.1 in
-    let i : b.0 ≡ l = sym (ap link_along b.1) ∙ k.2 in
-    (subst (λ m. In (ForLink m) ws) i (subst (λ w. In w ws) b.1 q.0), subst (λ m. is_bump (link p m).kind ≡ true) i b.2,
-        subst (λ m. (link p m).target ≡ c) i b.3)
+    let i : b.0 ≡ l = sym (ap link_along b.1) ∙ k.2 in (
+      subst (λ m. In (ForLink m) ws) i (subst (λ w. In w ws) b.1 q.0),
+      subst (λ m. is_bump (link p m).kind ≡ true) i b.2,
+      subst (λ m. (link p m).target ≡ c) i b.3,
+    )
 
 pub In-bumped_to : (p : Plan) (c : ℕ) (ws : List RankOp) (l : ℕ) → In (ForLink l) ws → is_bump (link p l).kind ≡ true →
     (link p l).target ≡ c → In l (bumped_to p c ws)
@@ -113,8 +115,11 @@ Distinct-map_filter f t [] d = tt
 Distinct-map_filter f t (x ∷ xs) d = at (t x) (Distinct-map_filter f t xs d.1)
   where
     at : (b : Bool) → Distinct (map f (filter t xs)) → Distinct (map f (cond b (x ∷ filter t xs) (filter t xs)))
-    at true rest = ((λ h. let k = In-map_cases f (f x) (filter t xs) h in let q = In-filter_cases t k.0 xs k.1 in
-        d.0 (subst (λ v. In v (map f xs)) k.2 (In-map f k.0 xs q.0))), rest)
+    at true rest = (
+      (λ h. let k = In-map_cases f (f x) (filter t xs) h in let q = In-filter_cases t k.0 xs k.1 in
+          d.0 (subst (λ v. In v (map f xs)) k.2 (In-map f k.0 xs q.0))),
+      rest,
+    )
     at false rest = rest
 
 along_bumped : (p : Plan) (c : ℕ) (a b : RankOp) → bumps p c a ≡ true → bumps p c b ≡ true → link_along a ≡ link_along b → a ≡ b
@@ -163,7 +168,7 @@ pub all_in : (p : Plan) (inputs : Inputs) → SoundPlan p (length inputs) → (r
     Proper p r g → Ours p r g.fired → (cell p c).needs ≤ reached_count p g r c → Within (in_links p c) (reached_by p c g)
 all_in p inputs sound r c g in_range h proper mine n =
     all_Within (reached_by p c g) (in_links p c) (Distinct-reached_by p r c g proper mine) (reached_by-in p r c g proper mine)
-        (enough p inputs sound r c g in_range h n)
+    (enough p inputs sound r c g in_range h n)
 
 -- ---- the value
 
@@ -179,7 +184,7 @@ content-each p inputs c (a ∷ cs) good x = at (to_cell p c a) refl (content-eac
   where
     at : (b : Bool) → to_cell p c a ≡ b → ((y : List ℕ) → content p cs c y ≡ each (step p inputs) (came_to p c cs) y)
         → content p cs c (cond b (land p a.link a.bytes x) x) ≡ each (step p inputs)
-            (map link_of (cond b (a ∷ filter (to_cell p c) cs) (filter (to_cell p c) cs))) x
+        (map link_of (cond b (a ∷ filter (to_cell p c) cs) (filter (to_cell p c) cs))) x
     at true e rest = rest (land p a.link a.bytes x) ∙ ap (λ v. each (step p inputs) (came_to p c cs) (land p a.link v x))
         (good a (inl refl) (eqb-true _ _ e))
     at false e rest = rest x
@@ -207,7 +212,7 @@ keeps p inputs sound fit c l z h e =
     let s = sound.links_sound l h.0 in
     subst (λ d. length z ≡ (cell p d).length → length (step p inputs l z) ≡ (cell p d).length) h.1
     (length-land (cell p (link p l).target) (link p l).kind (link p l).target_offset (due p inputs l) z
-        (sound.whole (link p l).target s.cells) (Lands-of p l s (due p inputs l) (due-length p inputs sound fit l h.0))) e
+    (sound.whole (link p l).target s.cells) (Lands-of p l s (due p inputs l) (due-length p inputs sound fit l h.0))) e
 
 apart_swap : CombineSwaps → (p : Plan) (inputs : Inputs) → SoundPlan p (length inputs) → AreInputsOf p inputs → (c l m : ℕ) (z : List ℕ) →
     (l < length p.links) × ((link p l).target ≡ c) → (m < length p.links) × ((link p m).target ≡ c) → (l ≡ m → ⊥) →
@@ -220,14 +225,14 @@ apart_swap swaps p inputs sound fit c l m z h k differ e =
     let em = due-length p inputs sound fit m k.0 in
     let same : (link p m).target ≡ (link p l).target = k.1 ∙ sym h.1 in
     let q = land_swaps swaps (cell p (link p l).target) (link p l).kind (link p m).kind (link p l).target_offset (link p m).target_offset
-          (due p inputs l) (due p inputs m) z
+    (due p inputs l) (due p inputs m) z
     (sound.whole (link p l).target s.cells) (Lands-of p l s (due p inputs l) el)
-        (subst (λ d. Lands (cell p d) (link p m).kind (link p m).target_offset (due p inputs m)) same (Lands-of p m t (due p inputs m) em))
+    (subst (λ d. Lands (cell p d) (link p m).kind (link p m).target_offset (due p inputs m)) same (Lands-of p m t (due p inputs m) em))
     (λ i j. let a = sound.apart l m h.0 k.0 differ (sym same) i j in
-        elim a [ inl v ↦ inl (omega (arith, el)) | inr v ↦ inr (omega (arith, em)) ])
+    elim a [ inl v ↦ inl (omega (arith, el)) | inr v ↦ inr (omega (arith, em)) ])
     (e ∙ ap (λ d. (cell p d).length) (sym h.1)) in
     subst (λ d. land p l (due p inputs l) (land_as (link p m).kind (cell p d) (link p m).target_offset (due p inputs m) z) ≡ land_as
-        (link p m).kind (cell p d) (link p m).target_offset (due p inputs m) (land p l (due p inputs l) z)) (sym same) q
+    (link p m).kind (cell p d) (link p m).target_offset (due p inputs m) (land p l (due p inputs l) z)) (sym same) q
 
 may_swap : CombineSwaps → (p : Plan) (inputs : Inputs) → SoundPlan p (length inputs) → AreInputsOf p inputs → (c l m : ℕ) (z : List ℕ) →
     (l < length p.links) × ((link p l).target ≡ c) → (m < length p.links) × ((link p m).target ≡ c) → length z ≡ (cell p c).length
@@ -243,8 +248,8 @@ pub holds_value : CombineSwaps → (p : Plan) (inputs : Inputs) → SoundPlan p 
 holds_value swaps p inputs sound fit r c g in_range h proper mine good n =
     content-each p inputs c g.came good (initial p inputs c)
     ∙ sym (each-idle (step p inputs) (bumped_to p c g.fired)
-        (λ l z i. bump_idle (link p l).kind (cell p (link p l).target) (link p l).target_offset (due p inputs l) z
-        (bumped_to-In p c g.fired l i).1) (each (step p inputs) (came_to p c g.came) (initial p inputs c)))
+    (λ l z i. bump_idle (link p l).kind (cell p (link p l).target) (link p l).target_offset (due p inputs l) z
+    (bumped_to-In p c g.fired l i).1) (each (step p inputs) (came_to p c g.came) (initial p inputs c)))
     ∙ sym (each-append (step p inputs) (came_to p c g.came) (bumped_to p c g.fired) (initial p inputs c))
     ∙ each_same (step p inputs) (λ z. length z ≡ (cell p c).length) (reached_by p c g) (in_links p c)
     (Distinct-reached_by p r c g proper mine) (reached_by-in p r c g proper mine) (enough p inputs sound r c g in_range h n)

@@ -1,6 +1,6 @@
 -- Round k of a barrier reaches 2^k ranks: links lead from each entry to each exit.
-use Rattle.std.proofs.Common.{ℕ, zero, suc, ◌+◌, ◌-◌, ◌%◌, ◌^◌, ◌≡◌, ◌<◌, ◌≤◌, refl, ap, ◌∙◌, sym, subst, inl, inr, arith, mod-lt,
-    mod-eq_of_lt, pow-suc}
+use Rattle.std.proofs.Common.{ℕ, zero, suc, ◌+◌, ◌-◌, ◌%◌, ◌^◌, ◌≡◌, ◌<◌, ◌≤◌, refl, ap, ◌∙◌, sym, subst, inl, inr, arith, mod-lt}
+use Rattle.std.proofs.Common.{mod-eq_of_lt, pow-suc}
 use Rattle.std.proofs.lemmas.Bool.{cases_lt}
 use native.Mathlib.Nat.{mod-add-mod, mod_self}
 use Rattle.plan_core.specs.Plan.{Plan}
@@ -24,10 +24,10 @@ round_leads p n rounds T h (suc k) le a r i ha hr hi e = elim (cases_lt i (2 ^ k
       let up = pow-suc 2 k in
       let hm : (a + (i - 2 ^ k)) % n < n = mod-lt (a + (i - 2 ^ k)) (omega arith) in
       let q : ((a + (i - 2 ^ k)) % n + 2 ^ k) % n ≡ r = mod-add-mod (a + (i - 2 ^ k)) n (2 ^ k)
-            ∙ ap (λ v. v % n) (let y : a + (i - 2 ^ k) + 2 ^ k ≡ a + i = omega arith in y) ∙ e in
+      ∙ ap (λ v. v % n) (let y : a + (i - 2 ^ k) + 2 ^ k ≡ a + i = omega arith in y) ∙ e in
       further p (T 0 a) (T k ((a + (i - 2 ^ k)) % n)) (T (suc k) r)
       (round_leads p n rounds T h k (omega arith) a ((a + (i - 2 ^ k)) % n) (i - 2 ^ k) ha hm (omega (arith, up)) refl)
-          (h.comes k ((a + (i - 2 ^ k)) % n) r le hm hr q))
+      (h.comes k ((a + (i - 2 ^ k)) % n) r le hm hr q))
 ]
 
 pub entries_lead : (p : Plan) (n rounds : ℕ) (T : ℕ → ℕ → ℕ) → IsRounds p n rounds T → (a r : ℕ) → a < n → r < n →

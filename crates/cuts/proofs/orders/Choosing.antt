@@ -1,6 +1,7 @@
 -- The chosen run: each listed step is one that a rank may make, and a run of which none is left ends at rest.
-use Rattle.std.proofs.Common.{eqb-true, ℕ, zero, suc, Bool, true, false, cond, ◌&&◌, ◌==◌, ◌%◌, ◌≡◌, ◌<◌, ◌⊎◌, nat_lt, List, [], ◌∷◌, ◌++◌,
-    Option, Some, None, refl, length, map, flat_map, get_or, count_by, ap, ap₂, ◌∙◌, sym, subst, inl, inr, arith, eq-eqb, lt-ltb, zero-le}
+use Rattle.std.proofs.Common.{eqb-true, ℕ, zero, suc, Bool, true, false, cond, ◌&&◌, ◌==◌, ◌%◌, ◌≡◌, ◌<◌, ◌⊎◌, nat_lt, List, [], ◌∷◌, ◌++◌}
+use Rattle.std.proofs.Common.{Option, Some, None, refl, length, map, flat_map, get_or, count_by, ap, ap₂, ◌∙◌, sym, subst, inl, inr, arith}
+use Rattle.std.proofs.Common.{eq-eqb, lt-ltb, zero-le}
 use Rattle.std.proofs.lemmas.Bool.{cases_Bool, cases_eq, ltb-true, ne_eqb}
 use Rattle.std.proofs.Math.Nat.{mod-lt}
 use Rattle.ptl_types.specs.Messages.{Sent}
@@ -21,8 +22,8 @@ use Rattle.cuts.proofs.rest.Longer.{same_lane-true}
 use Rattle.cuts.specs.declared.orders.Step.{Step}
 use Rattle.cuts.specs.declared.orders.Step.TheVariants.{Start, Deliver, Fire}
 use Rattle.cuts.specs.declared.orders.Verdict.TheVariants.{Holds}
-use Rattle.cuts.specs.orders.Chosen.{IsChosen, Scene, choose, chosen, deliveries_between, delivered, enabled_steps, firings_at, first_of,
-    start_at, step_made, with_lane}
+use Rattle.cuts.specs.orders.Chosen.{IsChosen, Scene, choose, chosen, deliveries_between, delivered, enabled_steps, firings_at, first_of}
+use Rattle.cuts.specs.orders.Chosen.{start_at, step_made, with_lane}
 use Rattle.cuts.specs.orders.Reached.{IsReached}
 use Rattle.cuts.specs.orders.Reached.IsReached.{Begun, Stepped}
 use Rattle.cuts.specs.orders.Taking.{listed, with_step}
@@ -132,9 +133,9 @@ module _ (k : System) (z : Scene) where
           → z.held q u l ≡ cond (u == d) (got (Received s lane m ∷ []) q l) [] ++ (with_lane s d lane later z).held q u l
       at q u l a b c e f ea eb ec ee ef h =
           h ∙ sym (ap₂ (λ (x : Bool × Bool × Bool) (y : Bool × Bool). cond x.1 (cond (y.0 && y.1) (m ∷ []) []) [] ++ cond
-              (x.0 && (x.1 && x.2)) later (z.held q u l))
+          (x.0 && (x.1 && x.2)) later (z.held q u l))
           (ap₂ (λ v (w : Bool × Bool). (v, w.0, w.1)) ea (ap₂ {C = Bool × Bool} (λ v w. (v, w)) eb ec))
-              (ap₂ {C = Bool × Bool} (λ v w. (v, w)) ee ef))
+          (ap₂ {C = Bool × Bool} (λ v w. (v, w)) ee ef))
 
       taken : (q u : ℕ) (l : Lane) → z.held q u l ≡ cond (u == d) (got (Received s lane m ∷ []) q l) [] ++
           (with_lane s d lane later z).held q u l
@@ -162,7 +163,7 @@ module _ (k : System) (z : Scene) where
   delivery_listed s d lane hs hd x (m ∷ later) e (inr i) = absurd i
   delivery_listed s d lane hs hd x (m ∷ later) e (inl f) =
       subst IsMade f (subst (λ ms. IsLocalStep k z.world z.held (delivered k s d lane ms z).world (delivered k s d lane ms z).held)
-          (sym e) (deliver_made s d lane hs hd m later e))
+      (sym e) (deliver_made s d lane hs hd m later e))
 
   start_listed : (r : ℕ) → r < k.count → (x : Step) → In x (start_at z r) → IsMade x
   start_listed r h x i = at (nat_lt 0 (count_by is_start (z.world r))) refl i
@@ -177,19 +178,19 @@ module _ (k : System) (z : Scene) where
     | inl j ↦ (let q = In-flat_cases (start_at z) (from_to 0 k.count) x j in start_listed q.0 (below k.count q.0 q.1) x q.2)
     | inr j ↦ elim (In-append_cases x (flat_map (λ s. flat_map (deliveries_between z s) (from_to 0 k.count)) (from_to 0 k.count))
         (flat_map (firings_at k z) (from_to 0 k.count)) j) [
-      | inl l ↦ (let q = In-flat_cases (λ s. flat_map (deliveries_between z s) (from_to 0 k.count)) (from_to 0 k.count) x l in
-          let u = In-flat_cases (deliveries_between z q.0) (from_to 0 k.count) x q.2 in
-          elim (In-append_cases x (first_of q.0 u.0 Request (z.held q.0 u.0 Request)) (first_of q.0 u.0 Answer (z.held q.0 u.0 Answer))
+          | inl l ↦ (let q = In-flat_cases (λ s. flat_map (deliveries_between z s) (from_to 0 k.count)) (from_to 0 k.count) x l in
+              let u = In-flat_cases (deliveries_between z q.0) (from_to 0 k.count) x q.2 in
+              elim (In-append_cases x (first_of q.0 u.0 Request (z.held q.0 u.0 Request)) (first_of q.0 u.0 Answer (z.held q.0 u.0 Answer))
               u.2) [
-            | inl y ↦ delivery_listed q.0 u.0 Request (below k.count q.0 q.1) (below k.count u.0 u.1) x (z.held q.0 u.0 Request) refl y
-            | inr y ↦ delivery_listed q.0 u.0 Answer (below k.count q.0 q.1) (below k.count u.0 u.1) x (z.held q.0 u.0 Answer) refl y
-          ])
-      | inr l ↦ (let q = In-flat_cases (firings_at k z) (from_to 0 k.count) x l in
-          let u = In-map_cases (Fire q.0) x (ready_numbers (state_at k z.world q.0)) q.2 in
-          subst IsMade u.2 (fire_made q.0 u.0 (below k.count q.0 q.1)
-          (In-filter_cases (is_ready (state_at k z.world q.0)) u.0
+                | inl y ↦ delivery_listed q.0 u.0 Request (below k.count q.0 q.1) (below k.count u.0 u.1) x (z.held q.0 u.0 Request) refl y
+                | inr y ↦ delivery_listed q.0 u.0 Answer (below k.count q.0 q.1) (below k.count u.0 u.1) x (z.held q.0 u.0 Answer) refl y
+              ])
+          | inr l ↦ (let q = In-flat_cases (firings_at k z) (from_to 0 k.count) x l in
+              let u = In-map_cases (Fire q.0) x (ready_numbers (state_at k z.world q.0)) q.2 in
+              subst IsMade u.2 (fire_made q.0 u.0 (below k.count q.0 q.1)
+              (In-filter_cases (is_ready (state_at k z.world q.0)) u.0
               (map (λ (p : Posted). p.number) (state_at k z.world q.0).pending.waiting) u.1).1))
-    ]
+        ]
   ]
 
   -- ---- where none is listed all is still
@@ -205,8 +206,8 @@ module _ (k : System) (z : Scene) where
           let g = find-In (is_number t) s.pending.waiting x q in
           let n : x.number ≡ t = eqb-true _ _ g.1 in
           In-filter (is_ready s) t (map (λ (p : Posted). p.number) s.pending.waiting)
-              (subst (λ v. In v (map (λ (p : Posted). p.number) s.pending.waiting)) n
-              (In-map (λ (p : Posted). p.number) x s.pending.waiting g.0)) e
+          (subst (λ v. In v (map (λ (p : Posted). p.number) s.pending.waiting)) n
+          (In-map (λ (p : Posted). p.number) x s.pending.waiting g.0)) e
 
   pub none_listed_still : enabled_steps k z ≡ [] → IsStill k z.world z.held
   none_listed_still e = record {
@@ -218,7 +219,7 @@ module _ (k : System) (z : Scene) where
           (In-append_right (Fire r t) (flat_map (λ s. flat_map (deliveries_between z s) (from_to 0 k.count)) (from_to 0 k.count))
           (flat_map (firings_at k z) (from_to 0 k.count))
           (In-flat (firings_at k z) (from_to 0 k.count) r (Fire r t) (above k.count r h)
-              (In-map (Fire r) t (ready_numbers (state_at k z.world r)) (ready_listed (state_at k z.world r) t i))))))
+          (In-map (Fire r) t (ready_numbers (state_at k z.world r)) (ready_listed (state_at k z.world r) t i))))))
     ];
   }
     where
@@ -242,12 +243,12 @@ module _ (k : System) (z : Scene) where
       nothing s d lane hs hd [] q = refl
       nothing s d lane hs hd (m ∷ later) q =
           absurd (no (Deliver s d lane) (In-append_right (Deliver s d lane) (flat_map (start_at z) (from_to 0 k.count)) _
-              (In-append_left (Deliver s d lane) (flat_map (λ s. flat_map (deliveries_between z s) (from_to 0 k.count))
-              (from_to 0 k.count)) _
+          (In-append_left (Deliver s d lane) (flat_map (λ s. flat_map (deliveries_between z s) (from_to 0 k.count))
+          (from_to 0 k.count)) _
           (In-flat (λ s. flat_map (deliveries_between z s) (from_to 0 k.count)) (from_to 0 k.count) s (Deliver s d lane)
-              (above k.count s hs)
+          (above k.count s hs)
           (In-flat (deliveries_between z s) (from_to 0 k.count) d (Deliver s d lane) (above k.count d hd)
-              (on_lane s d lane (subst (λ ms. In (Deliver s d lane) (first_of s d lane ms)) (sym q) (inl refl))))))))
+          (on_lane s d lane (subst (λ ms. In (Deliver s d lane) (first_of s d lane ms)) (sym q) (inl refl))))))))
 
 -- ---- the run
 pub chosen_reached : (k : System) (words : ℕ → ℕ) (n : ℕ) → IsReached k (chosen k words n).world (chosen k words n).held
@@ -262,7 +263,7 @@ chosen_reached k words (suc n) = at (enabled_steps k (chosen k words n)) (λ x i
     at [] made so = so
     at (x ∷ xs) made so =
         Stepped so (made (get_or (x ∷ xs) (words n % length (x ∷ xs)) x)
-            (In-get (x ∷ xs) (words n % length (x ∷ xs)) x (mod-lt (words n) (let q : 0 < length (x ∷ xs) = omega arith in q))))
+        (In-get (x ∷ xs) (words n % length (x ∷ xs)) x (mod-lt (words n) (let q : 0 < length (x ∷ xs) = omega arith in q))))
 
 -- the lists of a chosen run hold
 pub chosen_holds : (k : System) (words : ℕ → ℕ) (w : Histories) → IsChosen k words w → IsVerdict k (λ r. map listed (w r)) Holds

@@ -1,6 +1,6 @@
 -- No enabled step is listed twice.
-use Rattle.std.proofs.Common.{ℕ, Bool, true, false, cond, ◌≡◌, ◌<◌, nat_lt, List, [], ◌∷◌, ◌++◌, refl, map, flat_map, count_by, ap, ◌∙◌,
-    sym, subst, inl, inr, arith}
+use Rattle.std.proofs.Common.{ℕ, Bool, true, false, cond, ◌≡◌, ◌<◌, nat_lt, List, [], ◌∷◌, ◌++◌, refl, map, flat_map, count_by, ap, ◌∙◌}
+use Rattle.std.proofs.Common.{sym, subst, inl, inr, arith}
 use Rattle.ptl_types.specs.Messages.{Sent}
 use Rattle.ptl_types.specs.declared.headers.Lane.{Lane}
 use Rattle.ptl_types.specs.declared.headers.Lane.TheVariants.{Answer, Request}
@@ -31,9 +31,10 @@ distinct-flat f mark (x ∷ xs) d each marks =
 
 distinct-map : {X : Type 0} (f : ℕ → X) (mark : X → ℕ) → ((x : ℕ) → mark (f x) ≡ x) → (xs : List ℕ) → Distinct xs → Distinct (map f xs)
 distinct-map f mark marks [] d = tt
-distinct-map f mark marks (x ∷ xs) d =
-    ((λ i. let q = In-map_cases f (f x) xs i in d.0 (subst (λ v. In v xs) (sym (marks q.0) ∙ ap mark q.2 ∙ marks x) q.1)),
-        distinct-map f mark marks xs d.1)
+distinct-map f mark marks (x ∷ xs) d = (
+  (λ i. let q = In-map_cases f (f x) xs i in d.0 (subst (λ v. In v xs) (sym (marks q.0) ∙ ap mark q.2 ∙ marks x) q.1)),
+  distinct-map f mark marks xs d.1,
+)
 
 -- ---- marks: the kind, the rank, the target, the number
 kind_of : Step → ℕ
@@ -87,24 +88,24 @@ module _ (k : System) (z : Scene) where
   unfolding kind_of
   between_one s d =
       Distinct-append (first_of s d Request (z.held s d Request)) (first_of s d Answer (z.held s d Answer))
-          (first_one s d Request (z.held s d Request)) (first_one s d Answer (z.held s d Answer))
+      (first_one s d Request (z.held s d Request)) (first_one s d Answer (z.held s d Answer))
       (λ x i j. let a = ap kind_of (first_is s d Request (z.held s d Request) x i ∙ sym (first_is s d Answer (z.held s d Answer) x j)) in
-          absurd (omega (arith, a)))
+      absurd (omega (arith, a)))
 
   pub once_each : ((r : ℕ) → r < k.count → Rises (ready_numbers (state_at k z.world r))) → Distinct (enabled_steps k z)
   unfolding kind_of first_mark second_mark
   once_each rises =
       Distinct-append (flat_map (start_at z) ranks) (deliveries ++ firings)
       (distinct-flat (start_at z) first_mark ranks (Distinct-from_to 0 k.count) (λ r i. start_one r)
-          (λ r x i. sym (ap first_mark (start_is r x i))))
+      (λ r x i. sym (ap first_mark (start_is r x i))))
       (Distinct-append deliveries firings
       (distinct-flat (λ s. flat_map (deliveries_between z s) ranks) first_mark ranks (Distinct-from_to 0 k.count)
       (λ s i. distinct-flat (deliveries_between z s) second_mark ranks (Distinct-from_to 0 k.count) (λ d j. between_one s d)
-          (λ d x i. sym (ap second_mark (between_is s d x i).1)))
+      (λ d x i. sym (ap second_mark (between_is s d x i).1)))
       (λ s x i. let q = In-flat_cases (deliveries_between z s) ranks x i in sym (ap first_mark (between_is s q.0 x q.2).1)))
       (distinct-flat (firings_at k z) first_mark ranks (Distinct-from_to 0 k.count)
       (λ r i. distinct-map (Fire r) second_mark (λ t. refl) (ready_numbers (state_at k z.world r))
-          (rises-distinct (ready_numbers (state_at k z.world r)) (rises r (below k.count r i))))
+      (rises-distinct (ready_numbers (state_at k z.world r)) (rises r (below k.count r i))))
       (λ r x i. let q = In-map_cases (Fire r) x (ready_numbers (state_at k z.world r)) i in sym (ap first_mark q.2)))
       (λ x i j. let a = ap kind_of (sym (firing_is x j)) in delivered_kind x (delivery_is x i) a))
       (λ x i j. let a = ap kind_of (started_is x i) in elim (In-append_cases x deliveries firings j) [

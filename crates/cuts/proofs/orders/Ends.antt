@@ -1,6 +1,6 @@
 -- A chosen run ends: each word makes one step more, and the ranks of a plan make so many in all.
-use Rattle.std.proofs.Common.{ℕ, zero, suc, Bool, true, false, cond, ◌%◌, ◌+◌, ◌≡◌, ◌<◌, ◌≤◌, ◌⊎◌, List, [], ◌∷◌, ◌++◌, refl, length,
-    get_or, count_by, ap, ap₂, ◌∙◌, sym, subst, inl, inr, arith, length-append}
+use Rattle.std.proofs.Common.{ℕ, zero, suc, Bool, true, false, cond, ◌%◌, ◌+◌, ◌≡◌, ◌<◌, ◌≤◌, ◌⊎◌, List, [], ◌∷◌, ◌++◌, refl, length}
+use Rattle.std.proofs.Common.{get_or, count_by, ap, ap₂, ◌∙◌, sym, subst, inl, inr, arith, length-append}
 use Rattle.std.proofs.lemmas.Bool.{cases_eq, cases_lt}
 use Rattle.std.proofs.Math.Nat.{mod-lt}
 use Rattle.ptl_types.specs.Messages.{Sent}
@@ -82,17 +82,17 @@ goes_on k words (suc n) = elim (goes_on k words n) [
   where
     at : (xs : List Step) → enabled_steps k (chosen k words n) ≡ xs → steps_in (chosen k words n).world k.count ≡ n
         → ((x : Step) → In x (enabled_steps k (chosen k words n)) → IsLocalStep k (chosen k words n).world (chosen k words n).held
-            (step_made k x (chosen k words n)).world (step_made k x (chosen k words n)).held)
+        (step_made k x (chosen k words n)).world (step_made k x (chosen k words n)).held)
         → Ended k words ⊎ (steps_in (choose k (enabled_steps k (chosen k words n)) (words n) (chosen k words n)).world k.count ≡ suc n)
     at [] q e made = inl (n, q)
     at (x ∷ xs) q e made =
         let i : In (get_or (x ∷ xs) (words n % length (x ∷ xs)) x) (x ∷ xs) =
-              In-get (x ∷ xs) (words n % length (x ∷ xs)) x (mod-lt (words n) (let l : 0 < length (x ∷ xs) = omega arith in l)) in
+        In-get (x ∷ xs) (words n % length (x ∷ xs)) x (mod-lt (words n) (let l : 0 < length (x ∷ xs) = omega arith in l)) in
         let s = made (get_or (x ∷ xs) (words n % length (x ∷ xs)) x)
-              (subst (λ v. In (get_or (x ∷ xs) (words n % length (x ∷ xs)) x) v) (sym q) i) in
+        (subst (λ v. In (get_or (x ∷ xs) (words n % length (x ∷ xs)) x) v) (sym q) i) in
         inr (ap (λ ys. steps_in (choose k ys (words n) (chosen k words n)).world k.count) q
         ∙ one-more (chosen k words n).world (step_made k (get_or (x ∷ xs) (words n % length (x ∷ xs)) x) (chosen k words n)).world s.r s.e
-            k.count s.in_range s.rank s.others
+        k.count s.in_range s.rank s.others
         ∙ ap suc e)
 
 -- ---- no stray was received, so a rank makes at most so many steps
@@ -100,12 +100,12 @@ none_strayed : (es : List Local) → ((s : ℕ) (lane : Lane) (m : Sent) → In 
     count_by is_received_stray es ≡ 0
 none_strayed [] h = refl
 none_strayed (Start ∷ es) h = let a = count-cons is_received_stray Start es in let b =
-                                                                                     none_strayed es (λ s l m i. h s l m
-                                                                                     (got_later Start es s l m i)) in omega (arith, a, b)
+    none_strayed es (λ s l m i. h s l m
+    (got_later Start es s l m i)) in omega (arith, a, b)
 none_strayed (Fire t ∷ es) h = let a = count-cons is_received_stray (Fire t) es in let b =
-                                                                                         none_strayed es (λ s l m i. h s l m
-                                                                                         (got_later (Fire t) es s l m i)) in
-                                                                                         omega (arith, a, b)
+    none_strayed es (λ s l m i. h s l m
+    (got_later (Fire t) es s l m i)) in
+    omega (arith, a, b)
 none_strayed (Receive q lane x ∷ es) h =
     let a = count-cons is_received_stray (Receive q lane x) es in
     let b = none_strayed es (λ s l m i. h s l m (got_later (Receive q lane x) es s l m i)) in
@@ -127,17 +127,17 @@ module _ (starts : CombineStarts) (p : Plan) (inputs : Inputs) (sound : SoundPla
       let cut = (reached_moment starts p inputs slots sound fit swaps w held reached).cut in
       let a = few_receipts starts p inputs sound fit slots w cut r h in
       let b = few_steps p (slots r) r (start_of p (slots r) r) (w r) (prepare p inputs (slots r) r)
-            (prepared_of p inputs sound (slots r) r) (cut.legal r h) in
+      (prepared_of p inputs sound (slots r) r) (cut.legal r h) in
       let c = none_strayed (w r) (λ s lane m i. clean (reached_moves (system_of p inputs slots) w held reached) s lane m i) in
       omega (arith, a, b, c)
     where
       clean : AreMoves (system_of p inputs slots) w held → (s : ℕ) (lane : Lane) (m : Sent) → In m (got (w r) s lane) → is_stray m ≡ false
       clean so s lane m i =
           let j : In m (sent_by (system_of p inputs slots) (histories so.moves) s r lane) =
-                subst (λ v. In m v) (so.balanced s r lane) (In-append_left m (got (histories so.moves r) s lane) (held s r lane)
-                (subst (λ (v : Histories). In m (got (v r) s lane)) so.same i)) in
+          subst (λ v. In m v) (so.balanced s r lane) (In-append_left m (got (histories so.moves r) s lane) (held s r lane)
+          (subst (λ (v : Histories). In m (got (v r) s lane)) so.same i)) in
           made-clean p inputs sound (slots s) s (histories so.moves s) m
-              (In-filter_cases (is_for r lane) m (made (start_of p (slots s) s) (prepare p inputs (slots s) s) (histories so.moves s)) j).0
+          (In-filter_cases (is_for r lane) m (made (start_of p (slots s) s) (prepare p inputs (slots s) s) (histories so.moves s)) j).0
 
   pub chosen_ends : (words : ℕ → ℕ) → (w : Histories) × IsChosen (system_of p inputs slots) words w
   unfolding most

@@ -26,7 +26,7 @@ are_listed k lists (e ∷ es) made front = (are_listed k lists es made.0 (λ r h
       p.0,
       sym (append_assoc (map listed (histories es e.rank)) (listed e.step ∷ []) p.0)
           ∙ ap (λ q. q ++ p.0) (sym (map-append listed (histories es e.rank) (e.step ∷ []))
-              ∙ ap (map listed) (sym (longer-here e es e.rank refl)))
+          ∙ ap (map listed) (sym (longer-here e es e.rank refl)))
           ∙ p.1,
     )
 

@@ -1,6 +1,6 @@
 -- Whatever slots the tables gave out, the same words choose the same steps.
-use Rattle.std.proofs.Common.{ℕ, zero, suc, cond, ◌%◌, ◌+◌, ◌≡◌, ◌<◌, ◌≤◌, List, [], ◌∷◌, ◌++◌, refl, length, map, flat_map, get_or,
-    count_by, ap, ap₂, ◌∙◌, sym, inl, inr, arith, append-nil, length-append, nat_lt, eq-eqb}
+use Rattle.std.proofs.Common.{ℕ, zero, suc, cond, ◌%◌, ◌+◌, ◌≡◌, ◌<◌, ◌≤◌, List, [], ◌∷◌, ◌++◌, refl, length, map, flat_map, get_or}
+use Rattle.std.proofs.Common.{count_by, ap, ap₂, ◌∙◌, sym, inl, inr, arith, append-nil, length-append, nat_lt, eq-eqb}
 use Rattle.std.proofs.lemmas.Bool.{cases_eq, cases_lt, ne_eqb}
 use Rattle.std.proofs.lemmas.List.{map-append}
 use Rattle.ptl_types.specs.Messages.{Sent}
@@ -22,8 +22,8 @@ use Rattle.cuts.specs.histories.Moment.{Lanes}
 use Rattle.cuts.specs.histories.Plans.{system_of}
 use Rattle.cuts.specs.histories.System.{Histories, System, sent_by, state_at}
 use Rattle.cuts.proofs.histories.Traffic.{to_came}
-use Rattle.cuts.specs.orders.Chosen.{IsChosen, Scene, choose, chosen, deliveries_between, delivered, enabled_steps, firings_at, first_of,
-    start_at, step_made}
+use Rattle.cuts.specs.orders.Chosen.{IsChosen, Scene, choose, chosen, deliveries_between, delivered, enabled_steps, firings_at, first_of}
+use Rattle.cuts.specs.orders.Chosen.{start_at, step_made}
 use Rattle.cuts.specs.orders.Rising.{Rises}
 use Rattle.cuts.specs.orders.Taking.{IsInterleaving, IsTaken, Lists, Move, histories, listed, with_step}
 use Rattle.cuts.specs.declared.orders.Step.{Step}
@@ -31,8 +31,8 @@ use Rattle.cuts.specs.declared.orders.Step.TheVariants.{Start, Deliver, Fire}
 use Rattle.cuts.proofs.orders.Choosing.{below, chosen_reached, ready_listed}
 use Rattle.cuts.proofs.orders.Holding.{are_listed}
 use Rattle.cuts.proofs.orders.Rising.{ready_rise}
-use Rattle.cuts.proofs.orders.Slotless.{Alike, Made, bares, cut_of, is_begin, same_answers, same_asks, same_listed, same_ready,
-    same_requests, same_told, starts-bare, Translated, translated}
+use Rattle.cuts.proofs.orders.Slotless.{Alike, Made, bares, cut_of, is_begin, same_answers, same_asks, same_listed, same_ready}
+use Rattle.cuts.proofs.orders.Slotless.{same_requests, same_told, starts-bare, Translated, translated}
 use Rattle.cuts.proofs.orders.Steps.{AreMoves, IsBalanced, beyond, reached_moves}
 use Rattle.cuts.proofs.orders.Taken.{same_taken}
 use Rattle.cuts.proofs.orders.Verdicts.{not_whole}
@@ -136,7 +136,7 @@ module _ (starts : CombineStarts) (p : Plan) (inputs : Inputs) (sound : SoundPla
         → length (sent_by (system_of p inputs q) (histories gs) s d lane) ≡ 0
     none_sent q gs g s d lane h =
         ap (λ es. length (sent ((system_of p inputs q).go s) ((system_of p inputs q).first s) es d lane))
-            (beyond (system_of p inputs q) gs g s h)
+        (beyond (system_of p inputs q) gs g s h)
 
     as_many_held : (s d : ℕ) (lane : Lane) → length (held s d lane) ≡ length (left s d lane)
     as_many_held s d lane = elim (cases_lt s p.ranks) [
@@ -172,7 +172,7 @@ module _ (starts : CombineStarts) (p : Plan) (inputs : Inputs) (sound : SoundPla
 
     same_numbers : (r : ℕ) → r < p.ranks
         → ready_numbers (state_at (system_of p inputs k) (histories es) r) ≡ ready_numbers
-            (state_at (system_of p inputs l) (histories fs) r)
+        (state_at (system_of p inputs l) (histories fs) r)
     same_numbers r h =
         rising-same _ _
         (ready_rise starts p inputs sound fit k (histories es) (cut_of starts p inputs sound fit swaps k es made) r h)
@@ -192,11 +192,11 @@ module _ (starts : CombineStarts) (p : Plan) (inputs : Inputs) (sound : SoundPla
         (flat-same (start_at (scene_of es held)) (start_at (scene_of fs left)) (from_to 0 p.ranks) (λ r i. same_starts r))
         (ap₂ (λ u v. u ++ v)
         (flat-same (λ s. flat_map (deliveries_between (scene_of es held) s) (from_to 0 p.ranks))
-            (λ s. flat_map (deliveries_between (scene_of fs left) s) (from_to 0 p.ranks)) (from_to 0 p.ranks)
+        (λ s. flat_map (deliveries_between (scene_of fs left) s) (from_to 0 p.ranks)) (from_to 0 p.ranks)
         (λ s i. flat-same (deliveries_between (scene_of es held) s) (deliveries_between (scene_of fs left) s) (from_to 0 p.ranks)
-            (λ d j. same_deliveries s d)))
+        (λ d j. same_deliveries s d)))
         (flat-same (firings_at (system_of p inputs k) (scene_of es held)) (firings_at (system_of p inputs l) (scene_of fs left))
-            (from_to 0 p.ranks)
+        (from_to 0 p.ranks)
         (λ r i. ap (map (Fire r)) (same_numbers r (below p.ranks r i)))))
 
     abbrev words_of : Histories → ℕ → List LocalStep
@@ -226,7 +226,7 @@ module _ (starts : CombineStarts) (p : Plan) (inputs : Inputs) (sound : SoundPla
       where
         at : (ms ns : List Sent) → length ms ≡ length ns
             → words_of (delivered (system_of p inputs k) s d lane ms (scene_of es held)).world r ≡ words_of
-                (delivered (system_of p inputs l) s d lane ns (scene_of fs left)).world r
+            (delivered (system_of p inputs l) s d lane ns (scene_of fs left)).world r
         at [] [] e = before r
         at (m ∷ ms) (n ∷ ns) e = longer d (Received s lane m) (Received s lane n) refl before r
         at [] (n ∷ ns) e = absurd (omega (arith, e))
@@ -255,13 +255,13 @@ module _ (starts : CombineStarts) (p : Plan) (inputs : Inputs) (sound : SoundPla
     next_chosen : (n : ℕ) → Same n → Same (suc n)
     next_chosen n before r =
         ap (λ (w : Histories). map listed ((choose (system_of p inputs k)
-            (enabled_steps (system_of p inputs k) (record { world = w; held = (run_of k n).held })) (words n)
-            (record { world = w; held = (run_of k n).held })).world r)) one.same
+        (enabled_steps (system_of p inputs k) (record { world = w; held = (run_of k n).held })) (words n)
+        (record { world = w; held = (run_of k n).held })).world r)) one.same
         ∙ same_choice k l one.moves two.moves one.made two.made alike (run_of k n).held (run_of l n).held one.balanced two.balanced
-            (words n) r
+        (words n) r
         ∙ sym (ap (λ (w : Histories). map listed ((choose (system_of p inputs l)
-            (enabled_steps (system_of p inputs l) (record { world = w; held = (run_of l n).held })) (words n)
-            (record { world = w; held = (run_of l n).held })).world r)) two.same)
+        (enabled_steps (system_of p inputs l) (record { world = w; held = (run_of l n).held })) (words n)
+        (record { world = w; held = (run_of l n).held })).world r)) two.same)
       where
         one : AreMoves (system_of p inputs k) (run_of k n).world (run_of k n).held
         one = reached_moves (system_of p inputs k) (run_of k n).world (run_of k n).held (chosen_reached (system_of p inputs k) words n)
@@ -272,7 +272,7 @@ module _ (starts : CombineStarts) (p : Plan) (inputs : Inputs) (sound : SoundPla
         alike : Alike starts p inputs sound fit swaps one.moves two.moves
         alike q = at (translated starts p inputs sound fit swaps k l (λ s. map listed (histories one.moves s)) one.moves one.made
             (are_listed (system_of p inputs k) (λ s. map listed (histories one.moves s)) one.moves one.made
-                (λ s h. ([], append-nil (map listed (histories one.moves s))))))
+            (λ s h. ([], append-nil (map listed (histories one.moves s))))))
           where
             at : Translated starts p inputs sound fit swaps k l (λ s. map listed (histories one.moves s)) one.moves →
                 bares (histories one.moves q) ≡ bares (histories two.moves q)

@@ -1,6 +1,6 @@
 -- Beginnings of lists, and histories one move longer.
-use Rattle.std.proofs.Common.{ℕ, Bool, true, false, cond, ◌&&◌, ◌≡◌, ◌==◌, List, [], ◌∷◌, ◌++◌, refl, length, ap, ◌∙◌, sym, subst, inl, inr,
-    filter, arith, append-nil, append_assoc, length-append, eq-eqb}
+use Rattle.std.proofs.Common.{ℕ, Bool, true, false, cond, ◌&&◌, ◌≡◌, ◌==◌, List, [], ◌∷◌, ◌++◌, refl, length, ap, ◌∙◌, sym, subst, inl, inr}
+use Rattle.std.proofs.Common.{filter, arith, append-nil, append_assoc, length-append, eq-eqb}
 use Rattle.std.proofs.lemmas.Bool.{cases_eq, ne_eqb}
 use Rattle.std.proofs.lemmas.List.{nil_from_length}
 use Rattle.std.proofs.lemmas.List.Elements.{filter-append}

@@ -1,6 +1,6 @@
 -- The numbers of a rank's operations rise in the order in which they wait.
-use Rattle.std.proofs.Common.{ℕ, zero, suc, Bool, true, false, cond, not, ◌≡◌, ◌<◌, List, [], ◌∷◌, refl, length, map, filter, ap, ◌∙◌, sym,
-    subst, arith}
+use Rattle.std.proofs.Common.{ℕ, zero, suc, Bool, true, false, cond, not, ◌≡◌, ◌<◌, List, [], ◌∷◌, refl, length, map, filter, ap, ◌∙◌, sym}
+use Rattle.std.proofs.Common.{subst, arith}
 use Rattle.ni_model.specs.Ready.{is_ready, ready_numbers}
 use Rattle.ni_model.specs.State.{Operations, Posted}
 use Rattle.op_laws.specs.Combining.{CombineStarts}
@@ -40,8 +40,11 @@ rises-map f q [] h = tt
 rises-map f q (x ∷ xs) h = at (q x) (rises-map f q xs h.1)
   where
     at : (b : Bool) → Rises (map f (filter q xs)) → Rises (map f (cond b (x ∷ filter q xs) (filter q xs)))
-    at true rest = ((λ y i. let z = In-map_cases f y (filter q xs) i in
-        h.0 y (subst (λ v. In v (map f xs)) z.2 (In-map f z.0 xs (In-filter_cases q z.0 xs z.1).0))), rest)
+    at true rest = (
+      (λ y i. let z = In-map_cases f y (filter q xs) i in
+          h.0 y (subst (λ v. In v (map f xs)) z.2 (In-map f z.0 xs (In-filter_cases q z.0 xs z.1).0))),
+      rest,
+    )
     at false rest = rest
 
 abbrev number : Posted → ℕ
@@ -59,7 +62,7 @@ all-number p s r (w ∷ ws) = ap (λ v. number_of p r w ∷ v) (all-number p s r
 rank_ops-rise : (p : Plan) (s : Slots) (r : ℕ) → Rises (map (number_of p r) (rank_ops p r))
 rank_ops-rise p s r =
     subst Rises (sym (placed-number p s 0 (rank_ops p r)) ∙ ap (map number) (pending_are p s r) ∙ all-number p s r (rank_ops p r))
-        (rises-from_to 0 (length (rank_ops p r)))
+    (rises-from_to 0 (length (rank_ops p r)))
 
 waiting-number : (p : Plan) (s : Slots) (r : ℕ) (ws : List RankOp) → map number (map (operation p s r) ws) ≡ map (number_of p r) ws
 waiting-number p s r [] = refl
@@ -74,5 +77,5 @@ ready_rise starts p inputs sound fit slots w cut r h =
     rises-filter (is_ready (state_at (system_of p inputs slots) w r)) (map number (state_at (system_of p inputs slots) w r).pending.waiting)
     (subst Rises
     (sym (ap (λ (ops : Operations). map number ops.waiting) sh.pending
-        ∙ waiting-number p (slots r) r (filter (λ v. not (was_fired g.fired v)) (rank_ops p r))))
+    ∙ waiting-number p (slots r) r (filter (λ v. not (was_fired g.fired v)) (rank_ops p r))))
     (rises-map (number_of p r) (λ v. not (was_fired g.fired v)) (rank_ops p r) (rank_ops-rise p (slots r) r)))

@@ -1,6 +1,6 @@
 -- What can be taken of lists doesn't depend on the slots that tables gave out.
-use Rattle.std.proofs.Common.{ℕ, suc, Bool, true, false, cond, not, ◌&&◌, ◌==◌, ◌+◌, ◌≡◌, ◌<◌, List, [], ◌∷◌, ◌++◌, refl, length, map,
-    filter, count_by, ap, ap₂, ◌∙◌, sym, subst, inl, inr, arith, append-nil, length-append, if◌then◌else◌}
+use Rattle.std.proofs.Common.{ℕ, suc, Bool, true, false, cond, not, ◌&&◌, ◌==◌, ◌+◌, ◌≡◌, ◌<◌, List, [], ◌∷◌, ◌++◌, refl, length, map}
+use Rattle.std.proofs.Common.{filter, count_by, ap, ap₂, ◌∙◌, sym, subst, inl, inr, arith, append-nil, length-append, if◌then◌else◌}
 use Rattle.std.proofs.lemmas.Bool.{cases_Bool}
 use Rattle.std.proofs.lemmas.List.{map-append}
 use Rattle.ptl_types.specs.Messages.{Sent}
@@ -164,13 +164,13 @@ from-got d (Receive q Answer m ∷ es) f = from-got d es f ∙ ap (λ b. length 
 from-got d (Receive q Request m ∷ es) f =
     ap (λ b. length (filter (came_from d) (cond (not b) (m ∷ own_received Request es) (own_received Request es)))) f.0
     ∙ ap (λ n. length (cond (n == d) (m ∷ filter (came_from d) (own_received Request es))
-        (filter (came_from d) (own_received Request es)))) f.1
+    (filter (came_from d) (own_received Request es)))) f.1
     ∙ at (q == d) (from-got d es f.2)
     ∙ ap (λ b. length (cond b (m ∷ got es d Request) (got es d Request))) (sym (and-true (q == d)))
   where
     at : (b : Bool) → length (filter (came_from d) (own_received Request es)) ≡ length (got es d Request)
         → length (cond b (m ∷ filter (came_from d) (own_received Request es)) (filter (came_from d) (own_received Request es))) ≡ length
-            (cond b (m ∷ got es d Request) (got es d Request))
+        (cond b (m ∷ got es d Request) (got es d Request))
     at true e = ap suc e
     at false e = e
 
@@ -202,7 +202,7 @@ run-bare p r (Fire t ∷ es) early f = ap (λ v. did (work_numbered p r t) ∷ v
 run-bare p r (Receive s Answer m ∷ es) early f = ap (λ v. Heard m.header.ok ∷ v) (run-bare p r es early f)
 run-bare p r (Receive s Request m ∷ es) early f =
     ap (λ b. cond b (Strayed ∷ run_moves p r early es) (run_moves p r (early ++ to_came m ∷ []) es)) f.0
-        ∙ run-bare p r es (early ++ to_came m ∷ []) f.2
+    ∙ run-bare p r es (early ++ to_came m ∷ []) f.2
 
 sent-came : (p : Plan) (s : Slots) (xs : List Came) → map to_came (map (as_message p s) xs) ≡ xs
 sent-came p s [] = refl
@@ -232,10 +232,10 @@ module _ (starts : CombineStarts) (p : Plan) (inputs : Inputs) (sound : SoundPla
       one s m i =
           let cut = cut_of k es given in
           let source = (legal_got p (k r) r (start_of p (k r) r) (histories es r) false (prepare p inputs (k r) r)
-                (prepared_of p inputs sound (k r) r) (cut.legal r h) s Request m i).source in
+          (prepared_of p inputs sound (k r) r) (cut.legal r h) s Request m i).source in
           let f = front_of k es given s r Request in
           let j : In m (sent_by (system_of p inputs k) (histories es) s r Request) =
-                subst (λ v. In m v) f.1 (In-append_left m (got (histories es r) s Request) f.0 i) in
+          subst (λ v. In m v) f.1 (In-append_left m (got (histories es r) s Request) f.0 i) in
           (clean_sent s m j, source)
         where
           clean_sent : (s : ℕ) (m : Sent) → In m (sent_by (system_of p inputs k) (histories es) s r Request) → is_stray m ≡ false
@@ -368,12 +368,16 @@ module _ (starts : CombineStarts) (p : Plan) (inputs : Inputs) (sound : SoundPla
           alike = ap (BTold s)
               (ok_sent s r m hs k es made (subst (λ v. In m v) t.1 (In-append_right m (got (histories es r) s Answer) (m ∷ t.0) (inl refl)))
               ∙ sym (ok_sent s r x hs l fs other (subst (λ v. In x v) q
-                  (In-append_right x (got (histories fs r) s Answer) (x ∷ ms) (inl refl)))));
+              (In-append_right x (got (histories fs r) s Answer) (x ∷ ms) (inl refl)))));
         }
 
     pub likewise : (r : ℕ) (e : Local) → r < p.ranks → MayTake (system_of p inputs k) (histories es) r e → Likewise r e
-    likewise r Start h t = record { step = Start; may = starts-bare (histories fs r) ∙ ap (count_by is_begin) (sym (same r))
-        ∙ sym (starts-bare (histories es r)) ∙ t; alike = refl }
+    likewise r Start h t = record {
+      step = Start;
+      may = starts-bare (histories fs r) ∙ ap (count_by is_begin) (sym (same r))
+          ∙ sym (starts-bare (histories es r)) ∙ t;
+      alike = refl;
+    }
     likewise r (Fire t) h m = record { step = Fire t; may = same_ready r t h m; alike = refl }
     likewise r (Receive s Request m) h t = ask r s m (known r s Request m t) t
     likewise r (Receive s Answer m) h t = tell r s m (known r s Answer m t) t
@@ -400,7 +404,7 @@ module _ (starts : CombineStarts) (p : Plan) (inputs : Inputs) (sound : SoundPla
             (sent_by (system_of p inputs l) (histories fs) s r lane)
         sizes s Request hs =
             sym (length-map' to_came (got (histories fs r) s Request)) ∙ sym (ap length (same_asks s r))
-                ∙ ap (λ (ms : List Sent). length (map to_came ms)) (rests.empty s Request hs)
+            ∙ ap (λ (ms : List Sent). length (map to_came ms)) (rests.empty s Request hs)
             ∙ ap length (same_requests s r hs) ∙ length-map' to_came (sent_by (system_of p inputs l) (histories fs) s r Request)
         sizes s Answer hs = sym (same_told s r) ∙ ap length (rests.empty s Answer hs) ∙ same_answers s r hs
 
@@ -411,7 +415,7 @@ module _ (starts : CombineStarts) (p : Plan) (inputs : Inputs) (sound : SoundPla
             let b = ap length f.1 in
             let c = length-append (got (histories fs r) s lane) f.0 in
             sym (append-nil (got (histories fs r) s lane)) ∙ ap (λ v. got (histories fs r) s lane ++ v)
-                (sym (nil_from_length f.0 (omega (arith, a, b, c)))) ∙ f.1
+            (sym (nil_from_length f.0 (omega (arith, a, b, c)))) ∙ f.1
 
   -- ---- the same moves under other slots
   pub record Translated (k l : ℕ → Slots) (lists : Lists) (es : List Move) : Type 0 where
@@ -446,7 +450,7 @@ module _ (starts : CombineStarts) (p : Plan) (inputs : Inputs) (sound : SoundPla
         where
           grown : (r : ℕ) (b : Bool) (x : Local) → bare e.step ≡ bare x → bares (histories es r) ≡ bares (histories t.moves r)
               → bares (cond b (histories es r ++ e.step ∷ []) (histories es r)) ≡ bares
-                  (cond b (histories t.moves r ++ x ∷ []) (histories t.moves r))
+              (cond b (histories t.moves r ++ x ∷ []) (histories t.moves r))
           grown r true x q h = map-append bare (histories es r) (e.step ∷ []) ∙ ap₂ (λ v y. v ++ y ∷ []) h q
               ∙ sym (map-append bare (histories t.moves r) (x ∷ []))
           grown r false x q h = h
@@ -493,8 +497,15 @@ module _ (starts : CombineStarts) (p : Plan) (inputs : Inputs) (sound : SoundPla
         a.0,
         a.1 ∙ ap (λ n. n + 1) (size r),
         elim a.2 [
-          | inl s ↦ inl (s.0, record { lower = λ q h. words q ∙ s.1.lower q h; next =
-              (s.1.next.0, ap (λ v. v ++ s.0 ∷ s.1.next.0) (words r) ∙ s.1.next.1) }, s.2)
+          | inl s ↦ inl (
+            s.0,
+            record {
+              lower = λ q h. words q ∙ s.1.lower q h;
+              next =
+                  (s.1.next.0, ap (λ v. v ++ s.0 ∷ s.1.next.0) (words r) ∙ s.1.next.1);
+            },
+            s.2,
+          )
           | inr s ↦ inr (
             record {
               whole = λ q h. words q ∙ s.0.whole q h;

@@ -1,6 +1,6 @@
 -- Moves of an interleaving are steps from moment to moment, and the other way round.
-use Rattle.std.proofs.Common.{ℕ, cond, ◌≡◌, ◌<◌, ◌≤◌, ◌==◌, List, [], ◌∷◌, ◌++◌, refl, length, ap, ap₂, ◌∙◌, sym, subst, inl, inr, filter,
-    map, arith, if◌then◌else◌, append-nil, append_assoc, length-append, eq-eqb}
+use Rattle.std.proofs.Common.{ℕ, cond, ◌≡◌, ◌<◌, ◌≤◌, ◌==◌, List, [], ◌∷◌, ◌++◌, refl, length, ap, ap₂, ◌∙◌, sym, subst, inl, inr, filter}
+use Rattle.std.proofs.Common.{map, arith, if◌then◌else◌, append-nil, append_assoc, length-append, eq-eqb}
 use Rattle.std.proofs.lemmas.Bool.{cases_eq, cases_lt, ne_eqb}
 use Rattle.std.proofs.lemmas.List.Elements.{filter-append}
 use Rattle.ptl_types.specs.Messages.{Sent}
@@ -130,7 +130,7 @@ module _ (k : System) where
           let rest : Lanes = λ s d lane. (front s d lane).0 in
           let later : Lanes = λ s d lane. rest s d lane ++ puts es e.rank e.step s d lane in
           let taken : (s d : ℕ) (lane : Lane) → x.0 s d lane ≡ takes e.rank e.step s d lane ++ rest s d lane =
-                λ s d lane. sym (front s d lane).1 in (
+          λ s d lane. sym (front s d lane).1 in (
             later,
             Stepped x.1 (record {
               r = e.rank;
@@ -235,7 +235,7 @@ reached_moment starts p inputs slots sound fit swaps next later (Stepped {w = w}
 pub holds_complete : CombineStarts → (p : Plan) (inputs : Inputs) (slots : ℕ → Slots) (lists : Lists) → SoundPlan p (length inputs) →
     AreInputsOf p inputs → CombineSwaps → IsVerdict (system_of p inputs slots) lists Holds
     → (w : Histories) × IsCut (system_of p inputs slots) w × IsAtRest (system_of p inputs slots) w ×
-        ((r : ℕ) → r < p.ranks → map listed (w r) ≡ lists r)
+    ((r : ℕ) → r < p.ranks → map listed (w r) ≡ lists r)
 holds_complete starts p inputs slots lists sound fit swaps v =
     let x = holds_ends (system_of p inputs slots) lists v in
     let m = reached_moment starts p inputs slots sound fit swaps x.world x.held x.reached in

@@ -1,6 +1,6 @@
 -- What is taken of given lists doesn't depend on the order of taking.
-use Rattle.std.proofs.Common.{ℕ, ◌≡◌, ◌<◌, List, [], ◌∷◌, ◌++◌, refl, ap, ◌∙◌, sym, subst, inl, inr, map, count_by, append-nil,
-    append_assoc, IsTrue}
+use Rattle.std.proofs.Common.{ℕ, ◌≡◌, ◌<◌, List, [], ◌∷◌, ◌++◌, refl, ap, ◌∙◌, sym, subst, inl, inr, map, count_by, append-nil}
+use Rattle.std.proofs.Common.{append_assoc, IsTrue}
 use Rattle.std.proofs.lemmas.Bool.{cases_eq}
 use Rattle.std.proofs.lemmas.List.{map-append}
 use Rattle.ptl_types.specs.Messages.{Sent}
@@ -45,10 +45,10 @@ same_step k w v r (Receive s lane m) (Receive t other n) rest more fair e l h =
     let g = sent-grows k w v s r lane (more s) in
     let f = fair s lane in
     let one : got (Receive t other n ∷ []) s lane ≡ n ∷ [] = subst (λ q. got (Receive q other n ∷ []) s lane ≡ n ∷ []) i
-          (subst (λ q. got (Receive s q n ∷ []) s lane ≡ n ∷ []) j (got_one s lane n)) in
+    (subst (λ q. got (Receive s q n ∷ []) s lane ≡ n ∷ []) j (got_one s lane n)) in
     let split : got (w r) s lane ++ ((n ∷ []) ++ (got rest s lane ++ f.0)) ≡ sent_by k v s r lane =
     ap (λ q. got (w r) s lane ++ q) (sym (append_assoc (n ∷ []) (got rest s lane) f.0) ∙ ap (λ q. (q ++ got rest s lane) ++ f.0) (sym one)
-        ∙ ap (λ q. q ++ f.0) (sym (got-append (Receive t other n ∷ []) rest s lane)))
+    ∙ ap (λ q. q ++ f.0) (sym (got-append (Receive t other n ∷ []) rest s lane)))
     ∙ sym (append_assoc (got (w r) s lane) (got (Receive t other n ∷ rest) s lane) f.0)
     ∙ ap (λ q. q ++ f.0) (sym (got-append (w r) (Receive t other n ∷ rest) s lane) ∙ ap (λ q. got q s lane) e)
     ∙ f.1 in
@@ -84,9 +84,11 @@ fair-longer k lists e es before next enabled = record { spelled = spelled; lanes
     spelled r = elim (cases_eq e.rank r) [
       | inr n ↦ subst (λ h. IsPrefixOf (map listed h) (lists r)) (sym (longer-else e es r n)) (before.spelled r)
       | inl h ↦ subst (λ h. IsPrefixOf (map listed h) (lists r)) (sym (longer-here e es r h))
-          (let n = subst (λ q. IsNext lists (histories es) q (listed e.step)) h next in
-          (n.0, ap (λ v. v ++ n.0) (map-append listed (histories es r) (e.step ∷ []))
-              ∙ append_assoc (map listed (histories es r)) (listed e.step ∷ []) n.0 ∙ n.1))
+          (let n = subst (λ q. IsNext lists (histories es) q (listed e.step)) h next in (
+            n.0,
+            ap (λ v. v ++ n.0) (map-append listed (histories es r) (e.step ∷ []))
+                ∙ append_assoc (map listed (histories es r)) (listed e.step ∷ []) n.0 ∙ n.1,
+          ))
     ]
 
     lanes : (s d : ℕ) (lane : Lane) → IsPrefixOf (got (histories (e ∷ es) d) s lane) (sent_by k (histories (e ∷ es)) s d lane)
@@ -107,35 +109,35 @@ fair k lists (e ∷ es) made told = fair-longer k lists e es (fair k lists es ma
 
 -- ---- what is taken in any order is a part of what is taken in any other order that goes as far as it can
 module _ (k : System) (lists : Lists) (v : Histories) (fair : IsFair k lists v) (stuck : (r : ℕ) → r < k.count → IsStuckAt k lists v r)
-    where
-  one_more : (r : ℕ) (x : Local) (w : Histories) → ((s : ℕ) → IsPrefixOf (w s) (v s)) → r < k.count → IsNext lists w r (listed x) →
-      MayTake k w r x → IsPrefixOf (w r ++ x ∷ []) (v r)
-  one_more r x w below h next enabled = at (below r).0 (below r).1
-    where
-      at : (rest : List Local) → w r ++ rest ≡ v r → IsPrefixOf (w r ++ x ∷ []) (v r)
-      at [] e =
-          let same : w r ≡ v r = sym (append-nil (w r)) ∙ e in
-          absurd (stuck r h x (next.0, ap (λ q. map listed q ++ listed x ∷ next.0) (sym same) ∙ next.1)
-              (enabled-later k w v r x below same enabled))
-      at (y ∷ rest) e =
-          let f = fair.spelled r in
-          let spelled : map listed (w r) ++ (listed y ∷ (map listed rest ++ f.0)) ≡ lists r =
-          sym (append_assoc (map listed (w r)) (map listed (y ∷ rest)) f.0)
-          ∙ ap (λ q. q ++ f.0) (sym (map-append listed (w r) (y ∷ rest)) ∙ ap (map listed) e)
-          ∙ f.1 in
-          let q = same-front (map listed (w r)) (listed x ∷ next.0) (listed y ∷ (map listed rest ++ f.0)) (next.1 ∙ sym spelled) in
-          let l : listed x ≡ listed y = cc in
-          let z = same_step k w v r x y rest below (λ s lane. fair.lanes s r lane) e l enabled in
-          (rest, append_assoc (w r) (x ∷ []) rest ∙ ap (λ q. w r ++ q ∷ rest) z ∙ e)
+  where
+    one_more : (r : ℕ) (x : Local) (w : Histories) → ((s : ℕ) → IsPrefixOf (w s) (v s)) → r < k.count → IsNext lists w r (listed x) →
+        MayTake k w r x → IsPrefixOf (w r ++ x ∷ []) (v r)
+    one_more r x w below h next enabled = at (below r).0 (below r).1
+      where
+        at : (rest : List Local) → w r ++ rest ≡ v r → IsPrefixOf (w r ++ x ∷ []) (v r)
+        at [] e =
+            let same : w r ≡ v r = sym (append-nil (w r)) ∙ e in
+            absurd (stuck r h x (next.0, ap (λ q. map listed q ++ listed x ∷ next.0) (sym same) ∙ next.1)
+            (enabled-later k w v r x below same enabled))
+        at (y ∷ rest) e =
+            let f = fair.spelled r in
+            let spelled : map listed (w r) ++ (listed y ∷ (map listed rest ++ f.0)) ≡ lists r =
+            sym (append_assoc (map listed (w r)) (map listed (y ∷ rest)) f.0)
+            ∙ ap (λ q. q ++ f.0) (sym (map-append listed (w r) (y ∷ rest)) ∙ ap (map listed) e)
+            ∙ f.1 in
+            let q = same-front (map listed (w r)) (listed x ∷ next.0) (listed y ∷ (map listed rest ++ f.0)) (next.1 ∙ sym spelled) in
+            let l : listed x ≡ listed y = cc in
+            let z = same_step k w v r x y rest below (λ s lane. fair.lanes s r lane) e l enabled in
+            (rest, append_assoc (w r) (x ∷ []) rest ∙ ap (λ q. w r ++ q ∷ rest) z ∙ e)
 
-  pub part : (es : List Move) → IsInterleaving k es → AreListed lists es → (r : ℕ) → IsPrefixOf (histories es r) (v r)
-  part [] made told r = (v r, refl)
-  part (e ∷ es) made told r = elim (cases_eq e.rank r) [
-    | inr n ↦ subst (λ h. IsPrefixOf h (v r)) (sym (longer-else e es r n)) (part es made.0 told.0 r)
-    | inl h ↦ subst (λ q. IsPrefixOf q (v r)) (sym (longer-here e es r h))
-        (subst (λ q. IsPrefixOf (histories es q ++ e.step ∷ []) (v q)) h
-        (one_more e.rank e.step (histories es) (λ s. part es made.0 told.0 s) made.1 told.1 made.2))
-  ]
+    pub part : (es : List Move) → IsInterleaving k es → AreListed lists es → (r : ℕ) → IsPrefixOf (histories es r) (v r)
+    part [] made told r = (v r, refl)
+    part (e ∷ es) made told r = elim (cases_eq e.rank r) [
+      | inr n ↦ subst (λ h. IsPrefixOf h (v r)) (sym (longer-else e es r n)) (part es made.0 told.0 r)
+      | inl h ↦ subst (λ q. IsPrefixOf q (v r)) (sym (longer-here e es r h))
+          (subst (λ q. IsPrefixOf (histories es q ++ e.step ∷ []) (v q)) h
+          (one_more e.rank e.step (histories es) (λ s. part es made.0 told.0 s) made.1 told.1 made.2))
+    ]
 
 -- two takings that go as far as they can take the same, messages and all
 pub same_taken : (k : System) (lists : Lists) (es fs : List Move) → IsTaken k lists es → IsTaken k lists fs → (r : ℕ) →

@@ -1,6 +1,6 @@
 -- Taking, computed: a rank is tried, and takes its next listed step where it is enabled.
-use Rattle.std.proofs.Common.{ℕ, Bool, true, false, cond, ◌≡◌, ◌<◌, ◌==◌, List, [], ◌∷◌, ◌++◌, Option, Some, None, refl, length, drop, ap,
-    ◌∙◌, sym, subst, map, count_by, if◌then◌else◌, eqb-true, eq-eqb}
+use Rattle.std.proofs.Common.{ℕ, Bool, true, false, cond, ◌≡◌, ◌<◌, ◌==◌, List, [], ◌∷◌, ◌++◌, Option, Some, None, refl, length, drop, ap}
+use Rattle.std.proofs.Common.{◌∙◌, sym, subst, map, count_by, if◌then◌else◌, eqb-true, eq-eqb}
 use Rattle.std.proofs.lemmas.List.{length-map}
 use Rattle.std.proofs.Math.Seq.{drop-append_seam}
 use Rattle.ptl_types.specs.Messages.{Sent}

@@ -1,6 +1,6 @@
 -- At most one verdict: of one taking one thing is said, and all takings are one.
-use Rattle.std.proofs.Common.{ℕ, ◌+◌, ◌≡◌, ◌<◌, List, ◌∷◌, ◌++◌, refl, length, ap, ◌∙◌, sym, subst, inl, inr, ◌⊎◌, map, arith,
-    length-append}
+use Rattle.std.proofs.Common.{ℕ, ◌+◌, ◌≡◌, ◌<◌, List, ◌∷◌, ◌++◌, refl, length, ap, ◌∙◌, sym, subst, inl, inr, ◌⊎◌, map, arith}
+use Rattle.std.proofs.Common.{length-append}
 use Rattle.std.proofs.lemmas.Bool.{cases_lt, cases_eq}
 use Rattle.cuts.specs.histories.System.{Histories, System}
 use Rattle.cuts.specs.orders.Taking.{IsTaken, Lists, Move, histories, listed}

@@ -3,8 +3,8 @@ use Rattle.cuts.specs.histories.System.{Histories, sent_by, state_at}
 use Rattle.cuts.specs.histories.Plans.{system_of}
 use Rattle.cuts.specs.histories.Cut.{IsCut, got_by, is_stray, owned}
 use Rattle.cuts.specs.view.Slots.{Slots, the_md}
-use Rattle.std.proofs.Common.{ℕ, suc, Bool, true, false, ◌||◌, ◌≡◌, ◌<◌, ◌≤◌, List, [], ◌∷◌, ◌++◌, refl, length, ap, ap₂, ◌∙◌, sym, subst,
-    inl, inr, map, filter, if◌then◌else◌, arith, eqb-true, nat_lt, lt-ltb, IsTrue}
+use Rattle.std.proofs.Common.{ℕ, suc, Bool, true, false, ◌||◌, ◌≡◌, ◌<◌, ◌≤◌, List, [], ◌∷◌, ◌++◌, refl, length, ap, ap₂, ◌∙◌, sym, subst}
+use Rattle.std.proofs.Common.{inl, inr, map, filter, if◌then◌else◌, arith, eqb-true, nat_lt, lt-ltb, IsTrue}
 use Rattle.std.proofs.lemmas.Bool.{cases_lt, not_from_false}
 use Rattle.std.proofs.lemmas.List.{map-append}
 use Rattle.std.proofs.lemmas.List.Sums.{length-filter}
@@ -15,8 +15,8 @@ use Rattle.ni_model.specs.Tables.{Table}
 use Rattle.plan_core.proofs.Links.{In-from_to}
 use Rattle.plan_core.specs.Plan.{from_to, Plan, cell, is_bump, link}
 use Rattle.cuts.proofs.start.Starting.{length-from_to}
-use Rattle.plan_core.proofs.Lists.{Distinct_left, In-append_right, In-filter, In-filter_cases, In-map, In-map_cases, length-Within,
-    length-map'}
+use Rattle.plan_core.proofs.Lists.{Distinct_left, In-append_right, In-filter, In-filter_cases, In-map, In-map_cases, length-Within}
+use Rattle.plan_core.proofs.Lists.{length-map'}
 use Rattle.plan_core.specs.Members.{Distinct, In}
 use Rattle.plan_core.specs.Sound.{AreInputsOf, SoundPlan}
 use Rattle.plan_core.specs.Values.{Inputs}
@@ -56,7 +56,7 @@ module _ (starts : CombineStarts) (p : Plan) (inputs : Inputs) (sound : SoundPla
       at : (b : Bool) → p.remote ≡ b → In m (sent_by (system_of p inputs slots) w s r Answer) → AckOf r s m
       at true e j =
           let y = In-map_cases ack m (filter (came_from r) (own_received Request (w s)))
-                (subst (λ v. In m v) (answers_rem starts p inputs sound fit slots w cut e s r k) j) in
+          (subst (λ v. In m v) (answers_rem starts p inputs sound fit slots w cut e s r k) j) in
           let z = In-filter_cases (came_from r) y.0 (own_received Request (w s)) y.1 in
           record { remote = e; of = y.0; came = z.0; from = eqb-true _ _ z.1; is = y.2 }
       at false e j = absurd (subst (λ v. In m v) (answers_loc starts p inputs sound fit slots w cut e s r k) j)
@@ -91,8 +91,8 @@ module _ (starts : CombineStarts) (p : Plan) (inputs : Inputs) (sound : SoundPla
   sent_numbers r s rem k =
       subst (λ v. Distinct (map number_in v)) (sym (answers_rem starts p inputs sound fit slots w cut rem s r k))
       (subst Distinct (sym (numbers (filter (came_from r) (own_received Request (w s)))))
-          (Distinct-map_filter number_in (came_from r) (own_received Request (w s))
-          (received_once starts p inputs sound fit slots w cut s k)))
+      (Distinct-map_filter number_in (came_from r) (own_received Request (w s))
+      (received_once starts p inputs sound fit slots w cut s k)))
     where
       numbers : (xs : List Sent) → map number_in (map ack xs) ≡ map number_in xs
       numbers [] = refl
@@ -103,7 +103,7 @@ module _ (starts : CombineStarts) (p : Plan) (inputs : Inputs) (sound : SoundPla
       let k = sender starts p inputs sound fit slots w cut r s Answer m h i in
       let a = answer_is starts p inputs sound fit slots w cut r s m h i in
       sent_ack r s m k (prefix-In m (got_by w r s Answer) (sent_by (system_of p inputs slots) w s r Answer) (cut.lanes s r Answer k h)
-          (In-owned m (got (w r) s Answer) i (stray_request m (ap is_answer a.kind))))
+      (In-owned m (got (w r) s Answer) i (stray_request m (ap is_answer a.kind))))
 
   ack_home : (r s : ℕ) (m : Sent) → s < p.ranks → AckOf r s m → (cell p (link p (number_in m)).target).rank ≡ s
   ack_home r s m k a = subst (λ x. (cell p (link p (number_in x)).target).rank ≡ s) a.is (link_to s a.of k a.came).target
@@ -114,10 +114,10 @@ module _ (starts : CombineStarts) (p : Plan) (inputs : Inputs) (sound : SoundPla
       let l = link_to s a.of k a.came in
       let f = sent_fired p inputs (moves_at p w a.of.header.source) nothing_seen (to_came a.of) l.sent_it in
       let f' : In (ForLink (number_in a.of)) (all_seen p (moves_at p w) r).fired =
-            subst (λ v. In (ForLink (number_in a.of)) (all_seen p (moves_at p w) v).fired) a.from f in
+      subst (λ v. In (ForLink (number_in a.of)) (all_seen p (moves_at p w) v).fired) a.from f in
       subst (λ x. In (number_in x) (map link_along (filter (sends p) (all_seen p (moves_at p w) r).fired))) a.is
       (In-map link_along (ForLink (number_in a.of)) (filter (sends p) (all_seen p (moves_at p w) r).fired)
-          (In-filter (sends p) (ForLink (number_in a.of)) (all_seen p (moves_at p w) r).fired f' (not_from_false _ l.kind)))
+      (In-filter (sends p) (ForLink (number_in a.of)) (all_seen p (moves_at p w) r).fired f' (not_from_false _ l.kind)))
 
   ack_known : (r s : ℕ) (m : Sent) → s < p.ranks → AckOf r s m → number_in m < length p.links
   ack_known r s m k a = subst (λ x. number_in x < length p.links) a.is (link_to s a.of k a.came).known
@@ -126,8 +126,8 @@ module _ (starts : CombineStarts) (p : Plan) (inputs : Inputs) (sound : SoundPla
   lane_once r s h rem = elim (cases_lt s p.ranks) [
     | inl k ↦ (let x = cut.lanes s r Answer k h in
         Distinct_left (map number_in (got_by w r s Answer)) (map number_in x.0)
-            (subst Distinct (map-append number_in (got_by w r s Answer) x.0)
-            (subst (λ v. Distinct (map number_in v)) (sym x.1) (sent_numbers r s rem k))))
+        (subst Distinct (map-append number_in (got_by w r s Answer) x.0)
+        (subst (λ v. Distinct (map number_in v)) (sym x.1) (sent_numbers r s rem k))))
     | inr k ↦ subst (λ v. Distinct (map number_in (owned v))) (sym (cut.known r s Answer h k)) tt
   ]
 
@@ -147,7 +147,7 @@ module _ (starts : CombineStarts) (p : Plan) (inputs : Inputs) (sound : SoundPla
       let home = ack_home r g.from y.0 (sender starts p inputs sound fit slots w cut r g.from Answer y.0 h g.got_it) z in
       let same : g.from ≡ s = sym home ∙ ap (λ l. (cell p (link p l).target).rank) y.2 ∙ ack_home r s m k a in
       let here : In y.0 (got_by w r s Answer) = In-owned y.0 (got (w r) s Answer) (subst (λ v. In y.0 (got (w r) v Answer)) same g.got_it)
-            g.clean in
+      g.clean in
       apart (got_by w r s Answer) (subst (λ v. Distinct (map number_in v)) (sym e) (sent_numbers r s rem k)) y.0 here y.2
     where
       apart : (xs : List Sent) → Distinct (map number_in (xs ++ m ∷ later)) → (y : Sent) → In y xs → number_in y ≡ number_in m → ⊥
@@ -160,7 +160,7 @@ module _ (starts : CombineStarts) (p : Plan) (inputs : Inputs) (sound : SoundPla
   here_ack r s m k a =
       let l = link_to s a.of k a.came in
       let hd : a.of.header ≡ link_header p (slots r) (number_in a.of) =
-            subst (λ v. a.of.header ≡ link_header p (slots v) (number_in a.of)) a.from l.header in
+      subst (λ v. a.of.header ≡ link_header p (slots v) (number_in a.of)) a.from l.header in
       record {
         kind = sym (ap (λ (x : Sent). x.header.kind) a.is);
         home = sym (ap (λ (x : Sent). x.header.home) a.is) ∙ ap (λ (x : Header). x.home) hd
@@ -175,8 +175,10 @@ module _ (starts : CombineStarts) (p : Plan) (inputs : Inputs) (sound : SoundPla
   few_answers r s m later h k e a =
       let size = length-Within (number_in m ∷ map number_in (own_received Answer (w r))) (from_to 0 (length p.links))
       (is_new r s m later h k a.remote e a, answers_once r h a.remote)
-      (λ n i. elim i [ inl q ↦ link_number n (subst (λ v. v < length p.links) q (ack_known r s m k a)) | inr j ↦ link_number n (other n j)
-          ]) in
+      (λ n i. elim i [
+        | inl q ↦ link_number n (subst (λ v. v < length p.links) q (ack_known r s m k a))
+        | inr j ↦ link_number n (other n j)
+      ]) in
       let y = length-map' number_in (own_received Answer (w r)) in
       let z = length-from_to 0 (length p.links) in
       omega (arith, size, y, z)
@@ -189,7 +191,7 @@ module _ (starts : CombineStarts) (p : Plan) (inputs : Inputs) (sound : SoundPla
           let y = In-map_cases number_in n (own_received Answer (w r)) i in
           let g = own_received-got Answer (w r) y.0 y.1 in
           subst (λ v. v < length p.links) y.2 (ack_known r g.from y.0
-              (sender starts p inputs sound fit slots w cut r g.from Answer y.0 h g.got_it) (got_ack r g.from y.0 h g.got_it))
+          (sender starts p inputs sound fit slots w cut r g.from Answer y.0 h g.got_it) (got_ack r g.from y.0 h g.got_it))
 
   enough : (r s : ℕ) (m : Sent) (later : List Sent) → r < p.ranks → s < p.ranks →
       got_by w r s Answer ++ m ∷ later ≡ sent_by (system_of p inputs slots) w s r Answer → AckOf r s m →
@@ -198,7 +200,7 @@ module _ (starts : CombineStarts) (p : Plan) (inputs : Inputs) (sound : SoundPla
       let g = all_seen p (moves_at p w) r in
       let sent_list = map link_along (filter (sends p) (all_seen p (moves_at p w) r).fired) in
       let size = length-Within (number_in m ∷ map number_in (own_received Answer (w r)))
-            (map link_along (filter (sends p) (all_seen p (moves_at p w) r).fired))
+      (map link_along (filter (sends p) (all_seen p (moves_at p w) r).fired))
       (is_new r s m later h k a.remote e a, answers_once r h a.remote)
       (λ n i. elim i [
         | inl q ↦ subst (λ v. In v (map link_along (filter (sends p) (all_seen p (moves_at p w) r).fired))) q (ack_fired r s m k a)
@@ -224,7 +226,7 @@ module _ (starts : CombineStarts) (p : Plan) (inputs : Inputs) (sound : SoundPla
           let g = own_received-got Answer (w r) y.0 y.1 in
           subst (λ v. In v (map link_along (filter (sends p) (all_seen p (moves_at p w) r).fired))) y.2
           (ack_fired r g.from y.0 (sender starts p inputs sound fit slots w cut r g.from Answer y.0 h g.got_it)
-              (got_ack r g.from y.0 h g.got_it))
+          (got_ack r g.from y.0 h g.got_it))
 
   pub next_answer_due : (r s : ℕ) (m : Sent) (later : List Sent) → r < p.ranks → s < p.ranks →
       got_by w r s Answer ++ m ∷ later ≡ sent_by (system_of p inputs slots) w s r Answer →

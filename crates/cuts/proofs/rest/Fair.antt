@@ -52,7 +52,7 @@ module _ (starts : CombineStarts) (p : Plan) (inputs : Inputs) (sound : SoundPla
       let up = l.rising in
       let top = l.cells in
       let e = outs_good swaps p inputs sound fit s (suc (link p a.link).source) h (moves_at p w s) nothing_seen (c.moves s h)
-            (ours_nothing p s) (c.proper s h)
+      (ours_nothing p s) (c.proper s h)
       (λ d j. all_good swaps p inputs sound fit (moves_at p w) c s d h) a i (omega arith) in
       ap length e ∙ length-due p inputs a.link l (length-value p inputs sound fit (link p a.link).source (omega arith))
 
@@ -65,9 +65,9 @@ module _ (starts : CombineStarts) (p : Plan) (inputs : Inputs) (sound : SoundPla
       record {
         source = elim (made_from p (slots s) s (start_of p (slots s) s) (w s) (prepare p inputs (slots s) s) m
             (prepared_of p inputs sound (slots s) s) f.0) [
-          | inl x ↦ ap (λ (y : Header). y.source) x.header ∙ (out_links-In p s x.l x.out).1
-          | inr x ↦ reply x
-        ];
+              | inl x ↦ ap (λ (y : Header). y.source) x.header ∙ (out_links-In p s x.l x.out).1
+              | inr x ↦ reply x
+            ];
         target = eqb-true _ _ q.0;
         kind = q.1;
         kept = subst IsKept a.is refl;
@@ -79,7 +79,7 @@ module _ (starts : CombineStarts) (p : Plan) (inputs : Inputs) (sound : SoundPla
           let a = x.answers in
           answer_source a.ok a.length a.bytes x.to.header m a.is
           ∙ (legal_got p (slots s) s (start_of p (slots s) s) (w s) false (prepare p inputs (slots s) s)
-              (prepared_of p inputs sound (slots s) s) (cut.legal s hs) x.source x.lane x.to x.came).target
+          (prepared_of p inputs sound (slots s) s) (cut.legal s hs) x.source x.lane x.to x.came).target
   fair s d Request m hs hd i =
       let o = subst (λ v. In m v) (sent_requests starts p inputs sound fit slots w cut s d hs) i in
       let y = In-map_cases (as_message p (slots s)) m (filter (goes_to p d) (outs p inputs nothing_seen (moves_at p w s))) o in

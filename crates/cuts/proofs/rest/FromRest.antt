@@ -3,8 +3,8 @@ use Rattle.cuts.specs.histories.System.{Histories, sent_by, state_at}
 use Rattle.cuts.specs.histories.Plans.{IsComplete, start_of, system_of}
 use Rattle.cuts.specs.histories.Cut.{IsAtRest, IsCut, is_received_stray, is_stray, owned}
 use Rattle.cuts.specs.view.Slots.{Slots, done_ct}
-use Rattle.std.proofs.Common.{ℕ, Bool, true, false, cond, not, ◌+◌, ◌≡◌, ◌<◌, ◌≤◌, ◌==◌, List, [], ◌∷◌, refl, length, ap, ◌∙◌, sym, subst,
-    inl, inr, map, filter, Some, if◌then◌else◌, eq-eqb, eqb-true, arith, count_by, min, add-zero, flat_map, ◌++◌}
+use Rattle.std.proofs.Common.{ℕ, Bool, true, false, cond, not, ◌+◌, ◌≡◌, ◌<◌, ◌≤◌, ◌==◌, List, [], ◌∷◌, refl, length, ap, ◌∙◌, sym, subst}
+use Rattle.std.proofs.Common.{inl, inr, map, filter, Some, if◌then◌else◌, eq-eqb, eqb-true, arith, count_by, min, add-zero, flat_map, ◌++◌}
 use Rattle.std.proofs.lemmas.Bool.{cases_Bool, cases_lt, not-true, not_from_false, not_from_true}
 use Rattle.std.proofs.lemmas.List.Sums.{length-filter}
 use Rattle.ni_model.specs.Counts.{successes}
@@ -15,8 +15,8 @@ use Rattle.op_laws.proofs.Bytes.{part_all}
 use Rattle.op_laws.specs.Combining.{CombineStarts, CombineSwaps}
 use Rattle.plan_core.proofs.Flat.{part_flat}
 use Rattle.plan_core.proofs.Links.{Distinct-out_links, In-out_links, In-own, out_links-In, own-In}
-use Rattle.plan_core.proofs.Lists.{Distinct-filter, In-filter, In-filter_cases, In-map, In-map_cases, count_same, length-Within,
-    length-map'}
+use Rattle.plan_core.proofs.Lists.{Distinct-filter, In-filter, In-filter_cases, In-map, In-map_cases, count_same, length-Within}
+use Rattle.plan_core.proofs.Lists.{length-map'}
 use Rattle.plan_core.proofs.Growth.{filter-none}
 use Rattle.plan_core.specs.Members.{Distinct, In, Within}
 use Rattle.plan_core.specs.Places.{cell_length, start_in}
@@ -24,14 +24,14 @@ use Rattle.plan_core.specs.Plan.{Plan, cell, is_bump, link, out_links, own}
 use Rattle.plan_core.specs.Sound.{AreInputsOf, SoundPlan}
 use Rattle.plan_core.specs.Values.{Inputs, initial, value}
 use Rattle.cuts.proofs.histories.Conform.{stray_request}
-use Rattle.cuts.proofs.histories.Told.{answers_in, answers_in-got, count-out-le, done_min, done_seen, heard, heard_is, length-own-le,
-    ready_from, tells_works}
-use Rattle.cuts.proofs.histories.Traffic.{In-owned, ack, all_distinct, as_message, came_from, goes_to, got-own_received, number_in,
-    outs_are, own_received, own_received-got, owned-In, to_came}
+use Rattle.cuts.proofs.histories.Told.{answers_in, answers_in-got, count-out-le, done_min, done_seen, heard, heard_is, length-own-le}
+use Rattle.cuts.proofs.histories.Told.{ready_from, tells_works}
+use Rattle.cuts.proofs.histories.Traffic.{In-owned, ack, all_distinct, as_message, came_from, goes_to, got-own_received, number_in}
+use Rattle.cuts.proofs.histories.Traffic.{outs_are, own_received, own_received-got, owned-In, to_came}
 use Rattle.cuts.specs.histories.History.{got, is_for, made, state}
 use Rattle.cuts.proofs.histories.RunFacts.{Ended, has_start-of, run_ended, run_heard, run_ok, run_started, run_strays}
-use Rattle.cuts.proofs.histories.FromCut.{answer_is, came_all, moves_at, machine_cut, received_once, request_is, sender, sent_requests,
-    simulation}
+use Rattle.cuts.proofs.histories.FromCut.{answer_is, came_all, moves_at, machine_cut, received_once, request_is, sender, sent_requests}
+use Rattle.cuts.proofs.histories.FromCut.{simulation}
 use Rattle.cuts.proofs.start.Prepared.{prepared}
 use Rattle.cuts.proofs.histories.RunTraffic.{has_start, run_answers_local, run_answers_remote}
 use Rattle.cuts.specs.start.Waiting.{annex_of}
@@ -61,8 +61,11 @@ module _ (starts : CombineStarts) (p : Plan) (inputs : Inputs) (sound : SoundPla
   ended : (r : ℕ) → r < p.ranks → Ended p inputs slots r (state_at (system_of p inputs slots) w r) (all_seen p (moves_at p w) r)
   ended r h =
       let e = run_ended p inputs slots r (w r) [] nothing_seen (begun r h) in
-      record { early = e.early; is = ap (λ v. state (start_of p (slots r) r) v (w r))
-          (prepared p inputs (slots r) r slots (length inputs) sound) ∙ (simulation starts p inputs sound fit slots w cut r h).ends ∙ e.is }
+      record {
+        early = e.early;
+        is = ap (λ v. state (start_of p (slots r) r) v (w r))
+            (prepared p inputs (slots r) r slots (length inputs) sound) ∙ (simulation starts p inputs sound fit slots w cut r h).ends ∙ e.is;
+      }
 
   end_is : (r : ℕ) (h : r < p.ranks) → state_at (system_of p inputs slots) w r ≡ view (annex_of p (slots r) r (ended r h).early) p inputs
       (slots r) r (all_seen p (moves_at p w) r)
@@ -113,14 +116,14 @@ module _ (starts : CombineStarts) (p : Plan) (inputs : Inputs) (sound : SoundPla
           let in_range = sound.ranks_known (link p a.link).target s.cells in
           let m : In (as_message p (slots r) a) (sent_by (system_of p inputs slots) w r (cell p (link p a.link).target).rank Request) =
           subst (λ v. In (as_message p (slots r) a) v) (sym (sent_requests starts p inputs sound fit slots w cut r
-              (cell p (link p a.link).target).rank h))
+          (cell p (link p a.link).target).rank h))
           (In-map (as_message p (slots r)) a (filter (goes_to p (cell p (link p a.link).target).rank)
-              (outs p inputs nothing_seen (moves_at p w r)))
+          (outs p inputs nothing_seen (moves_at p w r)))
           (In-filter (goes_to p (cell p (link p a.link).target).rank) a (outs p inputs nothing_seen (moves_at p w r)) i
-              (eq-eqb _ _ refl))) in
+          (eq-eqb _ _ refl))) in
           let g = owned-In (as_message p (slots r) a) (got (w (cell p (link p a.link).target).rank) r Request)
-                (subst (λ v. In (as_message p (slots r) a) v) (sym (rest.empty r (cell p (link p a.link).target).rank Request h in_range))
-                m) in
+          (subst (λ v. In (as_message p (slots r) a) v) (sym (rest.empty r (cell p (link p a.link).target).rank Request h in_range))
+          m) in
           let q = got-own_received Request (w (cell p (link p a.link).target).rank) r (as_message p (slots r) a) g.0 g.1 in
           subst (λ v. In a v) (sym (came_started (cell p (link p a.link).target).rank in_range))
           (In-map to_came (as_message p (slots r) a) (own_received Request (w (cell p (link p a.link).target).rank)) q)
@@ -139,7 +142,7 @@ module _ (starts : CombineStarts) (p : Plan) (inputs : Inputs) (sound : SoundPla
       let a = answer_is starts p inputs sound fit slots w cut r s m h i in
       let clean = stray_request m (ap is_answer a.kind) in
       let o : In m (sent_by (system_of p inputs slots) w s r Answer) =
-            subst (λ v. In m v) (rest.empty s r Answer k h) (In-owned m (got (w r) s Answer) i clean) in
+      subst (λ v. In m v) (rest.empty s r Answer k h) (In-owned m (got (w r) s Answer) i clean) in
       at p.remote refl k o
     where
       at : (b : Bool) → p.remote ≡ b → s < p.ranks → In m (sent_by (system_of p inputs slots) w s r Answer) → (p.remote ≡ true) ×
@@ -171,7 +174,7 @@ module _ (starts : CombineStarts) (p : Plan) (inputs : Inputs) (sound : SoundPla
       let k = (request_is starts p inputs sound fit slots w cut d g.from q h g.got_it g.clean).0 in
       let n : k.l ≡ number_in q = sym (ap (λ (x : Header). x.hdr_data) k.header) in
       subst (λ l. (l < length p.links) × (is_bump (link p l).kind ≡ false) × ((cell p (link p l).target).rank ≡ d) ×
-          (source_rank p l ≡ q.header.source)) n
+      (source_rank p l ≡ q.header.source)) n
       (k.here.known, k.here.sends, k.here.here, sym (ap (λ (x : Header). x.source) k.header))
 
   sends_of : ℕ → List ℕ
@@ -188,8 +191,8 @@ module _ (starts : CombineStarts) (p : Plan) (inputs : Inputs) (sound : SoundPla
       (λ s. elim (cases_lt s p.ranks) [
         | inl k ↦ subst (λ v. Distinct (map number_in v)) (sym (rest.empty s r Answer k h ∙ answers_rem rem s r k))
             (subst Distinct (sym (numbers (filter (came_from r) (own_received Request (w s)))))
-                (Distinct-map_filter number_in (came_from r) (own_received Request (w s))
-                (received_once starts p inputs sound fit slots w cut s k)))
+            (Distinct-map_filter number_in (came_from r) (own_received Request (w s))
+            (received_once starts p inputs sound fit slots w cut s k)))
         | inr k ↦ subst (λ v. Distinct (map number_in (owned v))) (sym (cut.known r s Answer h k)) tt
       ])
     where
@@ -235,12 +238,12 @@ module _ (starts : CombineStarts) (p : Plan) (inputs : Inputs) (sound : SoundPla
           let sent_it : In (ack y.0) (sent_by (system_of p inputs slots) w (cell p (link p a.link).target).rank r Answer) =
           subst (λ v. In (ack y.0) v) (sym (answers_rem rem (cell p (link p a.link).target).rank r in_range))
           (In-map ack y.0 (filter (came_from r) (own_received Request (w (cell p (link p a.link).target).rank)))
-              (In-filter (came_from r) y.0 (own_received Request (w (cell p (link p a.link).target).rank)) y.1 (eq-eqb _ _ from_r))) in
+          (In-filter (came_from r) y.0 (own_received Request (w (cell p (link p a.link).target).rank)) y.1 (eq-eqb _ _ from_r))) in
           let g = owned-In (ack y.0) (got (w r) (cell p (link p a.link).target).rank Answer)
-                (subst (λ v. In (ack y.0) v) (sym (rest.empty (cell p (link p a.link).target).rank r Answer in_range h)) sent_it) in
+          (subst (λ v. In (ack y.0) v) (sym (rest.empty (cell p (link p a.link).target).rank r Answer in_range h)) sent_it) in
           subst (λ v. In v (map number_in (own_received Answer (w r)))) n
           (In-map number_in (ack y.0) (own_received Answer (w r))
-              (got-own_received Answer (w r) (cell p (link p a.link).target).rank (ack y.0) g.0 g.1))
+          (got-own_received Answer (w r) (cell p (link p a.link).target).rank (ack y.0) g.0 g.1))
 
   acks_counted : p.remote ≡ true → (r : ℕ) → r < p.ranks → length (own_received Answer (w r)) ≡ count_by
       (λ l. not (is_bump (link p l).kind)) (out_links p r)
@@ -266,7 +269,7 @@ module _ (starts : CombineStarts) (p : Plan) (inputs : Inputs) (sound : SoundPla
       let m = mine r h in
       count_same tells (all_seen p (moves_at p w) r).fired (rank_ops p r) m.once m.ours
       (length-Within (rank_ops p r) (all_seen p (moves_at p w) r).fired (Distinct-rank_ops p r)
-          (λ v i. fired-In (all_seen p (moves_at p w) r).fired v (all_fired r h v i)))
+      (λ v i. fired-In (all_seen p (moves_at p w) r).fired v (all_fired r h v i)))
       ∙ tells_works p r
 
   threshold_small : (r : ℕ) → done_threshold p r ≤ top
@@ -284,7 +287,7 @@ module _ (starts : CombineStarts) (p : Plan) (inputs : Inputs) (sound : SoundPla
       let a = acks_due r h in
       let small = threshold_small r in
       e ∙ done_min _ _ (let q : count_by tells (all_seen p (moves_at p w) r).fired + (0 + heard p (moves_at p w r)) ≡ done_threshold p r =
-                              omega (arith, k, t, a) in q)
+      omega (arith, k, t, a) in q)
       ∙ ap successes (let q : min (done_threshold p r) top ≡ done_threshold p r = omega (arith, small) in q)
 
   -- ---- the theorem
@@ -304,13 +307,13 @@ module _ (starts : CombineStarts) (p : Plan) (inputs : Inputs) (sound : SoundPla
         let sized = (simulation starts p inputs sound fit slots w cut r h).sized in
         ap (λ (s : State). part (start_in p (own p r) c) (cell p c).length s.memory) (end_is r h)
         ∙ ap (λ n. part n (cell p c).length (flat_map (λ d. content p g.came d (initial p inputs d)) (own p r) ++
-            (annex_of p (slots r) r (ended r h).early).tail)) (sym (add-zero (start_in p (own p r) c)))
+        (annex_of p (slots r) r (ended r h).early).tail)) (sym (add-zero (start_in p (own p r) c)))
         ∙ part_flat (cell_length p) (λ d. content p g.came d (initial p inputs d)) (own p r) (λ d j. sized d (own-In p r d j).0) c 0
-            (cell p c).length (In-own p r c i e) (let q : 0 + (cell p c).length ≤ (cell p c).length = omega arith in q)
-            (annex_of p (slots r) r (ended r h).early).tail
+        (cell p c).length (In-own p r c i e) (let q : 0 + (cell p c).length ≤ (cell p c).length = omega arith in q)
+        (annex_of p (slots r) r (ended r h).early).tail
         ∙ part_all (cell p c).length (content p g.came c (initial p inputs c)) (sized c i)
         ∙ subst (λ v. content p (all_seen p (moves_at p w) v).came c (initial p inputs c) ≡ value p inputs c) e
-            (rest_values swaps p inputs sound fit (moves_at p w) machine machine_rest c i);
+        (rest_values swaps p inputs sound fit (moves_at p w) machine machine_rest c i);
   }
     where
       g : Seen

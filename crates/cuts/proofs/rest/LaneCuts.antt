@@ -1,6 +1,6 @@
 -- How many messages a lane carries in a cut.
-use Rattle.std.proofs.Common.{ℕ, zero, suc, Bool, true, false, cond, not, ◌≡◌, ◌≤◌, ◌<◌, nat_lt, List, [], ◌∷◌, refl, length, ap, ◌∙◌,
-    subst, arith, map, filter, lt-ltb, eq-eqb, eqb-true, zero-le}
+use Rattle.std.proofs.Common.{ℕ, zero, suc, Bool, true, false, cond, not, ◌≡◌, ◌≤◌, ◌<◌, nat_lt, List, [], ◌∷◌, refl, length, ap, ◌∙◌}
+use Rattle.std.proofs.Common.{subst, arith, map, filter, lt-ltb, eq-eqb, eqb-true, zero-le}
 use Rattle.std.proofs.lemmas.Bool.{and_from}
 use Rattle.std.proofs.lemmas.List.{length-append}
 use Rattle.ptl_types.specs.Messages.{Sent}
@@ -64,7 +64,7 @@ module _ (starts : CombineStarts) (p : Plan) (inputs : Inputs) (sound : SoundPla
           let c = length-map' number_in (filter (came_from d) (own_received Request (w s))) in
           let z = length-Within (map number_in (filter (came_from d) (own_received Request (w s)))) (lane_links p d s)
           (Distinct-map_filter number_in (came_from d) (own_received Request (w s))
-              (received_once starts p inputs sound fit slots w cut s hs)) (along s d hs) in
+          (received_once starts p inputs sound fit slots w cut s hs)) (along s d hs) in
           omega (arith, a, b, c, z)
 
   unused : (n : ℕ) → nat_lt 0 n ≡ false → n ≡ 0

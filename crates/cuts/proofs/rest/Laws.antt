@@ -3,8 +3,8 @@ use Rattle.cuts.specs.histories.System.{Histories, state_at}
 use Rattle.cuts.specs.histories.Plans.{CounterReached, system_of}
 use Rattle.cuts.specs.histories.Cut.{IsCut}
 use Rattle.cuts.specs.view.Slots.{Slots, cell_ct}
-use Rattle.std.proofs.Common.{ℕ, ◌+◌, ◌≡◌, ◌<◌, ◌≤◌, List, refl, length, ap, ◌∙◌, sym, arith, min, Some, None, flat_map, add-zero, Option,
-    ◌++◌}
+use Rattle.std.proofs.Common.{ℕ, ◌+◌, ◌≡◌, ◌<◌, ◌≤◌, List, refl, length, ap, ◌∙◌, sym, arith, min, Some, None, flat_map, add-zero, Option}
+use Rattle.std.proofs.Common.{◌++◌}
 use Rattle.ni_model.specs.Tables.{Table, lookup}
 use Rattle.ni_model.specs.Counts.{successes}
 use Rattle.op_laws.proofs.Bytes.{part_all}
@@ -37,9 +37,9 @@ module _ (starts : CombineStarts) (p : Plan) (inputs : Inputs) (sound : SoundPla
       (successes (min (reached_count p (all_seen p (moves_at p w) (cell p c).rank) (cell p c).rank c) top))
   counter_is c h =
       ap (λ (t : Table Count). lookup (cell_ct p (slots (cell p c).rank) c) t.live)
-          (shape starts p inputs sound fit slots w cut (cell p c).rank (sound.ranks_known c h)).cts
+      (shape starts p inputs sound fit slots w cut (cell p c).rank (sound.ranks_known c h)).cts
       ∙ lookup_counter (shape starts p inputs sound fit slots w cut (cell p c).rank (sound.ranks_known c h)).annex p inputs
-          (slots (cell p c).rank) (cell p c).rank (all_seen p (moves_at p w) (cell p c).rank) c (In-own p (cell p c).rank c h refl)
+      (slots (cell p c).rank) (cell p c).rank (all_seen p (moves_at p w) (cell p c).rank) c (In-own p (cell p c).rank c h refl)
 
   to_machine : (c : ℕ) → c < length p.cells → CounterReached p inputs slots w c → HasReached p (moves_at p w) c
   to_machine c h k =
@@ -48,8 +48,12 @@ module _ (starts : CombineStarts) (p : Plan) (inputs : Inputs) (sound : SoundPla
       omega (arith, e, m)
 
   from_machine : (c : ℕ) → c < length p.cells → HasReached p (moves_at p w) c → CounterReached p inputs slots w c
-  from_machine c h n = record { count = successes (min (reached_count p (all_seen p (moves_at p w) (cell p c).rank) (cell p c).rank c)
-      top); counter = counter_is c h; enough = let s = needs_small p (length inputs) sound c h in omega (arith, s, n) }
+  from_machine c h n = record {
+    count = successes (min (reached_count p (all_seen p (moves_at p w) (cell p c).rank) (cell p c).rank c)
+        top);
+    counter = counter_is c h;
+    enough = let s = needs_small p (length inputs) sound c h in omega (arith, s, n);
+  }
 
   pub reached_holds : CombineSwaps → (c : ℕ) → c < length p.cells → CounterReached p inputs slots w c →
       part (start_in p (own p (cell p c).rank) c) (cell p c).length (state_at (system_of p inputs slots) w (cell p c).rank).memory ≡ value
@@ -61,13 +65,13 @@ module _ (starts : CombineStarts) (p : Plan) (inputs : Inputs) (sound : SoundPla
       let sim = simulation starts p inputs sound fit slots w cut (cell p c).rank in_range in
       ap (λ (m : List ℕ). part (start_in p (own p (cell p c).rank) c) (cell p c).length m) sh.memory
       ∙ ap (λ n. part n (cell p c).length (flat_map (λ d. content p (all_seen p (moves_at p w) (cell p c).rank).came d
-          (initial p inputs d)) (own p (cell p c).rank) ++ sh.annex.tail)) (sym (add-zero (start_in p (own p (cell p c).rank) c)))
+      (initial p inputs d)) (own p (cell p c).rank) ++ sh.annex.tail)) (sym (add-zero (start_in p (own p (cell p c).rank) c)))
       ∙ part_flat (cell_length p) (λ d. content p (all_seen p (moves_at p w) (cell p c).rank).came d (initial p inputs d))
-          (own p (cell p c).rank) (λ d j. sim.sized d (own-In p (cell p c).rank d j).0) c 0 (cell p c).length
-          (In-own p (cell p c).rank c h refl) (let q : 0 + (cell p c).length ≤ (cell p c).length = omega arith in q) sh.annex.tail
+      (own p (cell p c).rank) (λ d j. sim.sized d (own-In p (cell p c).rank d j).0) c 0 (cell p c).length
+      (In-own p (cell p c).rank c h refl) (let q : 0 + (cell p c).length ≤ (cell p c).length = omega arith in q) sh.annex.tail
       ∙ part_all (cell p c).length (content p (all_seen p (moves_at p w) (cell p c).rank).came c (initial p inputs c)) (sim.sized c h)
       ∙ cut_holds swaps p inputs sound fit (moves_at p w) (machine_cut starts p inputs sound fit slots w cut) (cell p c).rank c in_range h
-          (to_machine c h k)
+      (to_machine c h k)
 
   pub ancestor_reached : (b c : ℕ) → b < length p.cells → c < length p.cells → Leads p b c → CounterReached p inputs slots w c →
       CounterReached p inputs slots w b

@@ -1,6 +1,6 @@
 -- Histories that are longer by one step, and what a step's message tells.
-use Rattle.std.proofs.Common.{ℕ, Bool, true, false, cond, ◌&&◌, ◌||◌, ◌≡◌, List, [], ◌∷◌, ◌++◌, refl, ap, ap₂, sym, Option, Some, None,
-    if◌then◌else◌, arith, count_by, eq-eqb}
+use Rattle.std.proofs.Common.{ℕ, Bool, true, false, cond, ◌&&◌, ◌||◌, ◌≡◌, List, [], ◌∷◌, ◌++◌, refl, ap, ap₂, sym, Option, Some, None}
+use Rattle.std.proofs.Common.{if◌then◌else◌, arith, count_by, eq-eqb}
 use Rattle.std.proofs.lemmas.Bool.{ne_eqb}
 use Rattle.ptl_types.specs.declared.headers.Header.{Header}
 use Rattle.ptl_types.specs.Messages.{Sent, bytes_due}

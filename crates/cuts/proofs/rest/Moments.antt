@@ -3,18 +3,19 @@ use Rattle.cuts.specs.histories.System.{Histories, sent_by, state_at, System}
 use Rattle.cuts.specs.histories.Plans.{start_of, system_of}
 use Rattle.cuts.specs.histories.Cut.{IsAtRest, got_by, is_stray, owned}
 use Rattle.cuts.specs.view.Slots.{Slots}
-use Rattle.cuts.specs.histories.Moment.{HasNoneHeld, HasWindow, IsEnabled, IsLocalStep, IsMoment, IsStill, IsStrayOf, IsStrayStep, IsStuck,
-    Lanes, is_request_lane, sent_more}
-use Rattle.std.proofs.Common.{ℕ, suc, true, false, cond, not, ◌≡◌, ◌<◌, ◌≤◌, ◌==◌, List, [], ◌∷◌, ◌++◌, refl, length, ap, ap₂, ◌∙◌, sym,
-    subst, inl, inr, filter, if◌then◌else◌, arith, eq-eqb, eqb-true, append-nil, append_assoc, Option, Some, None, count_by, zero, Bool}
+use Rattle.cuts.specs.histories.Moment.{HasNoneHeld, HasWindow, IsEnabled, IsLocalStep, IsMoment, IsStill, IsStrayOf, IsStrayStep, IsStuck}
+use Rattle.cuts.specs.histories.Moment.{Lanes, is_request_lane, sent_more}
+use Rattle.std.proofs.Common.{ℕ, suc, true, false, cond, not, ◌≡◌, ◌<◌, ◌≤◌, ◌==◌, List, [], ◌∷◌, ◌++◌, refl, length, ap, ap₂, ◌∙◌, sym}
+use Rattle.std.proofs.Common.{subst, inl, inr, filter, if◌then◌else◌, arith, eq-eqb, eqb-true, append-nil, append_assoc, Option, Some, None}
+use Rattle.std.proofs.Common.{count_by, zero, Bool}
 use Rattle.std.proofs.lemmas.Bool.{cases_Bool, cases_eq, and_parts, ne_eqb}
 use Rattle.std.proofs.lemmas.List.Elements.{filter-append}
 use Rattle.ni_model.specs.Conditions.{IsKept}
 use Rattle.ni_model.specs.Ready.{is_ready, fired}
 use Rattle.op_laws.specs.Combining.{CombineStarts, CombineSwaps}
 use Rattle.cuts.proofs.histories.Origin.{IsOf, after_of, fired_link}
-use Rattle.cuts.specs.histories.History.{Beginning, after, is_start, Legal, Local, May, and_then, got, is_for, made, made_by, sent, state,
-    same_lane}
+use Rattle.cuts.specs.histories.History.{Beginning, after, is_start, Legal, Local, May, and_then, got, is_for, made, made_by, sent, state}
+use Rattle.cuts.specs.histories.History.{same_lane}
 use Rattle.cuts.specs.histories.History.Local.{Fire, Receive, Start}
 use Rattle.ni_model.specs.State.{State}
 use Rattle.plan_core.proofs.Links.{out_links-In}
@@ -53,7 +54,7 @@ module _ (starts : CombineStarts) (p : Plan) (inputs : Inputs) (sound : SoundPla
   sent_longer q d lane =
       ap (filter (is_for d lane)) (made-append (start_of p (slots q) q) (prepare p inputs (slots q) q) (w q) (step.e ∷ []))
       ∙ filter-append (is_for d lane) (made (start_of p (slots q) q) (prepare p inputs (slots q) q) (w q))
-          (and_then (made_by (state_at (system_of p inputs slots) w q) step.e) [])
+      (and_then (made_by (state_at (system_of p inputs slots) w q) step.e) [])
 
   sent_next : (s d : ℕ) (lane : Lane) → sent_by (system_of p inputs slots) next s d lane ≡ sent_by (system_of p inputs slots) w s d lane
       ++ sent_more (system_of p inputs slots) w step.r step.e s d lane
@@ -75,7 +76,7 @@ module _ (starts : CombineStarts) (p : Plan) (inputs : Inputs) (sound : SoundPla
       made-clean p inputs sound (slots s) s (next s) m
       (In-filter_cases (is_for d lane) m (made (start_of p (slots s) s) (prepare p inputs (slots s) s) (next s))
       (subst (λ v. In m v) (sym (sent_next s d lane)) (In-append_right m (sent_by (system_of p inputs slots) w s d lane)
-          (sent_more (system_of p inputs slots) w step.r step.e s d lane) i))).0
+      (sent_more (system_of p inputs slots) w step.r step.e s d lane) i))).0
 
   abbrev taken_at : ℕ → ℕ → Lane → List Sent
   taken_at s d lane = if d == step.r then got (step.e ∷ []) s lane else []
@@ -97,13 +98,13 @@ module _ (starts : CombineStarts) (p : Plan) (inputs : Inputs) (sound : SoundPla
   lanes_next s d lane hs hd =
       ap₂ (λ a b. owned (a ++ b)) (got_next s d lane) (step.left s d lane)
       ∙ ap owned (regroup (got (w d) s lane) (taken_at s d lane) (step.rest s d lane)
-          (sent_more (system_of p inputs slots) w step.r step.e s d lane))
+      (sent_more (system_of p inputs slots) w step.r step.e s d lane))
       ∙ ap (λ v. owned ((got (w d) s lane ++ v) ++ sent_more (system_of p inputs slots) w step.r step.e s d lane))
-          (sym (step.taken s d lane))
+      (sym (step.taken s d lane))
       ∙ filter-append (λ m. not (is_stray m)) (got (w d) s lane ++ held s d lane)
-          (sent_more (system_of p inputs slots) w step.r step.e s d lane)
+      (sent_more (system_of p inputs slots) w step.r step.e s d lane)
       ∙ ap₂ (λ a b. a ++ b) (moment.lanes s d lane hs hd) (owned-all (sent_more (system_of p inputs slots) w step.r step.e s d lane)
-          (λ m i. more_clean s d lane m i))
+      (λ m i. more_clean s d lane m i))
       ∙ sym (sent_next s d lane)
 
   may_step : (e : Local) → IsEnabled (system_of p inputs slots) w held step.r e →
@@ -121,7 +122,7 @@ module _ (starts : CombineStarts) (p : Plan) (inputs : Inputs) (sound : SoundPla
     | inr n ↦ subst (legal_of q) (sym (step.others q n)) (moment.cut.legal q h)
     | inl e ↦ subst (λ x. legal_of x (next x)) (sym e) (subst (legal_of step.r) (sym step.rank)
         (legal_longer (start_of p (slots step.r) step.r) false (prepare p inputs (slots step.r) step.r) (w step.r) step.e
-            (moment.cut.legal step.r step.in_range)
+        (moment.cut.legal step.r step.in_range)
         (may_step step.e step.enabled)))
   ]
 
@@ -142,10 +143,10 @@ module _ (starts : CombineStarts) (p : Plan) (inputs : Inputs) (sound : SoundPla
       IsStrayOf s d lane m
   strays_next s d lane m hs hd i e = elim (In-append_cases m (step.rest s d lane)
       (sent_more (system_of p inputs slots) w step.r step.e s d lane) (subst (λ v. In m v) (step.left s d lane) i)) [
-    | inl j ↦ moment.strays s d lane m hs hd (subst (λ v. In m v) (sym (step.taken s d lane))
-        (In-append_right m (taken_at s d lane) (step.rest s d lane) j)) e
-    | inr j ↦ absurd (both e (more_clean s d lane m j))
-  ]
+        | inl j ↦ moment.strays s d lane m hs hd (subst (λ v. In m v) (sym (step.taken s d lane))
+            (In-append_right m (taken_at s d lane) (step.rest s d lane) j)) e
+        | inr j ↦ absurd (both e (more_clean s d lane m j))
+      ]
     where
       both : {b : Bool} → b ≡ true → b ≡ false → ⊥
       both e i = cc
@@ -155,8 +156,11 @@ module _ (starts : CombineStarts) (p : Plan) (inputs : Inputs) (sound : SoundPla
     cut = record {
       legal = legal_next;
       known = known_next;
-      lanes = λ s d lane hs hd. (owned (later s d lane), sym
-          (filter-append (λ m. not (is_stray m)) (got (next d) s lane) (later s d lane)) ∙ lanes_next s d lane hs hd);
+      lanes = λ s d lane hs hd. (
+        owned (later s d lane),
+        sym
+            (filter-append (λ m. not (is_stray m)) (got (next d) s lane) (later s d lane)) ∙ lanes_next s d lane hs hd,
+      );
     };
     lanes = lanes_next;
     strays = strays_next;
@@ -209,15 +213,18 @@ module _ (p : Plan) (inputs : Inputs) (slots : ℕ → Slots) (w : Histories) (h
       legal = λ r h. subst (λ es. Legal (start_of p (slots r) r) false (prepare p inputs (slots r) r) es) (sym (step.same r))
           (moment.cut.legal r h);
       known = λ r s lane h k. ap (λ es. got es s lane) (step.same r) ∙ moment.cut.known r s lane h k;
-      lanes = λ s d lane hs hd. (owned (later s d lane), sym
-          (filter-append (λ m. not (is_stray m)) (got (next d) s lane) (later s d lane)) ∙ lanes_put s d lane hs hd);
+      lanes = λ s d lane hs hd. (
+        owned (later s d lane),
+        sym
+            (filter-append (λ m. not (is_stray m)) (got (next d) s lane) (later s d lane)) ∙ lanes_put s d lane hs hd,
+      );
     };
     lanes = lanes_put;
     strays = λ s d lane m hs hd i e. elim (In-append_cases m (held s d lane) (put_at s d lane)
         (subst (λ v. In m v) (step.put s d lane) i)) [
-      | inl j ↦ moment.strays s d lane m hs hd j e
-      | inr j ↦ put_one s d lane m (is_request_lane step.s step.d s d lane) refl j
-    ];
+          | inl j ↦ moment.strays s d lane m hs hd j e
+          | inr j ↦ put_one s d lane m (is_request_lane step.s step.d s d lane) refl j
+        ];
   }
 
 -- ---- the laws of moments
@@ -273,8 +280,8 @@ rest_still p inputs slots w held m none h = record {
       sym (owned-all (held s d lane) (λ x i. none s d lane x hs hd i))
       ∙ nothing-behind (got_by w d s lane) (owned (held s d lane)) []
       (append-nil (got_by w d s lane ++ owned (held s d lane))
-          ∙ sym (filter-append (λ x. not (is_stray x)) (got (w d) s lane) (held s d lane)) ∙ m.lanes s d lane hs hd
-          ∙ sym (h.empty s d lane hs hd));
+      ∙ sym (filter-append (λ x. not (is_stray x)) (got (w d) s lane) (held s d lane)) ∙ m.lanes s d lane hs hd
+      ∙ sym (h.empty s d lane hs hd));
   idle = h.idle;
 }
 
@@ -283,10 +290,10 @@ pub target_known : (p : Plan) (inputs : Inputs) → SoundPlan p (length inputs) 
     (fired (state_at (system_of p inputs slots) w r) t).message ≡ Some m → m.header.target < p.ranks
 target_known p inputs sound slots w r t m e =
     let k = fired_link p (slots r) r t (state_at (system_of p inputs slots) w r) m
-          (state_of (start_of p (slots r) r) (w r) (prepare p inputs (slots r) r) (prepared_of p inputs sound (slots r) r)) e in
+    (state_of (start_of p (slots r) r) (w r) (prepare p inputs (slots r) r) (prepared_of p inputs sound (slots r) r)) e in
     let q = out_links-In p r k.l k.out in
     subst (λ n. n < p.ranks) (sym (ap (λ (h : Header). h.target) k.header))
-        (sound.ranks_known (link p k.l).target (sound.links_sound k.l q.0).cells)
+    (sound.ranks_known (link p k.l).target (sound.links_sound k.l q.0).cells)
   where
     state_of : (go : Beginning) (es : List Local) (v : State) → IsOf p (slots r) r v → IsOf p (slots r) r (state go v es)
     state_of go [] v h = h

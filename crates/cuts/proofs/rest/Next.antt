@@ -4,8 +4,8 @@ use Rattle.cuts.specs.histories.Plans.{system_of}
 use Rattle.cuts.specs.histories.Cut.{got_by, is_stray, owned, IsCut}
 use Rattle.cuts.specs.view.Slots.{Slots}
 use Rattle.cuts.specs.histories.Moment.{IsMoment, Lanes}
-use Rattle.std.proofs.Common.{ℕ, true, false, not, ◌≡◌, ◌<◌, List, ◌∷◌, ◌++◌, refl, length, ap, ◌∙◌, sym, subst, inl, inr, if◌then◌else◌,
-    Bool}
+use Rattle.std.proofs.Common.{ℕ, true, false, not, ◌≡◌, ◌<◌, List, ◌∷◌, ◌++◌, refl, length, ap, ◌∙◌, sym, subst, inl, inr, if◌then◌else◌}
+use Rattle.std.proofs.Common.{Bool}
 use Rattle.std.proofs.lemmas.Bool.{cases_Bool}
 use Rattle.std.proofs.lemmas.List.Elements.{filter-append}
 use Rattle.op_laws.specs.Combining.{CombineStarts, CombineSwaps}

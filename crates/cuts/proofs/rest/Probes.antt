@@ -22,7 +22,7 @@ use Rattle.cuts.proofs.rest.Waves.{IsWholeWave, behind, got_split, sent_split}
 module _ (starts : CombineStarts) (p : Plan) (inputs : Inputs) (sound : SoundPlan p (length inputs)) (fit : AreInputsOf p inputs)
     (slots : ℕ → Slots) (v w : Histories)
     (cut : IsCut (system_of p inputs slots) w) (clean : HasNoStray (system_of p inputs slots) w)
-        (wave : IsWave (system_of p inputs slots) v w) where
+    (wave : IsWave (system_of p inputs slots) v w) where
   balanced : (s d : ℕ) (lane : Lane) → s < p.ranks → d < p.ranks →
       length (got (v d) s lane) ≡ length (sent_by (system_of p inputs slots) v s d lane)
   balanced s d lane hs hd = elim (cases_Bool (is_used_lane p s d lane)) [
@@ -34,11 +34,11 @@ module _ (starts : CombineStarts) (p : Plan) (inputs : Inputs) (sound : SoundPla
       none e =
           let z = ap (λ (ms : List Sent). length ms) (unused_sent starts p inputs sound fit slots w cut s d lane hs hd e) in
           let y = ap (λ (ms : List Sent). length ms) (sym (owned-all (got (w d) s lane) (λ m i. clean d s lane m hd hs i))
-                ∙ unused_got starts p inputs sound fit slots w cut s d lane hs hd e) in
+          ∙ unused_got starts p inputs sound fit slots w cut s d lane hs hd e) in
           let a = ap (λ (ms : List Sent). length ms) (sent_split (system_of p inputs slots) v w wave.front s d lane hs) in
           let b = length-append (sent_by (system_of p inputs slots) v s d lane)
-                (sent (start_of p (slots s) s) (state_at (system_of p inputs slots) v s)
-                (behind (system_of p inputs slots) v w wave.front s) d lane) in
+          (sent (start_of p (slots s) s) (state_at (system_of p inputs slots) v s)
+          (behind (system_of p inputs slots) v w wave.front s) d lane) in
           let c = ap (λ (ms : List Sent). length ms) (got_split (system_of p inputs slots) v w wave.front s d lane hd) in
           let f = length-append (got (v d) s lane) (got (behind (system_of p inputs slots) v w wave.front d) s lane) in
           omega (arith, z, y, a, b, c, f)

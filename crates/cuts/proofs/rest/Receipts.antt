@@ -3,8 +3,8 @@ use Rattle.cuts.specs.histories.System.{Histories}
 use Rattle.cuts.specs.histories.Plans.{system_of}
 use Rattle.cuts.specs.histories.Cut.{IsCut, is_received_stray, is_stray}
 use Rattle.cuts.specs.view.Slots.{Slots}
-use Rattle.std.proofs.Common.{sym, ℕ, Bool, true, false, cond, not, ◌&&◌, ◌+◌, ◌≡◌, ◌≤◌, ◌<◌, List, [], ◌∷◌, refl, length, ap, ◌∙◌, subst,
-    inl, inr, arith, map, filter, count_by, sum_by}
+use Rattle.std.proofs.Common.{sym, ℕ, Bool, true, false, cond, not, ◌&&◌, ◌+◌, ◌≡◌, ◌≤◌, ◌<◌, List, [], ◌∷◌, refl, length, ap, ◌∙◌, subst}
+use Rattle.std.proofs.Common.{inl, inr, arith, map, filter, count_by, sum_by}
 use Rattle.std.proofs.lemmas.List.Sums.{length-filter, sum_by-cons}
 use Rattle.ptl_types.specs.Messages.{Sent}
 use Rattle.ptl_types.specs.declared.headers.Lane.{Lane}
@@ -32,12 +32,12 @@ receipts-are : (es : List Local) → count_by is_receipt es ≡ count_by is_rece
     + (length (own_received Request es) + length (own_received Answer es))
 receipts-are [] = refl
 receipts-are (Start ∷ es) = let k = receipts-are es in let a = count-cons is_receipt Start es in let b =
-                                                                                                       count-cons is_received_stray Start
-                                                                                                       es in omega (arith, k, a, b)
+    count-cons is_received_stray Start
+    es in omega (arith, k, a, b)
 receipts-are (Fire t ∷ es) = let k = receipts-are es in let a = count-cons is_receipt (Fire t) es in let b =
-                                                                                                           count-cons is_received_stray
-                                                                                                           (Fire t) es in omega
-                                                                                                           (arith, k, a, b)
+    count-cons is_received_stray
+    (Fire t) es in omega
+    (arith, k, a, b)
 receipts-are (Receive s l m ∷ es) =
     let k = receipts-are es in
     let a = count-cons is_receipt (Receive s l m) es in
@@ -47,7 +47,7 @@ receipts-are (Receive s l m ∷ es) =
     at : (l : Lane) (t : Bool) → count_by is_receipt es ≡ count_by is_received_stray es
         + (length (own_received Request es) + length (own_received Answer es))
         → count_by is_receipt (Receive s l m ∷ es) ≡ 1 + count_by is_receipt es → count_by is_received_stray (Receive s l m ∷ es) ≡ cond t
-            1 0 + count_by is_received_stray es
+        1 0 + count_by is_received_stray es
         → count_by is_receipt (Receive s l m ∷ es) ≡ count_by is_received_stray (Receive s l m ∷ es)
         + (length (cond (same_lane l Request && not t) (m ∷ own_received Request es) (own_received Request es))
         + length (cond (same_lane l Answer && not t) (m ∷ own_received Answer es) (own_received Answer es)))
@@ -79,7 +79,7 @@ module _ (starts : CombineStarts) (p : Plan) (inputs : Inputs) (sound : SoundPla
         a.remote,
         subst (λ x. In (number_in x) (filter (λ l. not (is_bump (link p l).kind)) (out_links p r))) a.is
             (In-filter (λ l. not (is_bump (link p l).kind)) (number_in a.of) (out_links p r)
-                (In-out_links p r (number_in a.of) k.known (k.source ∙ a.from)) (ap not k.kind)),
+            (In-out_links p r (number_in a.of) k.known (k.source ∙ a.from)) (ap not k.kind)),
       )
 
   few_answers : length (own_received Answer (w r)) ≤ cond p.remote (sends_of p r) 0
@@ -88,9 +88,9 @@ module _ (starts : CombineStarts) (p : Plan) (inputs : Inputs) (sound : SoundPla
       at : (b : Bool) → p.remote ≡ b → length (own_received Answer (w r)) ≤ cond b (sends_of p r) 0
       at true e =
           let q = length-Within (map number_in (own_received Answer (w r))) (filter (λ l. not (is_bump (link p l).kind)) (out_links p r))
-                (answers_once starts p inputs sound fit slots w cut r h e)
+          (answers_once starts p inputs sound fit slots w cut r h e)
           (λ n i. let k = In-map_cases number_in n (own_received Answer (w r)) i in
-              subst (λ x. In x (filter (λ l. not (is_bump (link p l).kind)) (out_links p r))) k.2 (answered_here k.0 k.1).1) in
+          subst (λ x. In x (filter (λ l. not (is_bump (link p l).kind)) (out_links p r))) k.2 (answered_here k.0 k.1).1) in
           let a = length-map' number_in (own_received Answer (w r)) in
           let b = length-filter (λ l. not (is_bump (link p l).kind)) (out_links p r) in
           omega (arith, q, a, b)
@@ -123,10 +123,10 @@ module _ (starts : CombineStarts) (p : Plan) (inputs : Inputs) (sound : SoundPla
     where
       at : (l : Lane) (t : Bool) → received_bytes es ≡ bytes_in (own_received Request es) + bytes_in (own_received Answer es)
           → bytes_in (m ∷ own_received Request es) ≡ length m.bytes + bytes_in (own_received Request es) →
-              bytes_in (m ∷ own_received Answer es) ≡ length m.bytes + bytes_in (own_received Answer es)
+          bytes_in (m ∷ own_received Answer es) ≡ length m.bytes + bytes_in (own_received Answer es)
           → cond t 0 (length m.bytes) + received_bytes es
           ≡ bytes_in (cond (same_lane l Request && not t) (m ∷ own_received Request es) (own_received Request es)) + bytes_in
-              (cond (same_lane l Answer && not t) (m ∷ own_received Answer es) (own_received Answer es))
+          (cond (same_lane l Answer && not t) (m ∷ own_received Answer es) (own_received Answer es))
       at Request true k a b = omega (arith, k)
       at Request false k a b = omega (arith, k, a)
       at Answer true k a b = omega (arith, k)
@@ -136,21 +136,21 @@ module _ (starts : CombineStarts) (p : Plan) (inputs : Inputs) (sound : SoundPla
   request_bytes =
       let a = each (own_received Request (w r)) (λ m i. i) in
       let b = sum-Within (λ l. (link p l).length) (map link_of (map to_came (own_received Request (w r)))) (links_to p r)
-            (all_once starts p inputs sound fit slots w cut r h) within in
+      (all_once starts p inputs sound fit slots w cut r h) within in
       omega (arith, a, b)
     where
       within : (l : ℕ) → In l (map link_of (map to_came (own_received Request (w r)))) → In l (links_to p r)
       within l i =
           let q = In-map_cases link_of l (map to_came (own_received Request (w r))) i in
           subst (λ n. In n (links_to p r)) q.2 (link-comes p inputs sound r q.0.link
-              (received_link starts p inputs sound fit slots w cut r h q.0 q.1).0)
+          (received_link starts p inputs sound fit slots w cut r h q.0 q.1).0)
 
       each : (ms : List Sent) → ((m : Sent) → In m ms → In m (own_received Request (w r))) →
           bytes_in ms ≡ sum_by (λ l. (link p l).length) (map link_of (map to_came ms))
       each [] sub = refl
       each (m ∷ ms) sub =
           let one = (received_link starts p inputs sound fit slots w cut r h (to_came m)
-                (In-map to_came m (own_received Request (w r)) (sub m (inl refl)))).1 in
+          (In-map to_came m (own_received Request (w r)) (sub m (inl refl)))).1 in
           let rest = each ms (λ x i. sub x (inr i)) in
           let x = sum_by-cons (λ (m : Sent). length m.bytes) m ms in
           let y = sum_by-cons (λ l. (link p l).length) m.header.hdr_data (map link_of (map to_came ms)) in

@@ -4,8 +4,8 @@ use Rattle.cuts.specs.histories.Plans.{start_of, system_of}
 use Rattle.cuts.specs.histories.Cut.{IsAtRest, IsCut, IsPrefixOf, got_by, is_stray}
 use Rattle.cuts.specs.view.Slots.{Slots}
 use Rattle.cuts.specs.histories.Wave.{HasNoStray}
-use Rattle.std.proofs.Common.{ℕ, true, false, ◌≡◌, ◌<◌, List, [], ◌++◌, length, ap, ◌∙◌, sym, subst, inl, inr, filter, append-nil,
-    append_assoc, ◌≤◌, ◌⊎◌, count_by, arith}
+use Rattle.std.proofs.Common.{ℕ, true, false, ◌≡◌, ◌<◌, List, [], ◌++◌, length, ap, ◌∙◌, sym, subst, inl, inr, filter, append-nil}
+use Rattle.std.proofs.Common.{append_assoc, ◌≤◌, ◌⊎◌, count_by, arith}
 use Rattle.std.proofs.lemmas.Bool.{cases_lt}
 use Rattle.std.proofs.lemmas.List.Elements.{filter-append}
 use Rattle.ni_model.specs.State.{State}
@@ -15,8 +15,8 @@ use Rattle.plan_core.specs.Members.{In}
 use Rattle.plan_core.specs.Plan.{Plan}
 use Rattle.plan_core.specs.Sound.{AreInputsOf, SoundPlan}
 use Rattle.plan_core.specs.Values.{Inputs}
-use Rattle.cuts.proofs.histories.Fronts.{OnlyReceipts, flag-started, got-append, legal-back, legal-front, made-append, nil-left, nil-right,
-    no-answers, no-requests, nothing-behind, nothing-got, only_receipts, owned-all, same-front}
+use Rattle.cuts.proofs.histories.Fronts.{OnlyReceipts, flag-started, got-append, legal-back, legal-front, made-append, nil-left, nil-right}
+use Rattle.cuts.proofs.histories.Fronts.{no-answers, no-requests, nothing-behind, nothing-got, only_receipts, owned-all, same-front}
 use Rattle.cuts.specs.histories.History.{Beginning, Legal, Local, got, is_for, made, sent, is_start}
 use Rattle.cuts.proofs.rest.FromRest.{completes}
 use Rattle.cuts.specs.view.Calls.{prepare}
@@ -62,7 +62,7 @@ module _ (k : System) (v w : Histories) (front : (r : ℕ) → r < k.count → I
 module _ (starts : CombineStarts) (p : Plan) (inputs : Inputs) (sound : SoundPlan p (length inputs)) (fit : AreInputsOf p inputs)
     (swaps : CombineSwaps) (slots : ℕ → Slots) (v w : Histories)
     (cut : IsCut (system_of p inputs slots) w) (clean : HasNoStray (system_of p inputs slots) w)
-        (wave : IsWholeWave (system_of p inputs slots) v w) where
+    (wave : IsWholeWave (system_of p inputs slots) v w) where
   abbrev later_steps : ℕ → List Local
   later_steps r = behind (system_of p inputs slots) v w wave.front r
 
@@ -92,15 +92,17 @@ module _ (starts : CombineStarts) (p : Plan) (inputs : Inputs) (sound : SoundPla
       ((got (v d) s lane ++ got (later_steps d) s lane) ++ rest ≡ sent_by (system_of p inputs slots) v s d lane ++ sent (go s)
       (state_at (system_of p inputs slots) v s) (later_steps s) d lane)
   lane_is s d lane hs hd =
-      let x = cut.lanes s d lane hs hd in
-      (x.0, ap (λ ms. ms ++ x.0) (sym (owned-all (got (w d) s lane) (λ m i. clean d s lane m hd hs i) ∙ got_split' s d lane hd)) ∙ x.1
-          ∙ sent_split' s d lane hs)
+      let x = cut.lanes s d lane hs hd in (
+        x.0,
+        ap (λ ms. ms ++ x.0) (sym (owned-all (got (w d) s lane) (λ m i. clean d s lane m hd hs i) ∙ got_split' s d lane hd)) ∙ x.1
+            ∙ sent_split' s d lane hs,
+      )
 
   equal : (s d : ℕ) (lane : Lane) → s < p.ranks → d < p.ranks → got (v d) s lane ≡ sent_by (system_of p inputs slots) v s d lane
   equal s d lane hs hd =
       let x = lane_is s d lane hs hd in
       same-front (got (v d) s lane) (got (later_steps d) s lane ++ x.0) (sent_by (system_of p inputs slots) v s d lane)
-          (sent (go s) (state_at (system_of p inputs slots) v s) (later_steps s) d lane)
+      (sent (go s) (state_at (system_of p inputs slots) v s) (later_steps s) d lane)
       (sym (append_assoc (got (v d) s lane) (got (later_steps d) s lane) x.0) ∙ x.1) (wave.balanced s d lane hs hd)
 
   equal_owned : (s d : ℕ) (lane : Lane) → s < p.ranks → d < p.ranks → got_by v d s lane ≡ sent_by (system_of p inputs slots) v s d lane
@@ -132,7 +134,7 @@ module _ (starts : CombineStarts) (p : Plan) (inputs : Inputs) (sound : SoundPla
     | inl k ↦ (let x = lane_is s d lane k hd in
         nothing-behind (got (v d) s lane) (got (later_steps d) s lane) x.0
         (x.1 ∙ ap (λ ms. sent_by (system_of p inputs slots) v s d lane ++ ms) (none k)
-            ∙ append-nil (sent_by (system_of p inputs slots) v s d lane) ∙ sym (equal s d lane k hd)))
+        ∙ append-nil (sent_by (system_of p inputs slots) v s d lane) ∙ sym (equal s d lane k hd)))
   ]
 
   no_more_requests : (s d : ℕ) → d < p.ranks → got (later_steps d) s Request ≡ []

@@ -1,7 +1,7 @@
 -- The areas of an interface before its start: room for every message of its links, and what lies where.
-use Rattle.std.proofs.Common.{if◌then◌else◌, ℕ, zero, suc, Bool, true, false, cond, ◌+◌, ◌-◌, ◌*◌, ◌/◌, ◌%◌, ◌≡◌, ◌≤◌, ◌<◌, ◌==◌, List, [],
-    ◌∷◌, ◌++◌, refl, length, ap, ap₂, ◌∙◌, sym, subst, inl, inr, arith, map, filter, flat_map, Option, Some, None, eqb-true, eq-eqb,
-    append-nil, append_assoc, add-zero, zero-add, sum_by, length-append, zero-le}
+use Rattle.std.proofs.Common.{if◌then◌else◌, ℕ, zero, suc, Bool, true, false, cond, ◌+◌, ◌-◌, ◌*◌, ◌/◌, ◌%◌, ◌≡◌, ◌≤◌, ◌<◌, ◌==◌, List, []}
+use Rattle.std.proofs.Common.{◌∷◌, ◌++◌, refl, length, ap, ap₂, ◌∙◌, sym, subst, inl, inr, arith, map, filter, flat_map, Option, Some, None}
+use Rattle.std.proofs.Common.{eqb-true, eq-eqb, append-nil, append_assoc, add-zero, zero-add, sum_by, length-append, zero-le}
 use Rattle.std.proofs.lemmas.Bool.{ne_eqb, eqb-false, and_from}
 use Rattle.std.proofs.lemmas.List.{replicate-append-replicate, length-replicate}
 use Rattle.std.proofs.lemmas.List.Elements.{filter-append}
@@ -10,8 +10,8 @@ use Rattle.std.proofs.lemmas.Grind.{flat_map-append}
 use Rattle.op_laws.proofs.Bytes.{length-combined, length-repeated, part_all, written_all}
 use Rattle.plan_core.proofs.Flat.{part-append_left, part-append_right, written-append_left, written-append_right}
 use Rattle.plan_core.proofs.Links.{Distinct-from_to, In-from_to, from_to-In}
-use Rattle.plan_core.proofs.Lists.{Distinct-filter, In-append_right, In-filter, In-filter_cases, In-map_cases, left, length-Within,
-    length-map', without}
+use Rattle.plan_core.proofs.Lists.{Distinct-filter, In-append_right, In-filter, In-filter_cases, In-map_cases, left, length-Within}
+use Rattle.plan_core.proofs.Lists.{length-map', without}
 use Rattle.plan_core.specs.Members.{Distinct, In, Within}
 use Rattle.plan_core.specs.Plan.{Plan, all_links, cell, from_to, link}
 use Rattle.plan_core.specs.Sound.{SoundPlan}
@@ -112,7 +112,7 @@ elements-append w zero b x = ap (λ n. repeated w n x) (zero-add b)
 elements-append w (suc a) b x =
     let e : suc a + b ≡ suc (a + b) = omega arith in
     rw e (ap (λ v. little_endian w x ++ v) (elements-append w a b x)
-        ∙ sym (append_assoc (little_endian w x) (repeated w a x) (repeated w b x)))
+    ∙ sym (append_assoc (little_endian w x) (repeated w a x) (repeated w b x)))
 
 blank_as-add : (o : Option AtomicOp) (t : ElemType) (n j : ℕ) →
     ((v : AtomicOp) → o ≡ Some v → (n % bytes_of t ≡ 0) × (j % bytes_of t ≡ 0)) → blank_as o t (n + j) ≡ blank_as o t n ++ blank_as o t j
@@ -120,7 +120,7 @@ blank_as-add None t n j w = sym (replicate-append-replicate n j 0)
 blank_as-add (Some v) t n j w =
     let q = w v refl in
     ap (λ m. repeated (bytes_of t) m (start_value v t)) (whole-add t n j q.0 q.1).1
-        ∙ elements-append (bytes_of t) (n / bytes_of t) (j / bytes_of t) (start_value v t)
+    ∙ elements-append (bytes_of t) (n / bytes_of t) (j / bytes_of t) (start_value v t)
 
 length-blank_as : (o : Option AtomicOp) (t : ElemType) (n : ℕ) → ((v : AtomicOp) → o ≡ Some v → n % bytes_of t ≡ 0) →
     length (blank_as o t n) ≡ n
@@ -138,8 +138,8 @@ sum-without : {X : Type 0} (f : X → ℕ) (x : X) (ys : List X) (h : In x ys) �
 sum-without f x [] h = absurd h
 sum-without f x (y ∷ ys) (inl e) = sum_by-cons f y ys ∙ ap (λ v. f v + sum_by f ys) e
 sum-without f x (y ∷ ys) (inr h) = let i = sum-without f x ys h in let j = sum_by-cons f y ys in let k =
-                                                                                                       sum_by-cons f y (without x ys h) in
-                                                                                                       omega (arith, i, j, k)
+    sum_by-cons f y (without x ys h) in
+    omega (arith, i, j, k)
 
 pub sum-Within : {X : Type 0} (f : X → ℕ) (xs ys : List X) → Distinct xs → Within xs ys → sum_by f xs ≤ sum_by f ys
 sum-Within f [] ys d w = zero-le
@@ -183,7 +183,7 @@ module _ (p : Plan) (inputs : Inputs) (sound : SoundPlan p (length inputs)) (r :
   link-class l h =
       In-filter (λ k. has_class p k (links_to p r)) (link_class p l) (from_to 0 81)
       (In-from_to 0 81 (link_class p l) zero-le (let q = class-small (cell p (link p l).target).op (cell p (link p l).target).ty in
-          omega arith))
+      omega arith))
       (found (links_to p r) (link-comes l h))
     where
       found : (ls : List ℕ) → In l ls → has_class p (link_class p l) ls ≡ true
@@ -206,9 +206,9 @@ module _ (p : Plan) (inputs : Inputs) (sound : SoundPlan p (length inputs)) (r :
   -- a link's length is whole for its class
   pub link-whole : (k l : ℕ) → IsLinkHere p r l → link_class p l ≡ k → IsWhole k (link p l).length
   link-whole k l h e = λ o q. let same : (cell p (link p l).target).op ≡ Some o =
-                                    sym (class_op-of (cell p (link p l).target).op (cell p (link p l).target).ty) ∙ ap class_op e ∙ q in
+      sym (class_op-of (cell p (link p l).target).op (cell p (link p l).target).ty) ∙ ap class_op e ∙ q in
       let ty : class_type k ≡ (cell p (link p l).target).ty = ap class_type (sym e)
-            ∙ ap (λ v. class_type (class_of v (cell p (link p l).target).ty)) same ∙ class_type-of o (cell p (link p l).target).ty in
+      ∙ ap (λ v. class_type (class_of v (cell p (link p l).target).ty)) same ∙ class_type-of o (cell p (link p l).target).ty in
       subst (λ t. (link p l).length % bytes_of t ≡ 0) (sym ty) (atomic-whole p inputs sound r l h o same)
 
   -- ---- room
@@ -237,9 +237,9 @@ module _ (p : Plan) (inputs : Inputs) (sound : SoundPlan p (length inputs)) (r :
   filled-fits k cs h =
       subst (λ n. n ≤ area_length p r k) (sym (filled-is k cs))
       (sum-Within (λ l. (link p l).length) (filter (is_class p k) (map link_of cs)) (filter (is_class p k) (links_to p r))
-          (Distinct-filter (is_class p k) (map link_of cs) h.once)
+      (Distinct-filter (is_class p k) (map link_of cs) h.once)
       (λ l i. let q = In-filter_cases (is_class p k) l (map link_of cs) i in
-          In-filter (is_class p k) l (links_to p r) (within-links cs h l q.0) q.1))
+      In-filter (is_class p k) l (links_to p r) (within-links cs h l q.0) q.1))
 
   pub at_most-early : (cs : List Came) → MayLie p r cs → length cs ≤ length (links_to p r)
   at_most-early cs h = subst (λ n. n ≤ length (links_to p r)) (length-map' link_of cs)
@@ -264,7 +264,7 @@ module _ (p : Plan) (inputs : Inputs) (sound : SoundPlan p (length inputs)) (r :
           let w : length a.bytes % bytes_of (cell p (link p a.link).target).ty ≡ 0 = rw e (atomic-whole p inputs sound r a.link h o q) in
           let n = length-repeated o (cell p (link p a.link).target).ty (length a.bytes) w in
           length-combined o (cell p (link p a.link).target).ty (starting o (cell p (link p a.link).target).ty (length a.bytes)) a.bytes
-              (rw n w) ∙ n ∙ e
+          (rw n w) ∙ n ∙ e
 
   length-all_stored : (cs : List Came) → ((a : Came) → In a cs → IsLinkHere p r a.link × (length a.bytes ≡ (link p a.link).length)) →
       length (flat_map (stored p) cs) ≡ sum_by (λ a. (link p a.link).length) cs
@@ -272,7 +272,7 @@ module _ (p : Plan) (inputs : Inputs) (sound : SoundPlan p (length inputs)) (r :
   length-all_stored (a ∷ cs) h =
       let q = h a (inl refl) in
       length-append (stored p a) (flat_map (stored p) cs) ∙ ap₂ (λ x y. x + y) (length-stored a q.0 q.1)
-          (length-all_stored cs (λ b i. h b (inr i))) ∙ sym (sum_by-cons (λ b. (link p b.link).length) a cs)
+      (length-all_stored cs (λ b i. h b (inr i))) ∙ sym (sum_by-cons (λ b. (link p b.link).length) a cs)
 
   stored-filled : (k : ℕ) (cs : List Came) → MayLie p r cs → length (flat_map (stored p) (of_class p k cs)) ≡ filled p k cs
   stored-filled k cs h = length-all_stored (of_class p k cs) (λ a i. let q = In-filter_cases (came_class p k) a cs i in
@@ -305,14 +305,14 @@ module _ (p : Plan) (inputs : Inputs) (sound : SoundPlan p (length inputs)) (r :
   blank-next : (k : ℕ) (cs : List Came) (a : Came) → MayLie p r (cs ++ a ∷ []) → MayLie p r cs → IsLinkHere p r a.link →
       link_class p a.link ≡ k
       → blank_area k (area_length p r k - filled p k cs) ≡ blank_area k (link p a.link).length ++ blank_area k
-          (area_length p r k - filled p k (cs ++ a ∷ []))
+      (area_length p r k - filled p k (cs ++ a ∷ []))
   blank-next k cs a more h here e =
       let f = filled-push k cs a e in
       let m = filled-fits k (cs ++ a ∷ []) more in
       let q : area_length p r k - filled p k cs ≡ (link p a.link).length + (area_length p r k - filled p k (cs ++ a ∷ [])) =
-            omega (arith, f, m) in
+      omega (arith, f, m) in
       ap (blank_area k) q ∙ blank-add k (link p a.link).length (area_length p r k - filled p k (cs ++ a ∷ []))
-          (link-whole k a.link here e) (left-whole k (cs ++ a ∷ []) more)
+      (link-whole k a.link here e) (left-whole k (cs ++ a ∷ []) more)
 
   pub area-old : (k : ℕ) (cs : List Came) (a : Came) → MayLie p r (cs ++ a ∷ []) → MayLie p r cs → IsLinkHere p r a.link →
       link_class p a.link ≡ k
@@ -344,11 +344,11 @@ module _ (p : Plan) (inputs : Inputs) (sound : SoundPlan p (length inputs)) (r :
       ∙ ap (λ j. written j (stored p a) (front ++ (b ++ rest))) (sym (add-zero (filled p k cs)))
       ∙ written-append_right 0 (filled p k cs) (stored p a) front (b ++ rest) (sym (stored-filled k cs h)) (omega (arith, l, n, m))
       ∙ ap (λ v. front ++ v) (written-append_left 0 (stored p a) b rest (omega (arith, n, m))
-          ∙ ap (λ v. v ++ rest) (written_all (stored p a) b (m ∙ sym n)))
+      ∙ ap (λ v. v ++ rest) (written_all (stored p a) b (m ∙ sym n)))
       ∙ sym (append_assoc front (stored p a) rest)
       ∙ ap (λ v. v ++ rest) (ap (λ v. front ++ v) (sym (append-nil (stored p a)))
-          ∙ sym (flat_map-append (stored p) (of_class p k cs) (a ∷ []))
-          ∙ ap (flat_map (stored p)) (sym (of_class-push k cs a ∙ ap (λ t. of_class p k cs ++ cond t (a ∷ []) []) (eq-eqb _ _ e)))))
+      ∙ sym (flat_map-append (stored p) (of_class p k cs) (a ∷ []))
+      ∙ ap (flat_map (stored p)) (sym (of_class-push k cs a ∙ ap (λ t. of_class p k cs ++ cond t (a ∷ []) []) (eq-eqb _ _ e)))))
 
   -- ---- what lies at the place of a message, whatever came later
   pub area-part : (k : ℕ) (front : List Came) (a : Came) (later : List Came) → MayLie p r (front ++ a ∷ later) → MayLie p r front →
@@ -362,14 +362,14 @@ module _ (p : Plan) (inputs : Inputs) (sound : SoundPlan p (length inputs)) (r :
       let b = blank_area k (area_length p r k - filled p k (front ++ a ∷ later)) in
       let split : flat_map (stored p) (of_class p k (front ++ a ∷ later)) ≡ f ++ (stored p a ++ g) =
       ap (flat_map (stored p)) (filter-append (came_class p k) front (a ∷ later)
-          ∙ ap (λ t. of_class p k front ++ cond t (a ∷ of_class p k later) (of_class p k later)) (eq-eqb _ _ e))
+      ∙ ap (λ t. of_class p k front ++ cond t (a ∷ of_class p k later) (of_class p k later)) (eq-eqb _ _ e))
       ∙ flat_map-append (stored p) (of_class p k front) (a ∷ of_class p k later) in
       let l = length-append (stored p a) (g ++ b) in
       ap (λ v. part (filled p k front) (link p a.link).length (v ++ b)) split
       ∙ ap (part (filled p k front) (link p a.link).length) (append_assoc f (stored p a ++ g) b
-          ∙ ap (λ v. f ++ v) (append_assoc (stored p a) g b))
+      ∙ ap (λ v. f ++ v) (append_assoc (stored p a) g b))
       ∙ ap (λ j. part j (link p a.link).length (f ++ (stored p a ++ (g ++ b)))) (sym (add-zero (filled p k front)))
       ∙ part-append_right 0 (filled p k front) (link p a.link).length f (stored p a ++ (g ++ b)) (sym (stored-filled k front hf))
-          (omega (arith, l, m))
+      (omega (arith, l, m))
       ∙ part-append_left 0 (link p a.link).length (stored p a) (g ++ b) (omega (arith, m))
       ∙ part_all (link p a.link).length (stored p a) m

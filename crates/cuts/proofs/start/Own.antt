@@ -1,6 +1,6 @@
 -- The region of a rank depends on that rank's inputs alone.
-use Rattle.std.proofs.Common.{ℕ, Bool, true, false, cond, ◌≡◌, ◌+◌, ◌-◌, ◌*◌, ◌/◌, ◌%◌, ◌&&◌, nat_le, nat_lt, List, [], ◌∷◌, ◌++◌, length,
-    get_or, ap, ap₂, ◌∙◌, sym, inl, inr, arith, flat_map, refl}
+use Rattle.std.proofs.Common.{ℕ, Bool, true, false, cond, ◌≡◌, ◌+◌, ◌-◌, ◌*◌, ◌/◌, ◌%◌, ◌&&◌, nat_le, nat_lt, List, [], ◌∷◌, ◌++◌, length}
+use Rattle.std.proofs.Common.{get_or, ap, ap₂, ◌∙◌, sym, inl, inr, arith, flat_map, refl}
 use Rattle.std.proofs.lemmas.Bool.{and_parts, leb-true, ltb-true}
 use Rattle.plan_core.specs.Members.{In}
 use Rattle.plan_core.specs.Plan.{Plan, cell, own}
@@ -14,7 +14,7 @@ module _ (p : Plan) (inputs others : Inputs) (r : ℕ) (sound : SoundPlan p (len
   at_input : (i : ℕ) → i % p.ranks ≡ r → input_bytes p others i ≡ input_bytes p inputs i
   at_input i e =
       ap (λ q. get_or (get_or others (i / p.ranks) []) q []) e ∙ same (i / p.ranks)
-          ∙ ap (λ q. get_or (get_or inputs (i / p.ranks) []) q []) (sym e)
+      ∙ ap (λ q. get_or (get_or inputs (i / p.ranks) []) q []) (sym e)
 
   initial-same : (c : ℕ) → In c (own p r) → initial p others c ≡ initial p inputs c
   initial-same c i =

@@ -1,6 +1,6 @@
 -- The prepared interface of a plan is the closed form to which nothing came.
-use Rattle.std.proofs.Common.{ℕ, suc, ◌+◌, ◌-◌, ◌*◌, ◌^◌, ◌≡◌, List, [], ◌∷◌, ◌++◌, length, map, flat_map, refl, ap, ap₂, ◌∙◌, sym, arith,
-    Some, None, append-nil, add-zero}
+use Rattle.std.proofs.Common.{ℕ, suc, ◌+◌, ◌-◌, ◌*◌, ◌^◌, ◌≡◌, List, [], ◌∷◌, ◌++◌, length, map, flat_map, refl, ap, ap₂, ◌∙◌, sym, arith}
+use Rattle.std.proofs.Common.{Some, None, append-nil, add-zero}
 use Rattle.ptl_types.specs.declared.handles.Count.{Count}
 use Rattle.ni_model.specs.declared.Linked.{Linked}
 use Rattle.ni_model.specs.Tables.{Live, handle}
@@ -18,10 +18,10 @@ use Rattle.plan_calls.specs.RankOps.{rank_ops}
 use Rattle.cuts.specs.view.Slots.{Slots, done_ct}
 use Rattle.plan_calls.specs.Bits.{bits_above}
 use Rattle.cuts.specs.view.Calls.{area_entry, call_made, calls_made, fresh, prepare, whole_region}
-use Rattle.cuts.proofs.view.Installed.{placed, placed-own, placed_step, sum_step, after_counters, after_operations, cts_are, pending_are,
-    calls-append, named}
-use Rattle.plan_calls.specs.Areas.{area_length, area_start, blank_area, blank_areas, classes, has_class, links_to, areas_length,
-    region_length}
+use Rattle.cuts.proofs.view.Installed.{placed, placed-own, placed_step, sum_step, after_counters, after_operations, cts_are, pending_are}
+use Rattle.cuts.proofs.view.Installed.{calls-append, named}
+use Rattle.plan_calls.specs.Areas.{area_length, area_start, blank_area, blank_areas, classes, has_class, links_to, areas_length}
+use Rattle.plan_calls.specs.Areas.{region_length}
 use Rattle.plan_calls.specs.Limits.{limits_for}
 use Rattle.cuts.specs.start.Waiting.{area, area_linked, waiting_view}
 use Rattle.plan_core.specs.Sound.{SoundPlan}
@@ -46,8 +46,12 @@ module _ (p : Plan) (inputs : Inputs) (s : Slots) (r : ℕ) (senders : ℕ → S
   Distinct-classes = Distinct-filter (λ k. has_class p k (links_to p r)) (from_to 0 81) (Distinct-from_to 0 81)
 
   abbrev pub new_area : ℕ → ℕ → Linked
-  new_area n k = record { handle = handle (s.me n) n; running = 0; entry = area_entry (area_start p r k) (area_length p r k)
-      (bits_above k 0 * 2 ^ 16) (2 ^ 40 - 1) }
+  new_area n k = record {
+    handle = handle (s.me n) n;
+    running = 0;
+    entry = area_entry (area_start p r k) (area_length p r k)
+        (bits_above k 0 * 2 ^ 16) (2 ^ 40 - 1);
+  }
 
   -- the state while the areas are appended
   abbrev pub with_areas : List Linked → ℕ → State
@@ -81,20 +85,20 @@ module _ (p : Plan) (inputs : Inputs) (s : Slots) (r : ℕ) (senders : ℕ → S
   prepared n sound =
       let size = length-map' (area_linked p s r []) (classes p r) in
       let m : blank_areas p r ≡ flat_map (area p r []) (classes p r) = flat-same (λ k. blank_area k (area_length p r k)) (area p r [])
-            (classes p r) (λ k. ap (blank_area k) (minus_zero (area_length p r k))) in
+      (classes p r) (λ k. ap (blank_area k) (minus_zero (area_length p r k))) in
       let es : placed new_area 0 (classes p r) ≡ map (area_linked p s r []) (classes p r) =
-            placed-own new_area (classes p r) Distinct-classes in
+      placed-own new_area (classes p r) Distinct-classes in
       let n1 : 1 + length (own p r) ≡ suc (length (own p r)) = omega arith in
       let n2 : 0 + length (classes p r) ≡ length (map (area_linked p s r []) (classes p r)) = omega (arith, size) in
       let n3 : 0 + length (rank_ops p r) ≡ length (rank_ops p r) = omega arith in
       calls-append s (own p r) (map (area_call p r) (classes p r))
-          (CtDone ∷ (map CtCell (own p r) ++ (bind p r ∷ map (trigger p) (rank_ops p r)))) (with_areas [] 0)
+      (CtDone ∷ (map CtCell (own p r) ++ (bind p r ∷ map (trigger p) (rank_ops p r)))) (with_areas [] 0)
       ∙ ap (calls_made s (own p r) (CtDone ∷ (map CtCell (own p r) ++ (bind p r ∷ map (trigger p) (rank_ops p r)))))
-          (areas_are (classes p r) [] 0)
+      (areas_are (classes p r) [] 0)
       ∙ calls-append s (own p r) (map CtCell (own p r)) (bind p r ∷ map (trigger p) (rank_ops p r))
-          (with_counter (s.ct 0) (with_areas (placed new_area 0 (classes p r)) (0 + length (classes p r))))
+      (with_counter (s.ct 0) (with_areas (placed new_area 0 (classes p r)) (0 + length (classes p r))))
       ∙ ap (calls_made s (own p r) (bind p r ∷ map (trigger p) (rank_ops p r)))
-          (after_counters s (own p r) (own p r) (with_counter (s.ct 0)
-          (with_areas (placed new_area 0 (classes p r)) (0 + length (classes p r)))))
+      (after_counters s (own p r) (own p r) (with_counter (s.ct 0)
+      (with_areas (placed new_area 0 (classes p r)) (0 + length (classes p r)))))
       ∙ after_operations p s (own p r) (rank_ops p r) (named p n sound s r) _
       ∙ (λ d. made (m d) (cts_are p s r d) (es d) (pending_are p s r d) (n1 d) (n2 d) (n3 d) (sym size d))

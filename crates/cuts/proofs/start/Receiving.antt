@@ -1,10 +1,10 @@
 -- A message of a link that comes to an interface before its start lies in its class's area.
-use Rattle.std.proofs.Common.{if◌then◌else◌, ℕ, suc, true, false, cond, ◌+◌, ◌-◌, ◌*◌, ◌^◌, ◌≡◌, ◌≤◌, ◌<◌, ◌⊎◌, ◌==◌, nat_le, nat_lt, List,
-    [], ◌∷◌, ◌++◌, refl, length, ap, ap₂, ◌∙◌, sym, subst, inl, inr, arith, map, flat_map, Option, Some, None, eqb-true, eq-eqb, append-nil,
-    append_assoc, sum_by, length-append, take, take_all, le-leb}
+use Rattle.std.proofs.Common.{if◌then◌else◌, ℕ, suc, true, false, cond, ◌+◌, ◌-◌, ◌*◌, ◌^◌, ◌≡◌, ◌≤◌, ◌<◌, ◌⊎◌, ◌==◌, nat_le, nat_lt, List}
+use Rattle.std.proofs.Common.{[], ◌∷◌, ◌++◌, refl, length, ap, ap₂, ◌∙◌, sym, subst, inl, inr, arith, map, flat_map, Option, Some, None}
+use Rattle.std.proofs.Common.{eqb-true, eq-eqb, append-nil, append_assoc, sum_by, length-append, take, take_all, le-leb}
 use Rattle.std.proofs.lemmas.Bool.{ne_eqb, and_from, and_parts, cases_eq, false_from_ne_true, leb-true}
-use Rattle.ni_model.specs.Arrive.{accepted, chosen, delivered, entries_after, headers_after, judged, memory_after, new_bytes, old_bytes,
-    place, refused, request, running_after, as_found, events_after, is_over, received}
+use Rattle.ni_model.specs.Arrive.{accepted, chosen, delivered, entries_after, headers_after, judged, memory_after, new_bytes, old_bytes}
+use Rattle.ni_model.specs.Arrive.{place, refused, request, running_after, as_found, events_after, is_over, received}
 use Rattle.ni_model.specs.Headers.{allows, UnexpectedList, unexpected_list}
 use Rattle.ni_model.specs.Lists.{advance_one, fits, unlinked}
 use Rattle.ni_model.specs.State.{State, home_of, target, after_answer, after_request, delivers, parts_of}
@@ -18,8 +18,8 @@ use Rattle.ptl_types.specs.Matching.{bits_match}
 use Rattle.ptl_types.specs.declared.calls.Outcome.TheVariants.{Dropped, Overflow, Violation}
 use Rattle.ptl_types.specs.declared.entries.List.TheVariants.{Overflow as InOverflow}
 use Rattle.ptl_types.specs.declared.headers.AckRequest.TheVariants.{CtAck}
-use Rattle.cuts.proofs.view.StepArrive.{ack_as, writes-for, ack-as, atomic-whole, delivered-pair, header_as, is_put, not_answer, part-place,
-    whole-by, written-place}
+use Rattle.cuts.proofs.view.StepArrive.{ack_as, writes-for, ack-as, atomic-whole, delivered-pair, header_as, is_put, not_answer, part-place}
+use Rattle.cuts.proofs.view.StepArrive.{whole-by, written-place}
 use Rattle.std.proofs.lemmas.List.{map-append}
 use Rattle.std.specs.Prelude.{Bool}
 use Rattle.plan_core.proofs.Flat.{part-append_right, part_parts, within_flat, write_parts, written-append_right}
@@ -30,12 +30,12 @@ use Rattle.plan_core.specs.Places.{place_in, start_by}
 use Rattle.plan_core.specs.Plan.{Plan, cell, link, own}
 use Rattle.plan_core.specs.Sound.{SoundPlan}
 use Rattle.plan_core.specs.Values.{Inputs, initial}
-use Rattle.cuts.proofs.start.Areas.{Distinct-classes, MayLie, area-old, area-push, class-kept, class-small, class_op-of, class_type-of,
-    classes-small, at_most-early, filled-fits, filled-push, length-area, length-stored, link-class}
+use Rattle.cuts.proofs.start.Areas.{Distinct-classes, MayLie, area-old, area-push, class-kept, class-small, class_op-of, class_type-of}
+use Rattle.cuts.proofs.start.Areas.{classes-small, at_most-early, filled-fits, filled-push, length-area, length-stored, link-class}
 use Rattle.cuts.proofs.start.Starting.{flat-length}
 use Rattle.plan_calls.specs.Areas.{area_length, area_start, blank_area, blank_as, classes, link_class, links_to, region_length}
-use Rattle.cuts.specs.start.Waiting.{annex_of, area, area_linked, area_me, arrived_of, early_all, early_from, early_of, filled,
-    waiting_view, stored, stored_as}
+use Rattle.cuts.specs.start.Waiting.{annex_of, area, area_linked, area_me, arrived_of, early_all, early_from, early_of, filled}
+use Rattle.cuts.specs.start.Waiting.{waiting_view, stored, stored_as}
 use Rattle.cuts.specs.machine.Machine.{came}
 use Rattle.cuts.specs.machine.Seen.{Came, Seen, content}
 use Rattle.cuts.proofs.view.MatchBits.{top_bits, top_match-from, top_match-true}
@@ -116,8 +116,8 @@ module _ (p : Plan) (inputs : Inputs) (sound : SoundPlan p (length inputs)) (s :
     found-area : (k : Slots) → fits (link_header p k l) (area_linked p s r early (link_class p l)) ≡ true
     found-area k =
         and_from _ _ (and_from _ _ (bits-area k l here (link_class p l)
-            (classes-small p inputs sound r (link_class p l) (link-class p inputs sound r l here)) ∙ eq-eqb _ _ refl) refl)
-            (le-leb _ _ (let q = room in omega arith))
+        (classes-small p inputs sound r (link_class p l) (link-class p inputs sound r l here)) ∙ eq-eqb _ _ refl) refl)
+        (le-leb _ _ (let q = room in omega arith))
 
     abbrev found_area_of : Found
     found_area_of = record { list = InOverflow; linked = area_linked p s r early (link_class p l) }
@@ -128,7 +128,7 @@ module _ (p : Plan) (inputs : Inputs) (sound : SoundPlan p (length inputs)) (s :
         ap₂ (λ b (o : Option Linked). let x : Option Found = if b then as_found InOverflow o else None in x)
         (is_put (cell p (link p l).target).op)
         (find-one (fits (link_header p k l)) (area_linked p s r early) (classes p r) (link_class p l) (link-class p inputs sound r l here)
-            (found-area k) (λ j i e. fits-area k j i e))
+        (found-area k) (λ j i e. fits-area k j i e))
 
     delivered-area : (k : Slots) → delivered (area_linked p s r early (link_class p l)) (link_header p k l) ≡ (link p l).length
     delivered-area k = whole-by (cell p (link p l).target).op (cell p (link p l).target).ty (link p l).length
@@ -140,12 +140,12 @@ module _ (p : Plan) (inputs : Inputs) (sound : SoundPlan p (length inputs)) (s :
     same_new k None t e f = refl
     same_new k (Some v) t e f =
         ap (λ x. combined v (cell p (link p l).target).ty x bs)
-            (ap₂ (λ (o : Option AtomicOp) u. blank_as o u (length bs)) (class_op-of (Some v) t) (class_type-of v t))
+        (ap₂ (λ (o : Option AtomicOp) u. blank_as o u (length bs)) (class_op-of (Some v) t) (class_type-of v t))
         ∙ ap (λ u. combined v u (starting v t (length bs)) bs) f
 
     memory-area : (k : Slots) (g : Seen) → Sized p inputs g
         → memory_after (area_linked p s r early (link_class p l)) (link_message p k l bs)
-            (view (annex_of p s r early) p inputs s r g).memory ≡ (view (annex_of p s r (early ++ came l bs ∷ [])) p inputs s r g).memory
+        (view (annex_of p s r early) p inputs s r g).memory ≡ (view (annex_of p s r (early ++ came l bs ∷ [])) p inputs s r g).memory
     memory-area k g sized =
         let o = (cell p (link p l).target).op in
         let t = (cell p (link p l).target).ty in
@@ -159,7 +159,7 @@ module _ (p : Plan) (inputs : Inputs) (sound : SoundPlan p (length inputs)) (s :
         let q = area_start p r (link_class p l) + off in
         let fl = flat-length p (λ d. content p g.came d (initial p inputs d)) (own p r) (λ d i. sized d (own-In p r d i).0) in
         let lens : (j : ℕ) → In j (classes p r) → length (area p r early j) ≡ area_length p r j =
-              (λ j i. length-area p inputs sound r j early lie) in
+        (λ j i. length-area p inputs sound r j early lie) in
         let in_k = link-class p inputs sound r l here in
         let inside = within_flat (area_length p r) (area p r early) (classes p r) lens (link_class p l) in_k in
         let rm = room in
@@ -172,42 +172,42 @@ module _ (p : Plan) (inputs : Inputs) (sound : SoundPlan p (length inputs)) (s :
         ∙ area-old p inputs sound r (link_class p l) early (came l bs) more lie here refl
         ∙ ap (blank_area (link_class p l)) (sym size) in
         let new_is : new_bytes (kind_for o) (header_as p k l o) (blank_area (link_class p l) (length bs)) bs ≡ stored p (came l bs) =
-              same_new k o t refl refl in
+        same_new k o t refl refl in
         let new_length = length-stored p inputs sound r (came l bs) here size in
         ap (λ b. cond b (written (place (area_linked p s r early (link_class p l)) (link_header p k l))
-            (new_bytes (kind_for o) (link_header p k l) (old_bytes (area_linked p s r early (link_class p l)) (link_header p k l) mem)
-            (take (delivered (area_linked p s r early (link_class p l)) (link_header p k l)) bs)) mem) mem) (writes-for o)
+        (new_bytes (kind_for o) (link_header p k l) (old_bytes (area_linked p s r early (link_class p l)) (link_header p k l) mem)
+        (take (delivered (area_linked p s r early (link_class p l)) (link_header p k l)) bs)) mem) mem) (writes-for o)
         ∙ ap (λ m. written (if m == 0 then 0 else q) (new_bytes (kind_for o) (header_as p k l o) (part (if m == 0 then 0 else q) m mem)
-            (take m bs)) mem) (delivered-area k)
+        (take m bs)) mem) (delivered-area k)
         ∙ ap₂ (λ x y. written (if n == 0 then 0 else q) (new_bytes (kind_for o) (header_as p k l o) x y) mem) is_old
-            (take_all n bs (omega (arith, size)))
+        (take_all n bs (omega (arith, size)))
         ∙ ap (λ x. written (if n == 0 then 0 else q) x mem) new_is
         ∙ written-place n q (stored p (came l bs)) mem new_length
         ∙ ap (λ v. written v (stored p (came l bs)) mem) sum
         ∙ written-append_right (base + off) (region_length p r) (stored p (came l bs)) flat tail (sym fl)
-            (omega (arith, new_length, inside, rm))
+        (omega (arith, new_length, inside, rm))
         ∙ ap (λ v. flat ++ v)
         (write_parts (area_length p r) (area p r early) (area p r (early ++ came l bs ∷ [])) (classes p r)
-            (Distinct-classes p inputs sound r) lens (link_class p l) off (stored p (came l bs)) in_k (omega (arith, new_length, rm))
+        (Distinct-classes p inputs sound r) lens (link_class p l) off (stored p (came l bs)) in_k (omega (arith, new_length, rm))
         (area-push p inputs sound r (link_class p l) early (came l bs) more lie here size refl)
         (λ j i m. ap (λ cs. flat_map (stored p) cs ++ blank_area j (area_length p r j - sum_by (λ b. (link p b.link).length) cs))
-            (class-kept p inputs sound r j early (came l bs) (λ e. m (sym e)))))
+        (class-kept p inputs sound r j early (came l bs) (λ e. m (sym e)))))
 
     -- ---- entries
     area_handle : (i j : ℕ) → In i (classes p r) → In j (classes p r) → (i ≡ j → ⊥) →
         same_handle (area_me p s r i) (area_me p s r j) ≡ false
     area_handle i j h k n = let e : (place_in (classes p r) i == place_in (classes p r) j) ≡ false =
-                                  ne_eqb _ _ (λ q. n (place_in-one (classes p r) i j h k q)) in rw e refl
+        ne_eqb _ _ (λ q. n (place_in-one (classes p r) i j h k q)) in rw e refl
 
     entries-area : (k : Slots) → entries_after (area_linked p s r early (link_class p l)) (link_header p k l)
         (map (area_linked p s r early) (classes p r)) ≡ map (area_linked p s r (early ++ came l bs ∷ [])) (classes p r)
     entries-area k =
         ap (λ b. cond b (unlinked (area_me p s r (link_class p l)) (map (area_linked p s r early) (classes p r)))
-            (map (advance_one (area_me p s r (link_class p l))
-            (running_after (area_linked p s r early (link_class p l)) (link_header p k l))) (map (area_linked p s r early) (classes p r))))
+        (map (advance_one (area_me p s r (link_class p l))
+        (running_after (area_linked p s r early (link_class p l)) (link_header p k l))) (map (area_linked p s r early) (classes p r))))
         (stays (area_length p r (link_class p l) - running_after (area_linked p s r early (link_class p l)) (link_header p k l)))
         ∙ ap (λ n. map (advance_one (area_me p s r (link_class p l)) (filled p (link_class p l) early + n))
-            (map (area_linked p s r early) (classes p r))) (delivered-area k)
+        (map (area_linked p s r early) (classes p r))) (delivered-area k)
         ∙ go (classes p r) (λ j i. i)
       where
         stays : (x : ℕ) → nat_lt x 0 ≡ false
@@ -219,13 +219,13 @@ module _ (p : Plan) (inputs : Inputs) (sound : SoundPlan p (length inputs)) (s :
         one j i (inl e) = subst (λ v. advance_one (area_me p s r v) (filled p v early + (link p l).length) (area_linked p s r early j)
             ≡ area_linked p s r (early ++ came l bs ∷ []) j) e
             (ap (λ b. cond b (record (area_linked p s r early j) { running = filled p j early + (link p l).length })
-                (area_linked p s r early j)) (same_handle-refl (area_me p s r j))
+            (area_linked p s r early j)) (same_handle-refl (area_me p s r j))
             ∙ ap (λ n. record (area_linked p s r early j) { running = n }) (sym (filled-push p inputs sound r j early (came l bs) (sym e))))
         one j i (inr n) =
             ap (λ b. cond b (record (area_linked p s r early j) { running = filled p (link_class p l) early + (link p l).length })
-                (area_linked p s r early j)) (area_handle j (link_class p l) i (link-class p inputs sound r l here) n)
+            (area_linked p s r early j)) (area_handle j (link_class p l) i (link-class p inputs sound r l here) n)
             ∙ ap (λ cs. record (area_linked p s r early j) { running = sum_by (λ b. (link p b.link).length) cs })
-                (sym (class-kept p inputs sound r j early (came l bs) (λ e. n (sym e))))
+            (sym (class-kept p inputs sound r j early (came l bs) (λ e. n (sym e))))
 
         go : (js : List ℕ) → ((j : ℕ) → In j js → In j (classes p r)) →
             map (advance_one (area_me p s r (link_class p l)) (filled p (link_class p l) early + (link p l).length))
@@ -247,14 +247,22 @@ module _ (p : Plan) (inputs : Inputs) (sound : SoundPlan p (length inputs)) (s :
 
     headers-area : (senders : ℕ → Slots) → let k = senders (cell p (link p l).source).rank in
         headers_after found_area_of (link_header p k l) (unexpected_list (map (arrived_of p) (early_all p s r senders early))
-            (length (links_to p r))) ≡ unexpected_list (map (arrived_of p) (early_all p s r senders (early ++ came l bs ∷ [])))
-            (length (links_to p r))
+        (length (links_to p r))) ≡ unexpected_list (map (arrived_of p) (early_all p s r senders (early ++ came l bs ∷ [])))
+        (length (links_to p r))
     headers-area senders =
         let k = senders (cell p (link p l).source).rank in
         ap (λ n. unexpected_list (map (arrived_of p) (early_all p s r senders early) ++
-            (record { pt = 0; header = record { entry = area_me p s r (link_class p l); place =
-            if n == 0 then 0 else area_start p r (link_class p l) + filled p (link_class p l) early; delivered = n; header =
-            link_header p k l } }) ∷ []) (length (links_to p r))) (delivered-area k)
+        (record {
+          pt = 0;
+          header = record {
+            entry = area_me p s r (link_class p l);
+            place =
+                if n == 0 then 0 else area_start p r (link_class p l) + filled p (link_class p l) early;
+            delivered = n;
+            header =
+                link_header p k l;
+          };
+        }) ∷ []) (length (links_to p r))) (delivered-area k)
         ∙ ap (λ v. unexpected_list v (length (links_to p r)))
         (sym (map-append (arrived_of p) (early_all p s r senders early) (early_of p s r senders early (came l bs) ∷ []))
         ∙ ap (map (arrived_of p)) (sym (early_from-push senders [] early)))
@@ -292,7 +300,7 @@ module _ (p : Plan) (inputs : Inputs) (sound : SoundPlan p (length inputs)) (s :
 
     pub step_early : (senders : ℕ → Slots) (g : Seen) → Sized p inputs g → let k = senders (cell p (link p l).source).rank in
         target (waiting_view p inputs s r senders early g) (link_message p k l bs) ≡ delivers
-            (waiting_view p inputs s r senders (early ++ came l bs ∷ []) g) Overflow (ack_of p k l)
+        (waiting_view p inputs s r senders (early ++ came l bs ∷ []) g) Overflow (ack_of p k l)
     unfolding target request answered
     step_early senders g sized =
         let k = senders (cell p (link p l).source).rank in
@@ -301,14 +309,14 @@ module _ (p : Plan) (inputs : Inputs) (sound : SoundPlan p (length inputs)) (s :
         let o = (cell p (link p l).target).op in
         let before = map (area_linked p s r early) (classes p r) in
         ap (λ b. cond b (after_answer v (answered (home_of v) (link_message p k l bs)))
-            (after_request v (request (parts_of v) (link_message p k l bs)))) (not_answer o)
+        (after_request v (request (parts_of v) (link_message p k l bs)))) (not_answer o)
         ∙ ap (λ f. after_request v (judged (parts_of v) (link_message p k l bs) f)) (chosen-area k)
         ∙ ap₂ (λ b f. after_request v (cond b (cond f (received (parts_of v) (refused Dropped (link_header p k l)))
-            (accepted (parts_of v) (link_message p k l bs) found_area_of))
-            (received (parts_of v) (refused Violation (link_header p k l))))) (area_allows (link_class p l) o) (not_full senders)
+        (accepted (parts_of v) (link_message p k l bs) found_area_of))
+        (received (parts_of v) (refused Violation (link_header p k l))))) (area_allows (link_class p l) o) (not_full senders)
         ∙ delivered-pair _ _ Overflow _ _
         (λ d. state_as g (memory-area k g sized d) (entries-area k d) (headers-area senders d) (untold k v.eqs d)
-            ((length-map' (area_linked p s r early) (classes p r)
-            ∙ sym (length-map' (area_linked p s r (early ++ came l bs ∷ [])) (classes p r))) d))
+        ((length-map' (area_linked p s r early) (classes p r)
+        ∙ sym (length-map' (area_linked p s r (early ++ came l bs ∷ [])) (classes p r))) d))
         (ack-as p.remote (delivered x (link_header p k l)) (old_bytes x (link_header p k l) v.memory) (link_header p k l) (is_put o) refl
         ∙ ap (λ n. if p.remote then ack_as n (link_header p k l) CtAck else None) (delivered-area k))

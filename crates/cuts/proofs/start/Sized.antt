@@ -28,5 +28,5 @@ sized_took p inputs sound r l g h sized bs e d i = ap length (content-push p g.c
         let t : (link p l).target ≡ d = eqb-true _ _ q in
         let z = sized d i in
         length-land (cell p (link p l).target) (link p l).kind (link p l).target_offset bs (content p g.came d (initial p inputs d))
-            (sound.whole (link p l).target w.cells) (Lands-of p l w bs e) (z ∙ ap (λ v. (cell p v).length) (sym t))
+        (sound.whole (link p l).target w.cells) (Lands-of p l w bs e) (z ∙ ap (λ v. (cell p v).length) (sym t))
         ∙ ap (λ v. (cell p v).length) t

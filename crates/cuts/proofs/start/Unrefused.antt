@@ -1,7 +1,7 @@
 -- None of the calls of a preparation is refused.
-use Rattle.std.proofs.Common.{ℕ, suc, Bool, true, false, not, ◌&&◌, ◌||◌, ◌+◌, ◌-◌, ◌*◌, ◌^◌, ◌≡◌, ◌≤◌, ◌<◌, ◌==◌, nat_le, List, [], ◌∷◌,
-    ◌++◌, refl, length, ap, ap₂, ◌∙◌, sym, subst, inl, inr, arith, map, Option, Some, None, zero-add, if◌then◌else◌, flat_map, le-leb,
-    is_some, sum_by, length-append, append-nil, append_assoc, ◌%◌}
+use Rattle.std.proofs.Common.{ℕ, suc, Bool, true, false, not, ◌&&◌, ◌||◌, ◌+◌, ◌-◌, ◌*◌, ◌^◌, ◌≡◌, ◌≤◌, ◌<◌, ◌==◌, nat_le, List, [], ◌∷◌}
+use Rattle.std.proofs.Common.{◌++◌, refl, length, ap, ap₂, ◌∙◌, sym, subst, inl, inr, arith, map, Option, Some, None, zero-add}
+use Rattle.std.proofs.Common.{if◌then◌else◌, flat_map, le-leb, is_some, sum_by, length-append, append-nil, append_assoc, ◌%◌}
 use Rattle.std.proofs.lemmas.List.Sums.{sum_by-cons, length-filter, count_by-le-length}
 use Rattle.ptl_types.specs.declared.elements.AtomicOp.{AtomicOp}
 use Rattle.ptl_types.specs.declared.calls.TriggeredOp.{TriggeredOp}
@@ -13,8 +13,8 @@ use Rattle.ni_model.specs.Tables.{Live, lookup, is_live_or_none}
 use Rattle.ni_model.specs.Counts.{successes}
 use Rattle.ni_model.specs.Lists.{entries_in}
 use Rattle.ni_model.specs.Append.{append_fault, need, is_within}
-use Rattle.ni_model.specs.Refusals.{put_fits, holds_part, alloc_fault, bind_fault, triggered_fault, deed_fits, deed_is_live, counts_on_live,
-    deed_passes}
+use Rattle.ni_model.specs.Refusals.{put_fits, holds_part, alloc_fault, bind_fault, triggered_fault, deed_fits, deed_is_live, counts_on_live}
+use Rattle.ni_model.specs.Refusals.{deed_passes}
 use Rattle.ni_model.specs.State.{State, parts_of}
 use Rattle.ni_model.specs.Calls.{with_counter, with_bound, bound, with_index}
 use Rattle.plan_core.specs.Members.{In}
@@ -36,11 +36,11 @@ use Rattle.cuts.specs.view.Slots.{Slots, cell_ct, done_ct, the_md}
 use Rattle.plan_calls.specs.Bits.{bits_above}
 use Rattle.cuts.specs.view.View.{counter_of, Annex}
 use Rattle.cuts.specs.view.TriggeredOps.{deed_of, send_deed, send_args}
-use Rattle.plan_calls.specs.Areas.{region_length, area_length, area_start, areas_length, blank_area, blank_areas, classes, has_class,
-    links_to, longest}
+use Rattle.plan_calls.specs.Areas.{region_length, area_length, area_start, areas_length, blank_area, blank_areas, classes, has_class}
+use Rattle.plan_calls.specs.Areas.{links_to, longest}
 use Rattle.cuts.specs.view.Calls.{AllPass, MayMake, area_entry, call_fault, call_made, calls_made, deed_at, fresh}
-use Rattle.cuts.proofs.view.Installed.{named, calls-append, placed, new_ct, new_op, cts_with, operations_with, after_counters,
-    after_operations, cts_are}
+use Rattle.cuts.proofs.view.Installed.{named, calls-append, placed, new_ct, new_op, cts_with, operations_with, after_counters}
+use Rattle.cuts.proofs.view.Installed.{after_operations, cts_are}
 use Rattle.cuts.proofs.start.Prepared.{bind, whole, areas_are, new_area, with_areas}
 use Rattle.plan_calls.specs.Calls.{act_of, area_call, prepare_calls, trigger}
 use Rattle.std.proofs.lemmas.List.{map-append}
@@ -157,7 +157,7 @@ module _ (p : Plan) (inputs : Inputs) (sound : SoundPlan p (length inputs)) (fit
 
   pub area_made : (front : List ℕ) (a : ℕ) (back : List ℕ) → classes p r ≡ front ++ a ∷ back
       → append_fault 0 (area_entry (area_start p r a) (area_length p r a) (bits_above a 0 * 2 ^ 16) (2 ^ 40 - 1))
-          (parts_of (entered_for p inputs k r front)) ≡ None
+      (parts_of (entered_for p inputs k r front)) ≡ None
   area_made front a back e =
       let i : In a (classes p r) = subst (λ v. In a v) (sym e) (In-split front a back) in
       let less : length front < length (classes p r) = subst (λ v. length front < length v) (sym e) (length-split front a back) in
@@ -166,12 +166,12 @@ module _ (p : Plan) (inputs : Inputs) (sound : SoundPlan p (length inputs)) (fit
       let whole = length-append (flat_map (initial p inputs) (own p r)) (blank_areas p r) in
       let cells = region_is in
       ap (λ s. append_fault 0 (area_entry (area_start p r a) (area_length p r a) (bits_above a 0 * 2 ^ 16) (2 ^ 40 - 1)) (parts_of s))
-          (entered_is front)
+      (entered_is front)
       ∙ need4 true true _ (is_within (area_start p r a) (area_length p r a)
-          (length (flat_map (initial p inputs) (own p r) ++ blank_areas p r))) Stale Stale NoSpace OutOfRegion
+      (length (flat_map (initial p inputs) (own p r) ++ blank_areas p r))) Stale Stale NoSpace OutOfRegion
       refl refl
       (room (length (classes p r) + length (own p r)) (linked (areas front)) (0 + length front) (let x = linked_is (areas front) in
-          let y = length-placed (new_area p inputs k r (λ n. k)) 0 front in omega (arith, x, y, less)) (omega arith))
+      let y = length-placed (new_area p inputs k r (λ n. k)) 0 front in omega (arith, x, y, less)) (omega arith))
       (le-leb _ _ (omega (arith, w, whole, cells)))
     where
       linked : List Linked → ℕ
@@ -196,7 +196,7 @@ module _ (p : Plan) (inputs : Inputs) (sound : SoundPlan p (length inputs)) (fit
       ap (λ s. alloc_fault (calls_made k (own p r) (map CtCell front) (with_counter (k.ct 0) s)).cts) (entered_is (classes p r))
       ∙ ap (λ (s : State). alloc_fault s.cts) (after_counters k (own p r) front (with_counter (k.ct 0) entered_all))
       ∙ ap (λ b. need b NoSpace None) (room (length (own p r) + 1) (suc (length (placed (new_ct k) 1 front))) (1 + length front)
-          (let q = length-placed (new_ct k) 1 front in omega (arith, q, h)) (omega arith))
+      (let q = length-placed (new_ct k) 1 front in omega (arith, q, h)) (omega arith))
 
   -- ---- the state with all counters and the descriptor
   abbrev counters : List (Live Count)
@@ -210,7 +210,7 @@ module _ (p : Plan) (inputs : Inputs) (sound : SoundPlan p (length inputs)) (fit
       ap (λ s. calls_made k (own p r) (map CtCell (own p r)) (with_counter (k.ct 0) s)) (entered_is (classes p r))
       ∙ after_counters k (own p r) (own p r) (with_counter (k.ct 0) entered_all)
       ∙ ap (λ xs. cts_with (with_counter (k.ct 0) entered_all) (record { handle = done_ct k; value = successes 0 } ∷ xs)
-          (1 + length (own p r))) (cts_are p k r)
+      (1 + length (own p r))) (cts_are p k r)
 
   live_cell : (c : ℕ) → In c (own p r) → is_some (lookup (cell_ct p k c) counters) ≡ true
   live_cell c i = ap is_some (lookup_counter nothing_beside p inputs k r nothing_seen c i)
@@ -228,8 +228,8 @@ module _ (p : Plan) (inputs : Inputs) (sound : SoundPlan p (length inputs)) (fit
   descriptor_made =
       ap (λ (s : State). bind_fault (whole p k r) (length s.memory) s.cts s.eqs s.mds) counted_is
       ∙ ap₂ (λ a b. need a Stale (need b OutOfRegion None)) (live_ct p.remote)
-          (le-leb _ _ (let q = region_is in let a = areas_are_long in let w = length-append (flat_map (initial p inputs) (own p r))
-                                                                            (blank_areas p r) in omega (arith, q, a, w)))
+      (le-leb _ _ (let q = region_is in let a = areas_are_long in let w = length-append (flat_map (initial p inputs) (own p r))
+      (blank_areas p r) in omega (arith, q, a, w)))
     where
       live_ct : (b : Bool) → is_live_or_none (if b then Some (done_ct k) else None) based.cts ≡ true
       live_ct true = live_done
@@ -249,7 +249,7 @@ module _ (p : Plan) (inputs : Inputs) (sound : SoundPlan p (length inputs)) (fit
       let w = within_flat (cell_length p) (initial p inputs) (own p r) sized c i in
       let q = region_is in
       ap (λ v. is_within (start_in p (own p v) c + at) n (region_length p r + areas_length p r)) (own-In p r c i).1
-          ∙ le-leb _ _ (omega arith)
+      ∙ le-leb _ _ (omega arith)
 
   send_fits : (l : ℕ) → In l (out_links p r) → put_fits (send_args p k l) based.mds ≡ true
   send_fits l i =
@@ -258,9 +258,9 @@ module _ (p : Plan) (inputs : Inputs) (sound : SoundPlan p (length inputs)) (fit
       let up = w.rising in
       let top = w.cells in
       ap (λ b. holds_part (if b then Some (bound (whole p k r)) else None) (send_args p k l).local_offset (link p l).length)
-          (same_handle-refl (the_md k))
+      (same_handle-refl (the_md k))
       ∙ part_fits (link p l).source (link p l).source_offset (link p l).length (In-own p r (link p l).source (omega arith) q.1)
-          w.within_source
+      w.within_source
 
   -- what a deed of this rank needs
   record MayPost (w : RankOp) : Type 0 where
@@ -286,7 +286,7 @@ module _ (p : Plan) (inputs : Inputs) (sound : SoundPlan p (length inputs)) (fit
           let q = out_links-In p r l (rank_ops-along p r l i) in
           let s = sound.links_sound l q.0 in
           let t : In (link p l).target (own p r) = In-own p r (link p l).target s.cells (sym (s.bump_stays (bump_kind (link p l).kind e))
-                ∙ q.1) in
+          ∙ q.1) in
           record {
             live = ap (λ b. counts_on_live (along b) based.cts && deed_is_live (along b) based.mds) e
                 ∙ ap (λ b. b && true) (live_cell (link p l).target t);
@@ -308,7 +308,7 @@ module _ (p : Plan) (inputs : Inputs) (sound : SoundPlan p (length inputs)) (fit
 
   pub operation_made : (front : List RankOp) (w : RankOp) (back : List RankOp) → rank_ops p r ≡ front ++ w ∷ back
       → triggered_fault (deed_of p k w) (cell_ct p k (cell_of p w)) (triggered_for p inputs k r front).cts
-          (triggered_for p inputs k r front).mds (triggered_for p inputs k r front).pending ≡ None
+      (triggered_for p inputs k r front).mds (triggered_for p inputs k r front).pending ≡ None
   operation_made front w back e =
       let i : In w (rank_ops p r) = subst (λ v. In w v) (sym e) (In-split front w back) in
       let may = may_post w i in
@@ -318,11 +318,11 @@ module _ (p : Plan) (inputs : Inputs) (sound : SoundPlan p (length inputs)) (fit
       let b = few_out p r in
       let at_most = sound.few_together in
       ap (λ (s : State). triggered_fault (deed_of p k w) (cell_ct p k (cell_of p w)) s.cts s.mds s.pending)
-          (triggered_is front (λ v j. subst (λ vs. In v vs) (sym e) (In-append_left v front (w ∷ back) j)))
+      (triggered_is front (λ v j. subst (λ vs. In v vs) (sym e) (In-append_left v front (w ∷ back) j)))
       ∙ need4 _ _ _ _ Stale NoSpace OutOfRegion CountFull
       (ap₂ (λ x y. x && y) (live_cell (cell_of p w) (cell_of-own p (length inputs) sound r w i)) may.live)
       (numbers (length (out_links p r) + length (own p r)) (length (placed (new_op p k) 0 front)) (0 + length front)
-          (let q = length-placed (new_op p k) 0 front in omega (arith, q, less, size)) (omega (arith, less, size, a, b, at_most)))
+      (let q = length-placed (new_op p k) 0 front in omega (arith, q, less, size)) (omega (arith, less, size, a, b, at_most)))
       may.fits
       may.small
     where
@@ -344,8 +344,11 @@ module _ (p : Plan) (inputs : Inputs) (sound : SoundPlan p (length inputs)) (fit
       let short = longest-le (out_links p r) l i in
       let same : (link p l).length ≡ (cell p (link p l).target).length = (s.atomic_whole (s.atomic_here o e)).1 in (
         record { target_known = omega arith; short = omega arith },
-        record { whole = ap (λ n. n % bytes_of (cell p (link p l).target).ty) same ∙ sound.whole (link p l).target s.cells; at_most =
-            omega arith },
+        record {
+          whole = ap (λ n. n % bytes_of (cell p (link p l).target).ty) same ∙ sound.whole (link p l).target s.cells;
+          at_most =
+              omega arith;
+        },
       )
 
   may-make : (w : RankOp) → In w (rank_ops p r) → MayStart (deed_of p k w) p.ranks (limits_for p r)
@@ -362,8 +365,8 @@ module _ (p : Plan) (inputs : Inputs) (sound : SoundPlan p (length inputs)) (fit
   -- calls that are made for the members of a list: each passes after those of the members before it
   pass-list : {X : Type 0} (f : X → Call) (s : State) (front back : List X) (ys : List Call)
       → ((before : List X) (x : X) (after : List X) → front ++ back ≡ before ++ x ∷ after →
-          MayMake k (own p r) (f x) (calls_made k (own p r) (map f before) s) ×
-          (call_fault k (own p r) (f x) (calls_made k (own p r) (map f before) s) ≡ None))
+      MayMake k (own p r) (f x) (calls_made k (own p r) (map f before) s) ×
+      (call_fault k (own p r) (f x) (calls_made k (own p r) (map f before) s) ≡ None))
       → AllPass k (own p r) ys (calls_made k (own p r) (map f (front ++ back)) s)
       → AllPass k (own p r) (map f back ++ ys) (calls_made k (own p r) (map f front) s)
   pass-list f s front [] ys each rest = subst (λ xs. AllPass k (own p r) ys (calls_made k (own p r) (map f xs) s)) (append-nil front) rest
@@ -371,9 +374,12 @@ module _ (p : Plan) (inputs : Inputs) (sound : SoundPlan p (length inputs)) (fit
       let one = each front x back refl in
       let e = append_assoc front (x ∷ []) back in
       let more = pass-list f s (front ++ x ∷ []) back ys (λ before y after q. each before y after (sym e ∙ q))
-            (subst (λ xs. AllPass k (own p r) ys (calls_made k (own p r) (map f xs) s)) (sym e) rest) in
-      (one.0, one.1, subst (λ v. AllPass k (own p r) (map f back ++ ys) v)
-          (ap (λ xs. calls_made k (own p r) xs s) (map-append f front (x ∷ [])) ∙ calls-append k (own p r) (map f front) (f x ∷ []) s) more)
+      (subst (λ xs. AllPass k (own p r) ys (calls_made k (own p r) (map f xs) s)) (sym e) rest) in (
+        one.0,
+        one.1,
+        subst (λ v. AllPass k (own p r) (map f back ++ ys) v)
+            (ap (λ xs. calls_made k (own p r) xs s) (map-append f front (x ∷ [])) ∙ calls-append k (own p r) (map f front) (f x ∷ []) s) more,
+      )
 
   abbrev operations : List Call
   operations = map (trigger p) (rank_ops p r)
@@ -385,7 +391,7 @@ module _ (p : Plan) (inputs : Inputs) (sound : SoundPlan p (length inputs)) (fit
     where
       each : (before : List RankOp) (w : RankOp) (after : List RankOp) → rank_ops p r ≡ before ++ w ∷ after
           → MayMake k (own p r) (trigger p w) (triggered_for p inputs k r before) ×
-              (call_fault k (own p r) (trigger p w) (triggered_for p inputs k r before) ≡ None)
+          (call_fault k (own p r) (trigger p w) (triggered_for p inputs k r before) ≡ None)
       each before w after e =
           let i : In w (rank_ops p r) = subst (λ v. In w v) (sym e) (In-split before w after) in
           let n = named p (length inputs) sound k r w i in
@@ -404,12 +410,16 @@ module _ (p : Plan) (inputs : Inputs) (sound : SoundPlan p (length inputs)) (fit
       (with_counter (k.ct 0) (entered_for p inputs k r (classes p r)))
   pass_counters = pass-list CtCell (with_counter (k.ct 0) (entered_for p inputs k r (classes p r))) [] (own p r) (bind p r ∷ operations)
       (λ before c after e. (tt, counter_made before (subst (λ v. length before < length v) (sym e) (length-split before c after))))
-          pass_bound
+      pass_bound
 
   pass_done : AllPass k (own p r) (CtDone ∷ (map CtCell (own p r) ++ (bind p r ∷ operations))) (entered_for p inputs k r (classes p r))
   unfolding call_made
-  pass_done = (tt, done_made, subst (λ v. AllPass k (own p r) (map CtCell (own p r) ++ (bind p r ∷ operations)) v) (sym (given_is k))
-      pass_counters)
+  pass_done = (
+    tt,
+    done_made,
+    subst (λ v. AllPass k (own p r) (map CtCell (own p r) ++ (bind p r ∷ operations)) v) (sym (given_is k))
+        pass_counters,
+  )
     where
       given_is : (s : Slots) → with_counter (s.ct (entered_for p inputs k r (classes p r)).cts.given)
           (entered_for p inputs k r (classes p r)) ≡ with_counter (s.ct 0) (entered_for p inputs k r (classes p r))

@@ -1,6 +1,7 @@
 -- The closed form of an installed interface is the state after the calls.
-use Rattle.std.proofs.Common.{ℕ, suc, Bool, true, false, cond, not, ◌&&◌, ◌==◌, ◌+◌, ◌≡◌, List, [], ◌∷◌, ◌++◌, refl, length, ap, ap₂, ◌∙◌,
-    sym, subst, inl, inr, arith, map, filter, None, append_assoc, append-nil, min, add-zero, eq-eqb, length-append, Some}
+use Rattle.std.proofs.Common.{ℕ, suc, Bool, true, false, cond, not, ◌&&◌, ◌==◌, ◌+◌, ◌≡◌, List, [], ◌∷◌, ◌++◌, refl, length, ap, ap₂, ◌∙◌}
+use Rattle.std.proofs.Common.{sym, subst, inl, inr, arith, map, filter, None, append_assoc, append-nil, min, add-zero, eq-eqb}
+use Rattle.std.proofs.Common.{length-append, Some}
 use Rattle.std.proofs.lemmas.Bool.{ne_eqb}
 use Rattle.std.proofs.lemmas.List.{map-append}
 use Rattle.ptl_types.specs.declared.handles.Count.{Count}
@@ -77,11 +78,11 @@ placed-is f front [] d = refl
 placed-is f front (c ∷ cs) d =
     let e : (front ++ c ∷ []) ++ cs ≡ front ++ c ∷ cs = append_assoc front (c ∷ []) cs in
     let l : length (front ++ c ∷ []) ≡ suc (length front) = length-append front (c ∷ [])
-          ∙ (let q : length front + 1 ≡ suc (length front) = omega arith in q) in
+    ∙ (let q : length front + 1 ≡ suc (length front) = omega arith in q) in
     ap₂ (λ x y. x ∷ y)
     (ap (λ n. f n c) (sym (place_in-at front c cs (apart_front front c cs d))))
     (ap (λ n. placed f n cs) (sym l) ∙ placed-is f (front ++ c ∷ []) cs (subst Distinct (sym e) d)
-        ∙ ap (λ v. map (λ x. f (place_in v x) x) cs) e)
+    ∙ ap (λ v. map (λ x. f (place_in v x) x) cs) e)
 
 pub placed-own : {Y : Type 0} (f : ℕ → ℕ → Y) (cs : List ℕ) → Distinct cs → placed f 0 cs ≡ map (λ c. f (place_in cs c) c) cs
 placed-own f cs d = placed-is f [] cs d
@@ -133,14 +134,14 @@ pub record IsNamed (p : Plan) (k : Slots) (cells : List ℕ) (w : RankOp) : Type
 pub after_operations : (p : Plan) (k : Slots) (cells : List ℕ) (ws : List RankOp) → ((w : RankOp) → In w ws → IsNamed p k cells w) →
     (s : State)
     → calls_made k cells (map (trigger p) ws) s ≡ operations_with s (s.pending.waiting ++ placed (new_op p k) s.pending.given ws)
-        (s.pending.given + length ws)
+    (s.pending.given + length ws)
 unfolding call_made
 after_operations p k cells [] named s = ap₂ (operations_with s) (sym (append-nil s.pending.waiting)) (sym (add-zero s.pending.given))
 after_operations p k cells (w ∷ ws) named s =
     let n = named w (inl refl) in
     ap (calls_made k cells (map (trigger p) ws)) (ap₂ (λ d h. with_operation d h (cell p (cell_of p w)).needs s) n.deed n.ct)
     ∙ after_operations p k cells ws (λ v i. named v (inr i))
-        (with_operation (deed_of p k w) (cell_ct p k (cell_of p w)) (cell p (cell_of p w)).needs s)
+    (with_operation (deed_of p k w) (cell_ct p k (cell_of p w)) (cell p (cell_of p w)).needs s)
     ∙ ap₂ (operations_with s) (placed_step (new_op p k) s.pending.waiting s.pending.given w ws) (sum_step s.pending.given (length ws))
 
 -- so are those of a rank of a sound plan
@@ -165,7 +166,7 @@ named p n sound k r w i = record { ct = counter-is (cell_of p w) (cell_of-own p 
         let q = out_links-In p r l (rank_ops-along p r l i) in
         let s = sound.links_sound l q.0 in
         let t : In (link p l).target (own p r) = In-own p r (link p l).target s.cells (sym (s.bump_stays (bump_kind (link p l).kind e))
-              ∙ q.1) in
+        ∙ q.1) in
         rw e (ap (λ h. Inc h (successes 1)) (counter-is (link p l).target t))
     along l i false e = rw e (send-is l (cell p (link p l).target).op)
 
@@ -190,7 +191,7 @@ cts_are p k r =
     one c e =
         ap₂ (λ n v. record { handle = handle (k.ct n) n; value = v })
         (let q : 1 + place_in (own p r) c ≡ suc (place_in (own p r) c) = omega arith in q ∙ ap (λ v. suc (place_in (own p v) c)) (sym e))
-            (zero_count c)
+        (zero_count c)
 
 all_pending : (ws : List RankOp) → filter (λ w. not (was_fired [] w)) ws ≡ ws
 all_pending [] = refl
@@ -216,7 +217,7 @@ pending_are p k r =
         (map ForDone (own p r))
     tell =
         ap (λ n. placed (new_op p k) n (map ForDone (own p r))) (let l = length-map' ForLink (out_links p r) in
-            let q : 0 + length (map ForLink (out_links p r)) ≡ length (out_links p r) + 0 = omega (arith, l) in q)
+        let q : 0 + length (map ForLink (out_links p r)) ≡ length (out_links p r) + 0 = omega (arith, l) in q)
         ∙ placed-map (new_op p k) ForDone (length (out_links p r) + 0) (own p r)
         ∙ placed-shift (λ j c. new_op p k j (ForDone c)) (length (out_links p r)) 0 (own p r)
         ∙ placed-own (λ j c. new_op p k (length (out_links p r) + j) (ForDone c)) (own p r) (Distinct-own p r)

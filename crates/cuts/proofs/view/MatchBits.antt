@@ -1,6 +1,6 @@
 -- Match bits: an entry that ignores its low bits, 16 or 40 of them, matches exactly where the bits above agree.
-use Rattle.std.proofs.Common.{zero-mul, ℕ, true, ◌+◌, ◌-◌, ◌*◌, ◌/◌, ◌%◌, ◌^◌, ◌≡◌, ◌<◌, ap, ◌∙◌, sym, arith, eqb-true, eq-eqb, bit_and,
-    bit_xor, mod-lt, div-add-mod', pow_pos, shr-shr, ap₂}
+use Rattle.std.proofs.Common.{zero-mul, ℕ, true, ◌+◌, ◌-◌, ◌*◌, ◌/◌, ◌%◌, ◌^◌, ◌≡◌, ◌<◌, ap, ◌∙◌, sym, arith, eqb-true, eq-eqb, bit_and}
+use Rattle.std.proofs.Common.{bit_xor, mod-lt, div-add-mod', pow_pos, shr-shr, ap₂}
 use Rattle.std.specs.Int.{bit_at}
 use Rattle.std.specs.Int.Bits.{xor_self}
 use Rattle.std.proofs.lemmas.Nat.{xor_lt}
@@ -31,7 +31,7 @@ module _ (lo hi : ℕ) (masked : (n : ℕ) → bit_and n (2 ^ 64 - 1 - (2 ^ lo -
       (mod-lt (bit_xor a b / 2 ^ lo) (pow_pos hi)) (xor_lt hi (bits_over lo hi a) (bits_over lo hi b) (mod-lt (a / 2 ^ lo) (pow_pos hi))
       (mod-lt (b / 2 ^ lo) (pow_pos hi)))
       (λ i h. bit_at-over (bit_xor a b) i h ∙ bit_at_xor a b (lo + i) ∙ ap₂ (λ x y. (x + y) % 2) (sym (bit_at-over a i h))
-          (sym (bit_at-over b i h)) ∙ sym (bit_at_xor (bits_over lo hi a) (bits_over lo hi b) i))
+      (sym (bit_at-over b i h)) ∙ sym (bit_at_xor (bits_over lo hi a) (bits_over lo hi b) i))
 
   over-true : (a b : ℕ) → bits_match (2 ^ lo - 1) a b ≡ true → bits_over lo hi a ≡ bits_over lo hi b
   over-true a b e =

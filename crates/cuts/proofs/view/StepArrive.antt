@@ -1,7 +1,7 @@
 -- An arrival at an installed interface is a move of its plan's machine.
-use Rattle.std.proofs.Common.{ℕ, zero, suc, Bool, true, false, cond, not, ◌||◌, ◌&&◌, IsTrue, nat_lt, ◌+◌, ◌-◌, ◌*◌, ◌/◌, ◌^◌, ◌%◌, ◌≡◌,
-    ◌≤◌, ◌<◌, ◌==◌, nat_le, List, [], ◌∷◌, ◌++◌, refl, length, ap, ap₂, ◌∙◌, sym, subst, arith, map, find, Option, Some, None, eq-eqb, min,
-    le-leb, count_by, add-zero, if◌then◌else◌, take, take_all, lit<}
+use Rattle.std.proofs.Common.{ℕ, zero, suc, Bool, true, false, cond, not, ◌||◌, ◌&&◌, IsTrue, nat_lt, ◌+◌, ◌-◌, ◌*◌, ◌/◌, ◌^◌, ◌%◌, ◌≡◌}
+use Rattle.std.proofs.Common.{◌≤◌, ◌<◌, ◌==◌, nat_le, List, [], ◌∷◌, ◌++◌, refl, length, ap, ap₂, ◌∙◌, sym, subst, arith, map, find, Option}
+use Rattle.std.proofs.Common.{Some, None, eq-eqb, min, le-leb, count_by, add-zero, if◌then◌else◌, take, take_all, lit<}
 use Rattle.std.proofs.lemmas.Bool.{eqb-false, ne_eqb, and_from, and_parts, and_left, false_from_ne_true}
 use Rattle.ptl_types.specs.declared.handles.Handle.{Handle}
 use Rattle.ptl_types.specs.declared.handles.Count.{Count}
@@ -13,8 +13,8 @@ use Rattle.ptl_types.specs.declared.headers.AckRequest.{AckRequest}
 use Rattle.ptl_types.specs.declared.headers.MessageKind.{MessageKind}
 use Rattle.ptl_types.specs.Handles.{top}
 use Rattle.ptl_types.specs.Kinds.{is_answer, is_no_ack, is_put_or_atomic}
-use Rattle.ptl_types.specs.declared.headers.MessageKind.TheVariants.{Ack as AckKind, Atomic as AtomicKind, FetchAtomic as FetchAtomicKind,
-    Get as GetKind, Put as PutKind, Reply as ReplyKind, Swap as SwapKind}
+use Rattle.ptl_types.specs.declared.headers.MessageKind.TheVariants.{Ack as AckKind, Atomic as AtomicKind, FetchAtomic as FetchAtomicKind}
+use Rattle.ptl_types.specs.declared.headers.MessageKind.TheVariants.{Get as GetKind, Put as PutKind, Reply as ReplyKind, Swap as SwapKind}
 use Rattle.ptl_types.specs.declared.headers.AckRequest.TheVariants.{CtAck, NoAck}
 use Rattle.ptl_types.specs.declared.elements.AtomicOp.TheVariants.{Band, Bor, Bxor, Land, Lor, Lxor, Max, Min, Prod, Sum}
 use Rattle.ptl_types.specs.declared.elements.ElemType.TheVariants.{I16, I32, I64, I8, U16, U32, U64, U8}
@@ -34,10 +34,10 @@ use Rattle.ni_model.specs.declared.Found.{Found}
 use Rattle.ni_model.specs.Lists.{Index, index_at, fits}
 use Rattle.ni_model.specs.Headers.{allows}
 use Rattle.ni_model.specs.Events.{is_reply, asks_event, answer_event}
-use Rattle.ni_model.specs.Arrive.{or_else, as_found, choose, chosen, chosen_at, whole, delivered, place, old_bytes, new_bytes, writes,
-    memory_after, answer, ack_header, reply_header, received, refused, accepted, judged, request}
-use Rattle.ni_model.specs.Answers.{bound_at, is_due, is_awaited, one_answer, one_less, awaits_less, came_home, lost_answer, answered_at,
-    answered}
+use Rattle.ni_model.specs.Arrive.{or_else, as_found, choose, chosen, chosen_at, whole, delivered, place, old_bytes, new_bytes, writes}
+use Rattle.ni_model.specs.Arrive.{memory_after, answer, ack_header, reply_header, received, refused, accepted, judged, request}
+use Rattle.ni_model.specs.Answers.{bound_at, is_due, is_awaited, one_answer, one_less, awaits_less, came_home, lost_answer, answered_at}
+use Rattle.ni_model.specs.Answers.{answered}
 use Rattle.plan_core.specs.declared.LinkKind.{LinkKind}
 use Rattle.plan_core.specs.Plan.{Plan, cell, is_bump, link, own}
 use Rattle.plan_core.specs.declared.Cell.{Cell}
@@ -238,7 +238,7 @@ bits-job p inputs sound r l h =
     let a = sound.ranks_known (link p l).source (omega arith) in
     let b = sound.few_ranks in
     job (class_of (cell p (link p l).target).op (cell p (link p l).target).ty) (link p l).target (cell p (link p l).source).rank
-        (class-lt (cell p (link p l).target).op (cell p (link p l).target).ty) (omega arith) (omega arith)
+    (class-lt (cell p (link p l).target).op (cell p (link p l).target).ty) (omega arith) (omega arith)
   where
     job : (k c s : ℕ) → k < 256 → c < 2 ^ 24 → s < 2 ^ 16 → (bits_above k c * 2 ^ 16 + s) / 2 ^ 48 % 2 ^ 16 ≡ 1
     job k c s h i j = omega arith
@@ -253,13 +253,13 @@ module _ (annex : Annex) (quiet : IsQuiet annex) where
       let at_most = sound.few_cells in
       let t : (link p l).target < 2 ^ 24 = omega arith in
       let rank_small : (cell p (link p l).source).rank < 2 ^ 16 =
-            (let a = sound.ranks_known (link p l).source (omega arith) in let b = sound.few_ranks in omega arith) in
+      (let a = sound.ranks_known (link p l).source (omega arith) in let b = sound.few_ranks in omega arith) in
       let m : bits_match (2 ^ 16 - 1) (cell_bits p (link p l).target * 2 ^ 16 + (cell p (link p l).source).rank)
-            (cell_bits p (link p l).target * 2 ^ 16) ≡ true =
+      (cell_bits p (link p l).target * 2 ^ 16) ≡ true =
       bits_match-from _ _ (high-of (cell_bits p (link p l).target) (cell p (link p l).source).rank (cell_bits-lt p (link p l).target t)
-          rank_small ∙ sym (entry-high p (link p l).target t)) in
+      rank_small ∙ sym (entry-high p (link p l).target t)) in
       let n : nat_le (link p l).length ((cell p (link p l).target).length - (link p l).target_offset) ≡ true =
-            le-leb _ _ (let f = w.within_target in omega arith) in
+      le-leb _ _ (let f = w.within_target in omega arith) in
       and_from _ _ (and_from _ _ m refl) n
 
   only-target : (p : Plan) (inputs : Inputs) → SoundPlan p (length inputs) → (s k : Slots) (r l : ℕ) → IsLinkHere p r l → (c : ℕ) →
@@ -272,12 +272,12 @@ module _ (annex : Annex) (quiet : IsQuiet annex) where
       let t : (link p l).target < 2 ^ 24 = omega arith in
       let d : c < 2 ^ 24 = omega arith in
       let rank_small : (cell p (link p l).source).rank < 2 ^ 16 =
-            (let a = sound.ranks_known (link p l).source (omega arith) in let b = sound.few_ranks in omega arith) in
+      (let a = sound.ranks_known (link p l).source (omega arith) in let b = sound.few_ranks in omega arith) in
       let m = (and_parts _ _ (and_parts _ _ e).0).0 in
       let q = bits_match-true _ _ m in
       let x : cell_bits p (link p l).target ≡ cell_bits p c =
-            sym (high-of (cell_bits p (link p l).target) (cell p (link p l).source).rank (cell_bits-lt p (link p l).target t) rank_small)
-            ∙ q ∙ entry-high p c d in
+      sym (high-of (cell_bits p (link p l).target) (cell p (link p l).source).rank (cell_bits-lt p (link p l).target t) rank_small)
+      ∙ q ∙ entry-high p c d in
       sym (above-one _ (link p l).target _ c t d x)
 
   abbrev pub found_link : Plan → Slots → ℕ → Found
@@ -288,21 +288,21 @@ module _ (annex : Annex) (quiet : IsQuiet annex) where
   chosen-link p inputs sound s k r l g h =
       let w = sound.links_sound l h.known in
       ap (λ o. or_else (as_found Priority o) (if is_put_or_atomic (kind_for (cell p (link p l).target).op) then as_found InOverflow
-          (find (fits (link_header p k l)) annex.before) else None))
+      (find (fits (link_header p k l)) annex.before) else None))
       (find-one (fits (link_header p k l)) (entry_of annex p s) (own p r) (link p l).target (In-own p r (link p l).target w.cells h.here)
-          (fits-target p inputs sound s k r l h)
+      (fits-target p inputs sound s k r l h)
       (λ c i e. only-target p inputs sound s k r l h c (own-In p r c i).0 e))
 
   delivered-link : (p : Plan) (inputs : Inputs) → SoundPlan p (length inputs) → (s k : Slots) (r l : ℕ) → IsLinkHere p r l →
       delivered (entry_of annex p s (link p l).target) (link_header p k l) ≡ (link p l).length
   delivered-link p inputs sound s k r l h =
       whole-by (cell p (link p l).target).op (cell p (link p l).target).ty (link p l).length (link p l).target_offset
-          (cell p (link p l).target).length (sound.links_sound l h.known).within_target (atomic-whole p inputs sound r l h)
+      (cell p (link p l).target).length (sound.links_sound l h.known).within_target (atomic-whole p inputs sound r l h)
 
   pub memory-link : (p : Plan) (inputs : Inputs) → SoundPlan p (length inputs) → (s k : Slots) (r l : ℕ) (g : Seen) → IsLinkHere p r l →
       Sized p inputs g → (bs : List ℕ) → length bs ≡ (link p l).length
       → memory_after (entry_of annex p s (link p l).target) (link_message p k l bs) (view annex p inputs s r g).memory
-          ≡ (view annex p inputs s r (note p g (Took l bs))).memory
+      ≡ (view annex p inputs s r (note p g (Took l bs))).memory
   memory-link p inputs sound s k r l g h sized bs e =
       let w = sound.links_sound l h.known in
       let c = (link p l).target in
@@ -319,43 +319,43 @@ module _ (annex : Annex) (quiet : IsQuiet annex) where
       part-place (link p l).length q mem
       ∙ ap (λ v. part (start_in p (own p v) (link p l).target + (link p l).target_offset) (link p l).length mem) h.here
       ∙ part_flat (cell_length p) (λ x. content p g.came x (initial p inputs x)) (own p r) (λ x i. sized x (own-In p r x i).0)
-          (link p l).target (link p l).target_offset (link p l).length own_c fit annex.tail
+      (link p l).target (link p l).target_offset (link p l).length own_c fit annex.tail
       ∙ ap (λ n. part (link p l).target_offset n (content p g.came (link p l).target (initial p inputs (link p l).target))) (sym e) in
       let new = new_bytes (kind_for o) (header_as p k l o) old bs in
       let new_length : length new ≡ length bs = length-new p k l o old bs
-            (length-part (link p l).target_offset (length bs) (content p g.came (link p l).target (initial p inputs (link p l).target))
-            (omega arith)) (λ v i. rw e (atomic-whole p inputs sound r l h v i)) in
+      (length-part (link p l).target_offset (length bs) (content p g.came (link p l).target (initial p inputs (link p l).target))
+      (omega arith)) (λ v i. rw e (atomic-whole p inputs sound r l h v i)) in
       ap (λ b. cond b (written (place (entry_of annex p s (link p l).target) (link_header p k l))
-          (new_bytes (kind_for o) (link_header p k l) (old_bytes (entry_of annex p s (link p l).target) (link_header p k l) mem)
-          (take (delivered (entry_of annex p s (link p l).target) (link_header p k l)) bs)) mem) mem) (writes-for o)
+      (new_bytes (kind_for o) (link_header p k l) (old_bytes (entry_of annex p s (link p l).target) (link_header p k l) mem)
+      (take (delivered (entry_of annex p s (link p l).target) (link_header p k l)) bs)) mem) mem) (writes-for o)
       ∙ ap (λ n. written (if n == 0 then 0 else q) (new_bytes (kind_for o) (header_as p k l o) (part (if n == 0 then 0 else q) n mem)
-          (take n bs)) mem) d
+      (take n bs)) mem) d
       ∙ ap₂ (λ x y. written (if (link p l).length == 0 then 0 else q) (new_bytes (kind_for o) (header_as p k l o) x y) mem) is_old
-          (take_all (link p l).length bs (omega arith))
+      (take_all (link p l).length bs (omega arith))
       ∙ written-place (link p l).length q new mem (new_length ∙ e)
       ∙ ap (λ v. written (start_in p (own p v) (link p l).target + (link p l).target_offset) new mem) h.here
       ∙ write_flat (cell_length p) (λ x. content p g.came x (initial p inputs x))
-          (λ x. content p (g.came ++ came l bs ∷ []) x (initial p inputs x)) (own p r) (Distinct-own p r)
-          (λ x i. sized x (own-In p r x i).0)
+      (λ x. content p (g.came ++ came l bs ∷ []) x (initial p inputs x)) (own p r) (Distinct-own p r)
+      (λ x i. sized x (own-In p r x i).0)
       (link p l).target (link p l).target_offset new own_c (omega arith)
       (content-push p g.came (came l bs) (link p l).target (initial p inputs (link p l).target)
       ∙ ap (λ t. cond t (land p l bs (content p g.came (link p l).target (initial p inputs (link p l).target)))
-          (content p g.came (link p l).target (initial p inputs (link p l).target))) (eq-eqb (link p l).target (link p l).target refl)
+      (content p g.came (link p l).target (initial p inputs (link p l).target))) (eq-eqb (link p l).target (link p l).target refl)
       ∙ sym (land-new p k l (cell p (link p l).target) (link p l).kind o (link p l).target_offset bs
-          (content p g.came (link p l).target (initial p inputs (link p l).target)) refl refl (Lands-here p inputs sound r l h bs e)
-          h.sends))
+      (content p g.came (link p l).target (initial p inputs (link p l).target)) refl refl (Lands-here p inputs sound r l h bs e)
+      h.sends))
       (λ x i n. content-push p g.came (came l bs) x (initial p inputs x)
-          ∙ ap (λ t. cond t (land p l bs (content p g.came x (initial p inputs x))) (content p g.came x (initial p inputs x)))
-          (ne_eqb (link p l).target x (λ j. n (sym j))))
+      ∙ ap (λ t. cond t (land p l bs (content p g.came x (initial p inputs x))) (content p g.came x (initial p inputs x)))
+      (ne_eqb (link p l).target x (λ j. n (sym j))))
       annex.tail
 
   pub cts-link : (p : Plan) (inputs : Inputs) → SoundPlan p (length inputs) → (s : Slots) (r l : ℕ) (g : Seen) → IsLinkHere p r l →
       (bs : List ℕ)
       → change (cell_ct p s (link p l).target) (bump (successes 1)) (view annex p inputs s r g).cts.live
-          ≡ (view annex p inputs s r (note p g (Took l bs))).cts.live
+      ≡ (view annex p inputs s r (note p g (Took l bs))).cts.live
   cts-link p inputs sound s r l g h bs =
       cts_rise annex p inputs s r g (note p g (Took l bs)) (link p l).target
-          (In-own p r (link p l).target (sound.links_sound l h.known).cells h.here) refl
+      (In-own p r (link p l).target (sound.links_sound l h.known).cells h.here) refl
       (came-counted p r g (came l bs) (link p l).target true (eq-eqb _ _ refl))
       (λ d n. came-counted p r g (came l bs) d false (ne_eqb (link p l).target d (λ i. n (sym i))))
 
@@ -366,24 +366,24 @@ module _ (annex : Annex) (quiet : IsQuiet annex) where
   pub step_link : (p : Plan) (inputs : Inputs) → SoundPlan p (length inputs) → (s k : Slots) (r l : ℕ) (g : Seen) → IsLinkHere p r l →
       Sized p inputs g → (bs : List ℕ) → length bs ≡ (link p l).length
       → target (view annex p inputs s r g) (link_message p k l bs) ≡ delivers (view annex p inputs s r (note p g (Took l bs))) Matched
-          (ack_of p k l)
+      (ack_of p k l)
   unfolding target request answered
   step_link p inputs sound s k r l g h sized bs e =
       let o = (cell p (link p l).target).op in
       ap (λ b. cond b (after_answer (view annex p inputs s r g) (answered (home_of (view annex p inputs s r g)) (link_message p k l bs)))
-          (after_request (view annex p inputs s r g) (request (parts_of (view annex p inputs s r g)) (link_message p k l bs))))
-          (not_answer o)
+      (after_request (view annex p inputs s r g) (request (parts_of (view annex p inputs s r g)) (link_message p k l bs))))
+      (not_answer o)
       ∙ ap (λ f. after_request (view annex p inputs s r g) (judged (parts_of (view annex p inputs s r g)) (link_message p k l bs) f))
-          (chosen-link p inputs sound s k r l g h)
+      (chosen-link p inputs sound s k r l g h)
       ∙ ap (λ b. after_request (view annex p inputs s r g) (cond b
-          (accepted (parts_of (view annex p inputs s r g)) (link_message p k l bs) (found_link p s l))
-          (received (parts_of (view annex p inputs s r g)) (refused Violation (link_header p k l))))) (allowed p s (link p l).target o)
+      (accepted (parts_of (view annex p inputs s r g)) (link_message p k l bs) (found_link p s l))
+      (received (parts_of (view annex p inputs s r g)) (refused Violation (link_header p k l))))) (allowed p s (link p l).target o)
       ∙ delivered-pair _ _ Matched _ _
       (ap₂ (λ x y. record (view annex p inputs s r g) { memory = x; cts = record (view annex p inputs s r g).cts { live = y } })
-          (memory-link p inputs sound s k r l g h sized bs e) (cts-link p inputs sound s r l g h bs))
+      (memory-link p inputs sound s k r l g h sized bs e) (cts-link p inputs sound s r l g h bs))
       (ack-as p.remote (delivered (entry_of annex p s (link p l).target) (link_header p k l))
-          (old_bytes (entry_of annex p s (link p l).target) (link_header p k l) (view annex p inputs s r g).memory) (link_header p k l)
-          (is_put o) refl
+      (old_bytes (entry_of annex p s (link p l).target) (link_header p k l) (view annex p inputs s r g).memory) (link_header p k l)
+      (is_put o) refl
       ∙ ap (λ n. if p.remote then ack_as n (link_header p k l) CtAck else None) (delivered-link p inputs sound s k r l h))
 
   -- ---- a stray
@@ -409,7 +409,7 @@ module _ (annex : Annex) (quiet : IsQuiet annex) where
   none-in-cells p inputs sound s r m e = find-none (fits m.header) (map (entry_of annex p s) (own p r)) (λ x i.
       let k = In-map_cases (entry_of annex p s) x (own p r) i in
       subst (λ y. fits m.header y ≡ false) k.2 (unmatched (entry_of annex p s k.0) m.header
-          (no-match p inputs sound s m e k.0 (own-In p r k.0 k.1).0)))
+      (no-match p inputs sound s m e k.0 (own-In p r k.0 k.1).0)))
 
   none-before : (m : Sent) → (m.header.match_bits / 2 ^ 48 % 2 ^ 16 == 1) ≡ false → find (fits m.header) annex.before ≡ None
   none-before m e = find-none (fits m.header) annex.before (λ x i. unmatched x m.header (quiet.ours x i m.header e))
@@ -421,15 +421,15 @@ module _ (annex : Annex) (quiet : IsQuiet annex) where
   unfolding target request answered
   step_stray p inputs sound s r g m put quiet_ack job =
       ap (λ b. cond b (after_answer (view annex p inputs s r g) (answered (home_of (view annex p inputs s r g)) m))
-          (after_request (view annex p inputs s r g) (request (parts_of (view annex p inputs s r g)) m))) (put-no-answer m.header.kind put)
+      (after_request (view annex p inputs s r g) (request (parts_of (view annex p inputs s r g)) m))) (put-no-answer m.header.kind put)
       ∙ ap (λ f. after_request (view annex p inputs s r g) (judged (parts_of (view annex p inputs s r g)) m f))
       (one-index m.header _ m.header.pt (none-chosen m.header
-          (record { eq = None; priority = map (entry_of annex p s) (own p r); overflow = annex.before })
-          (none-in-cells p inputs sound s r m job) (none-before m job)))
+      (record { eq = None; priority = map (entry_of annex p s) (own p r); overflow = annex.before })
+      (none-in-cells p inputs sound s r m job) (none-before m job)))
       ∙ delivered-pair _ _ Dropped _ _
       (ap (λ n. record (view annex p inputs s r g) { drops = n }) (more-min g.strays top))
       (ap₂ (λ t a. if t then (if a then None else Some (message (ack_header false 0 m.header) [])) else Some
-          (message (reply_header false 0 m.header) [])) put quiet_ack)
+      (message (reply_header false 0 m.header) [])) put quiet_ack)
 
 module _ (annex : Annex) where
   pub home-md : (p : Plan) (inputs : Inputs) (s : Slots) (r : ℕ) (g : Seen) (m : Sent) → IsAckHere s m →
@@ -453,8 +453,10 @@ module _ (annex : Annex) where
 
   done-by : (p : Plan) (inputs : Inputs) (s : Slots) (r : ℕ) (g : Seen) (by : Count) (b : Bool) →
       counted (where_set b (if b then Some (done_ct s) else None)) by (view annex p inputs s r g).cts
-      ≡ record (view annex p inputs s r g).cts { live = record { handle = done_ct s; value = if b then bump by g.done else g.done } ∷ map
-      (counter_of p s r g) (own p r) }
+      ≡ record (view annex p inputs s r g).cts {
+        live = record { handle = done_ct s; value = if b then bump by g.done else g.done } ∷ map
+            (counter_of p s r g) (own p r);
+      }
   done-by p inputs s r g by false = refl
   done-by p inputs s r g by true =
       ap₂ (λ x y. record (view annex p inputs s r g).cts { live = x ∷ y })
@@ -479,17 +481,19 @@ module _ (annex : Annex) where
   unfolding target request answered
   step_ack p inputs s r g m h due =
       ap (λ t. cond t (after_answer (view annex p inputs s r g) (answered (home_of (view annex p inputs s r g)) m))
-          (after_request (view annex p inputs s r g) (request (parts_of (view annex p inputs s r g)) m))) (ap is_answer h.kind)
+      (after_request (view annex p inputs s r g) (request (parts_of (view annex p inputs s r g)) m))) (ap is_answer h.kind)
       ∙ ap (λ b. after_answer (view annex p inputs s r g) (answered_at (home_of (view annex p inputs s r g)) m b))
-          (home-md p inputs s r g m h)
+      (home-md p inputs s r g m h)
       ∙ ap (λ t. after_answer (view annex p inputs s r g) (cond t
-          (came_home (home_of (view annex p inputs s r g)) m (md_of annex p s r g.awaits))
-          (lost_answer (home_of (view annex p inputs s r g))))) due
+      (came_home (home_of (view annex p inputs s r g)) m (md_of annex p s r g.awaits))
+      (lost_answer (home_of (view annex p inputs s r g))))) due
       ∙ delivered-pair _ _ Answered None None
       ((λ d. home_state p inputs s r g m (h.kind d) (h.answered d) (h.home d))
       ∙ ap₂ (λ x y. record (view annex p inputs s r g) { cts = x; mds = y })
       (done-by p inputs s r g (one_answer m.header.ok) p.remote)
-      (ap (λ t. record (mds_of annex p s r g.awaits) { live =
-          record { handle = the_md s; value = cond t (one_less (md_of annex p s r g.awaits)) (md_of annex p s r g.awaits) } ∷ [] })
-          (same_handle-refl (the_md s))))
+      (ap (λ t. record (mds_of annex p s r g.awaits) {
+        live =
+            record { handle = the_md s; value = cond t (one_less (md_of annex p s r g.awaits)) (md_of annex p s r g.awaits) } ∷ [];
+      })
+      (same_handle-refl (the_md s))))
       refl

@@ -1,7 +1,7 @@
 -- A start and a firing of an installed interface are moves of its plan's machine.
-use Rattle.std.proofs.Common.{ℕ, suc, Bool, true, false, cond, not, ◌&&◌, ◌||◌, ◌+◌, ◌≡◌, ◌≤◌, ◌<◌, ◌==◌, nat_le, List, [], ◌∷◌, refl,
-    length, ap, ap₂, ◌∙◌, sym, subst, inl, inr, arith, map, filter, Option, Some, None, eqb-true, eq-eqb, min, count_by, zero-add,
-    if◌then◌else◌}
+use Rattle.std.proofs.Common.{ℕ, suc, Bool, true, false, cond, not, ◌&&◌, ◌||◌, ◌+◌, ◌≡◌, ◌≤◌, ◌<◌, ◌==◌, nat_le, List, [], ◌∷◌, refl}
+use Rattle.std.proofs.Common.{length, ap, ap₂, ◌∙◌, sym, subst, inl, inr, arith, map, filter, Option, Some, None, eqb-true, eq-eqb, min}
+use Rattle.std.proofs.Common.{count_by, zero-add, if◌then◌else◌}
 use Rattle.std.proofs.lemmas.Bool.{ne_eqb, leb-true, not-true}
 use Rattle.ptl_types.specs.declared.handles.Count.{Count}
 use Rattle.ptl_types.specs.declared.handles.Handle.{Handle}
@@ -19,8 +19,8 @@ use Rattle.ni_model.specs.declared.Bound.{Bound}
 use Rattle.ni_model.specs.Counts.{bump, successes, counted}
 use Rattle.ni_model.specs.Queues.{raised}
 use Rattle.ni_model.specs.Starts.{started, put_header, send_counter, send_queue, one_awaited, awaits_more, bytes_at}
-use Rattle.ni_model.specs.Ready.{Fires, fires, fired, fired_op, is_ready, is_ready_op, is_reached, is_number, posted_at, without_number,
-    done}
+use Rattle.ni_model.specs.Ready.{Fires, fires, fired, fired_op, is_ready, is_ready_op, is_reached, is_number, posted_at, without_number}
+use Rattle.ni_model.specs.Ready.{done}
 use Rattle.ni_model.specs.Events.{send_event}
 use Rattle.ptl_types.specs.declared.headers.Header.{Header}
 use Rattle.plan_core.specs.declared.LinkKind.TheVariants.{Atomic, Bump, Put}
@@ -79,7 +79,7 @@ threshold_met n m o e h =
 left_pending : (p : Plan) (s : Slots) (r : ℕ) (fired : List RankOp) (w : RankOp) → In w (rank_ops p r) → (vs : List RankOp) →
     ((v : RankOp) → In v vs → In v (rank_ops p r))
     → filter (λ q. not (is_number (number_of p r w) q)) (map (operation p s r) (filter (λ v. not (was_fired fired v)) vs)) ≡ map
-        (operation p s r) (filter (λ v. not (was_fired (w ∷ fired) v)) vs)
+    (operation p s r) (filter (λ v. not (was_fired (w ∷ fired) v)) vs)
 left_pending p s r fired w h [] sub = refl
 left_pending p s r fired w h (v ∷ vs) sub = at (was_fired fired v) (is_same_work w v) refl
     (left_pending p s r fired w h vs (λ u i. sub u (inr i)))
@@ -97,11 +97,11 @@ left_pending p s r fired w h (v ∷ vs) sub = at (was_fired fired v) (is_same_wo
 
     at : (a b : Bool) → is_same_work w v ≡ b
         → filter (λ q. not (is_number (number_of p r w) q)) (map (operation p s r) (filter (λ u. not (was_fired fired u)) vs)) ≡ map
-            (operation p s r) (filter (λ u. not (was_fired (w ∷ fired) u)) vs)
+        (operation p s r) (filter (λ u. not (was_fired (w ∷ fired) u)) vs)
         → filter (λ q. not (is_number (number_of p r w) q)) (map (operation p s r)
-            (cond (not a) (v ∷ filter (λ u. not (was_fired fired u)) vs) (filter (λ u. not (was_fired fired u)) vs))) ≡ map
-            (operation p s r) (cond (not (b || a)) (v ∷ filter (λ u. not (was_fired (w ∷ fired) u)) vs)
-            (filter (λ u. not (was_fired (w ∷ fired) u)) vs))
+        (cond (not a) (v ∷ filter (λ u. not (was_fired fired u)) vs) (filter (λ u. not (was_fired fired u)) vs))) ≡ map
+        (operation p s r) (cond (not (b || a)) (v ∷ filter (λ u. not (was_fired (w ∷ fired) u)) vs)
+        (filter (λ u. not (was_fired (w ∷ fired) u)) vs))
     at true true e rest = rest
     at true false e rest = rest
     at false true e rest = rw (same_number true e) rest
@@ -124,7 +124,7 @@ counts_stay : (p : Plan) (r : ℕ) (g k : Seen) (w : RankOp) → k.started ≡ g
     ((d : ℕ) → bumps p d w ≡ false) → (d : ℕ) → reached_count p k r d ≡ reached_count p g r d
 counts_stay p r g k w es ec ef idle d =
     ap₂ (λ x y. cond ((d == r) && x) 1 0 + y) es (ap₂ (λ x y. x + y) (ap (count_by (to_cell p d)) ec) (ap (count_by (bumps p d)) ef
-        ∙ count_same_head (bumps p d) w g.fired (idle d)))
+    ∙ count_same_head (bumps p d) w g.fired (idle d)))
 
 lookup_md : (s : Slots) (b : Bound) → lookup (the_md s) (record { handle = the_md s; value = b } ∷ []) ≡ Some b
 lookup_md s b = ap (λ t. cond t (Some b) None) (same_handle-refl (the_md s))
@@ -136,7 +136,7 @@ module _ (annex : Annex) where
   cts_rise p inputs s r g k c h same more others =
       ap₂ (λ a b. a ∷ b)
       (ap (λ v. record { handle = done_ct s; value = v }) (ap (λ b. cond b (bump (successes 1) g.done) g.done) (done_first p s c)
-          ∙ sym same))
+      ∙ sym same))
       (cell_rises p s r g k c h more others)
 
   pub step_start : (p : Plan) (inputs : Inputs) → SoundPlan p (length inputs) → (s : Slots) (r : ℕ) → r < p.ranks → (g : Seen) →
@@ -199,7 +199,7 @@ module _ (annex : Annex) where
   -- the state without the operation
   left_view : (p : Plan) (inputs : Inputs) (s : Slots) (r : ℕ) (g : Seen) (w : RankOp) → In w (rank_ops p r)
       → left (number_of p r w) (view annex p inputs s r g) ≡ with_waiting (view annex p inputs s r g)
-          (map (operation p s r) (filter (λ v. not (was_fired (w ∷ g.fired) v)) (rank_ops p r)))
+      (map (operation p s r) (filter (λ v. not (was_fired (w ∷ g.fired) v)) (rank_ops p r)))
   left_view p inputs s r g w h = ap (with_waiting (view annex p inputs s r g)) (left_pending p s r g.fired w h (rank_ops p r) (λ v i. i))
 
   fire_tell : (p : Plan) (inputs : Inputs) (s : Slots) (r : ℕ) (g : Seen) (c : ℕ) → In (ForDone c) (rank_ops p r)
@@ -212,7 +212,7 @@ module _ (annex : Annex) where
       (ap (λ b. record { handle = done_ct s; value = cond b (bump (successes 1) g.done) g.done }) (same_handle-refl (done_ct s)))
       (done_change p s (bump (successes 1)) (own p r) (λ d. successes (min (reached_count p g r d) top))
       ∙ cells_same p s r g (note_work p g (ForDone c)) (counts_stay p r g (note_work p g (ForDone c)) (ForDone c) refl refl refl
-          (λ d. refl)))))
+      (λ d. refl)))))
       refl
 
   fire_bump : (p : Plan) (inputs : Inputs) → SoundPlan p (length inputs) → (s : Slots) (r : ℕ) (g : Seen) (l : ℕ) →
@@ -222,12 +222,12 @@ module _ (annex : Annex) where
       let q = out_links-In p r l (rank_ops-along p r l h) in
       let w = sound.links_sound l q.0 in
       let own_t : In (link p l).target (own p r) = In-own p r (link p l).target w.cells (sym (w.bump_stays (bump_kind (link p l).kind b))
-            ∙ q.1) in
+      ∙ q.1) in
       ap₂ done (left_view p inputs s r g (ForLink l) h) (ap (λ v. cond v (IncDeed (cell_ct p s (link p l).target) (successes 1))
-          (send_deed p s l (cell p (link p l).target).op)) b)
+      (send_deed p s l (cell p (link p l).target).op)) b)
       ∙ fired_pair _ _ None (sent_message p inputs s g (ForLink l))
       (ap₂ (λ v n. record (view annex p inputs s r (record g { fired = ForLink l ∷ g.fired; awaits = n }))
-          { cts = record (view annex p inputs s r g).cts { live = v } })
+      { cts = record (view annex p inputs s r g).cts { live = v } })
       (cts_rise p inputs s r g (note_work p g (ForLink l)) (link p l).target own_t refl
       (risen (link p l).target (eq-eqb (link p l).target (link p l).target refl))
       (λ d n. kept d (ne_eqb (link p l).target d (λ i. n (sym i)))))
@@ -250,7 +250,7 @@ module _ (annex : Annex) where
   -- ---- a put or an atomic
   await_by : (p : Plan) (s : Slots) (r n : ℕ) (b : Bool)
       → awaits_more (if is_no_ack (if b then CtAck else NoAck) then None else Some (the_md s)) (mds_of annex p s r n) ≡ mds_of annex p s r
-          (if b then one_more n else n)
+      (if b then one_more n else n)
   await_by p s r n false = refl
   await_by p s r n true = ap (λ b. record (mds_of annex p s r n)
       { live = record { handle = the_md s; value = cond b (one_awaited (md_of annex p s r n)) (md_of annex p s r n) } ∷ [] })
@@ -258,14 +258,18 @@ module _ (annex : Annex) where
 
   -- what a start at the descriptor b does, with this header, where the descriptors are then these
   abbrev pub sent_state : State → Option Bound → Header → Table Bound → State
-  sent_state v b h mds = record v { cts = counted (send_counter b) (successes 1) v.cts; eqs =
-      raised (send_queue b) (send_event h) v.eqs; mds = mds }
+  sent_state v b h mds = record v {
+    cts = counted (send_counter b) (successes 1) v.cts;
+    eqs =
+        raised (send_queue b) (send_event h) v.eqs;
+    mds = mds;
+  }
 
   -- a start at the whole region's descriptor, which counts nothing and has no queue
   start_plain : (p : Plan) (inputs : Inputs) (s : Slots) (r : ℕ) (g : Seen) (h : Header) (vs : List Posted) →
       h.home ≡ (if is_no_ack (if p.remote then CtAck else NoAck) then None else Some (the_md s))
       → sent_state (with_waiting (view annex p inputs s r g) vs) (lookup (the_md s) (view annex p inputs s r g).mds.live) h
-          (awaits_more h.home (view annex p inputs s r g).mds)
+      (awaits_more h.home (view annex p inputs s r g).mds)
       ≡ record (with_waiting (view annex p inputs s r g) vs) { mds = mds_of annex p s r (if p.remote then one_more g.awaits else g.awaits) }
   start_plain p inputs s r g h vs e =
       ap₂ (λ (a : Option Bound) (m : Table Bound). sent_state (with_waiting (view annex p inputs s r g) vs) a h m)
@@ -275,7 +279,7 @@ module _ (annex : Annex) where
   send_bytes : (p : Plan) (inputs : Inputs) → SoundPlan p (length inputs) → (s : Slots) (r : ℕ) (g : Seen) (l : ℕ) → Sized p inputs g →
       In l (out_links p r)
       → bytes_at (lookup (the_md s) (view annex p inputs s r g).mds.live) (send_args p s l).local_offset (link p l).length
-          (view annex p inputs s r g).memory ≡ (sending p inputs g l).bytes
+      (view annex p inputs s r g).memory ≡ (sending p inputs g l).bytes
   send_bytes p inputs sound s r g l sized h =
       let q = out_links-In p r l h in
       let w = sound.links_sound l q.0 in
@@ -283,12 +287,12 @@ module _ (annex : Annex) where
       let top = w.cells in
       let fit = w.within_source in
       ap (λ b. bytes_at b (send_args p s l).local_offset (link p l).length (view annex p inputs s r g).memory)
-          (lookup_md s (md_of annex p s r g.awaits))
+      (lookup_md s (md_of annex p s r g.awaits))
       ∙ ap (λ n. part n (link p l).length (view annex p inputs s r g).memory) (zero-add (send_args p s l).local_offset)
       ∙ ap (λ v. part (start_in p (own p v) (link p l).source + (link p l).source_offset) (link p l).length
-          (view annex p inputs s r g).memory) q.1
+      (view annex p inputs s r g).memory) q.1
       ∙ part_flat (cell_length p) (λ d. content p g.came d (initial p inputs d)) (own p r) (λ d i. sized d (own-In p r d i).0)
-          (link p l).source (link p l).source_offset (link p l).length (In-own p r (link p l).source (omega arith) q.1) fit annex.tail
+      (link p l).source (link p l).source_offset (link p l).length (In-own p r (link p l).source (omega arith) q.1) fit annex.tail
 
   abbrev pub send_header : Plan → Slots → ℕ → ℕ → Option AtomicOp → Header
   send_header p s l r op = put_header r (kind_for op) (send_args p s l) op (type_for op (cell p (link p l).target).ty)
@@ -297,9 +301,9 @@ module _ (annex : Annex) where
       → done (with_waiting (view annex p inputs s r g) vs) (send_deed p s l op)
       ≡ fires
       (sent_state (with_waiting (view annex p inputs s r g) vs) (lookup (the_md s) (view annex p inputs s r g).mds.live)
-          (send_header p s l r op) (awaits_more (send_header p s l r op).home (view annex p inputs s r g).mds))
+      (send_header p s l r op) (awaits_more (send_header p s l r op).home (view annex p inputs s r g).mds))
       (Some (message (send_header p s l r op) (bytes_at (lookup (the_md s) (view annex p inputs s r g).mds.live)
-          (send_args p s l).local_offset (link p l).length (view annex p inputs s r g).memory)))
+      (send_args p s l).local_offset (link p l).length (view annex p inputs s r g).memory)))
   unfolding started
   done_send p inputs s r g l None vs = refl
   done_send p inputs s r g l (Some o) vs = refl
@@ -313,19 +317,19 @@ module _ (annex : Annex) where
       let op = (cell p (link p l).target).op in
       let ty = (cell p (link p l).target).ty in
       ap₂ done (left_view p inputs s r g (ForLink l) h) (ap (λ v. cond v (IncDeed (cell_ct p s (link p l).target) (successes 1))
-          (send_deed p s l op)) b)
+      (send_deed p s l op)) b)
       ∙ done_send p inputs s r g l op (map (operation p s r) (filter (λ v. not (was_fired (ForLink l ∷ g.fired) v)) (rank_ops p r)))
       ∙ fired_pair _ _ _ _
       (start_plain p inputs s r g (send_header p s l r op) (map (operation p s r)
-          (filter (λ v. not (was_fired (ForLink l ∷ g.fired) v)) (rank_ops p r))) refl
+      (filter (λ v. not (was_fired (ForLink l ∷ g.fired) v)) (rank_ops p r))) refl
       ∙ ap₂ (λ (n : ℕ) (cs : List (Live Count)). record (with_waiting (view annex p inputs s r g)
-          (map (operation p s r) (filter (λ v. not (was_fired (ForLink l ∷ g.fired) v)) (rank_ops p r)))) {
+      (map (operation p s r) (filter (λ v. not (was_fired (ForLink l ∷ g.fired) v)) (rank_ops p r)))) {
         cts = record (view annex p inputs s r g).cts { live = record { handle = done_ct s; value = g.done } ∷ cs };
         mds = mds_of annex p s r n;
       })
       (sym (ap (λ v. cond v g.awaits (cond p.remote (one_more g.awaits) g.awaits)) b))
       (cells_same p s r g (note_work p g (ForLink l)) (counts_stay p r g (note_work p g (ForLink l)) (ForLink l) refl refl refl
-          (λ d. ap (λ v. v && ((link p l).target == d)) b))))
+      (λ d. ap (λ v. v && ((link p l).target == d)) b))))
       (ap₂ (λ (v : ℕ) (bs : List ℕ). Some (message (send_header p s l v op) bs)) (sym q.1) (send_bytes p inputs sound s r g l sized out)
       ∙ sym (ap (λ v. cond v None (Some (link_message p s l (sending p inputs g l).bytes))) b))
 

@@ -1,6 +1,6 @@
 -- The handles, numbers, counters and entries of an installed interface.
-use Rattle.std.proofs.Common.{ℕ, suc, Bool, true, false, cond, ◌+◌, ◌-◌, ◌≡◌, ◌<◌, ◌⊎◌, ◌==◌, List, [], ◌∷◌, refl, length, ap, ap₂, ◌∙◌,
-    sym, subst, inl, inr, arith, map, find, Some, None, eqb-true, eq-eqb, min}
+use Rattle.std.proofs.Common.{ℕ, suc, Bool, true, false, cond, ◌+◌, ◌-◌, ◌≡◌, ◌<◌, ◌⊎◌, ◌==◌, List, [], ◌∷◌, refl, length, ap, ap₂, ◌∙◌}
+use Rattle.std.proofs.Common.{sym, subst, inl, inr, arith, map, find, Some, None, eqb-true, eq-eqb, min}
 use Rattle.std.proofs.lemmas.Bool.{eqb-false, ne_eqb, and_from, cases_eq}
 use Rattle.ptl_types.specs.declared.handles.Handle.{Handle}
 use Rattle.ptl_types.specs.declared.handles.Count.{Count}
@@ -57,8 +57,11 @@ number_of-one p r (ForDone c) (ForLink m) h i e = let q = place_in-lt (out_links
 bump_min : (n t : ℕ) → min n t + min 1 (t - (min n t + 0)) ≡ min (suc n) t
 bump_min n t = omega arith
 
-count-same : (a b c d : ℕ) → a ≡ b → c ≡ d → (let x : Count = record { success = a; failure = c } in x) ≡ record { success = b; failure =
-    d }
+count-same : (a b c d : ℕ) → a ≡ b → c ≡ d → (let x : Count = record { success = a; failure = c } in x) ≡ record {
+  success = b;
+  failure =
+      d;
+}
 count-same a b c d e f = ap₂ (λ x y. record { success = x; failure = y }) e f
 
 pub bump-successes : (n : ℕ) → bump (successes 1) (successes (min n top)) ≡ successes (min (suc n) top)
@@ -71,10 +74,10 @@ cell_handle p s r c d h i differ =
     let hd = (own-In p r d i).1 in
     let ne : (suc (place_in (own p (cell p c).rank) c) == suc (place_in (own p (cell p d).rank) d)) ≡ false =
     ne_eqb _ _ (λ e. differ (place_in-one (own p r) c d h i (let q : place_in (own p (cell p c).rank) c ≡ place_in (own p (cell p d).rank)
-                                                                   d = omega arith in subst
-                                                                   (λ v. place_in (own p v) c ≡ place_in (own p r) d) hc
-                                                                   (subst (λ v. place_in (own p (cell p c).rank) c ≡ place_in (own p v) d)
-                                                                   hd q)))) in
+    d = omega arith in subst
+    (λ v. place_in (own p v) c ≡ place_in (own p r) d) hc
+    (subst (λ v. place_in (own p (cell p c).rank) c ≡ place_in (own p v) d)
+    hd q)))) in
     rw ne refl
 
 pub same_handle-refl : (h : Handle) → same_handle h h ≡ true
@@ -96,18 +99,18 @@ cell_rises p s r g k c h more others = map-map-same (counter_of p s r g) (change
         ≡ counter_of p s r k d
     one d i (inl e) =
         let t : same_handle (cell_ct p s d) (cell_ct p s c) ≡ true = subst (λ v. same_handle (cell_ct p s d) (cell_ct p s v) ≡ true) e
-              (same_handle-refl (cell_ct p s d)) in
+        (same_handle-refl (cell_ct p s d)) in
         let m : reached_count p k r d ≡ suc (reached_count p g r d) = subst (λ v. reached_count p k r v ≡ suc (reached_count p g r v))
-              (sym e) more in
+        (sym e) more in
         ap (λ v. record { handle = cell_ct p s d; value = v })
-            (ap (λ b. cond b (bump (successes 1) (successes (min (reached_count p g r d) top)))
-            (successes (min (reached_count p g r d) top))) t ∙ bump-successes (reached_count p g r d)
-            ∙ ap (λ n. successes (min n top)) (sym m))
+        (ap (λ b. cond b (bump (successes 1) (successes (min (reached_count p g r d) top)))
+        (successes (min (reached_count p g r d) top))) t ∙ bump-successes (reached_count p g r d)
+        ∙ ap (λ n. successes (min n top)) (sym m))
     one d i (inr e) =
         let t = cell_handle p s r d c i h e in
         ap (λ v. record { handle = cell_ct p s d; value = v })
-            (ap (λ b. cond b (bump (successes 1) (successes (min (reached_count p g r d) top)))
-            (successes (min (reached_count p g r d) top))) t ∙ ap (λ n. successes (min n top)) (sym (others d e)))
+        (ap (λ b. cond b (bump (successes 1) (successes (min (reached_count p g r d) top)))
+        (successes (min (reached_count p g r d) top))) t ∙ ap (λ n. successes (min n top)) (sym (others d e)))
 
 pub cells_same : (p : Plan) (s : Slots) (r : ℕ) (g k : Seen) → ((d : ℕ) → reached_count p k r d ≡ reached_count p g r d) →
     map (counter_of p s r g) (own p r) ≡ map (counter_of p s r k) (own p r)
@@ -126,7 +129,7 @@ done_change p s f (c ∷ cs) h =
     let e : (suc (place_in (own p (cell p c).rank) c) == 0) ≡ false = ne_eqb _ _ (λ i. absurd (omega arith)) in
     let t : same_handle (cell_ct p s c) (done_ct s) ≡ false = rw e refl in
     ap₂ (λ a b. a ∷ b) (ap (λ v. record { handle = cell_ct p s c; value = v }) (ap (λ b. cond b (f (h c)) (h c)) t))
-        (done_change p s f cs h)
+    (done_change p s f cs h)
 
 -- a cell's counter in the table
 pub lookup_cell : (p : Plan) (s : Slots) (r : ℕ) (h : ℕ → Count) (c : ℕ) → In c (own p r) → (cs : List ℕ) →

@@ -1,6 +1,6 @@
 -- Things of the places of a fixed order, found by their counts.
-use Rattle.std.proofs.Common.{ℕ, zero, suc, ◌+◌, ◌<◌, ◌≡◌, ◌∙◌, List, refl, sym, ap, subst, inl, inr, flat_map, take, get_or, length, sum,
-    arith}
+use Rattle.std.proofs.Common.{ℕ, zero, suc, ◌+◌, ◌<◌, ◌≡◌, ◌∙◌, List, refl, sym, ap, subst, inl, inr, flat_map, take, get_or, length, sum}
+use Rattle.std.proofs.Common.{arith}
 use Rattle.std.proofs.Math.ListN.{set}
 use Rattle.std.proofs.lemmas.Bool.{cases_eq}
 use Rattle.std.proofs.lemmas.List.{ext_get_or, get_or-map, get_or-set_same, get_or-set_other, length-map, take-map}
@@ -38,7 +38,7 @@ module _ {X : Type 0} (f : ℕ → List X) (n : ℕ) where
       let here : get_or (from_to 0 n) place 0 ≡ place = get_or-from_to 0 n place 0 h ∙ omega arith in
       let front : length (flat_map f (take place (from_to 0 n))) ≡ sum (take place (counts f n)) =
       length-flat_map f (take place (from_to 0 n)) ∙ sym (ap sum (take-map (λ k. length (f k)) place (from_to 0 n))
-          ∙ sum-map (λ k. length (f k)) (take place (from_to 0 n))) in
+      ∙ sum-map (λ k. length (f k)) (take place (from_to 0 n))) in
       let c = count_at place h in
       let m = ap (λ k. length (f k)) here in
       ap (λ k. get_or (flat_map f (from_to 0 n)) k d) (sym before ∙ ap (λ k. k + rest) (sym front))

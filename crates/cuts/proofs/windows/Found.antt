@@ -1,6 +1,6 @@
 -- The possible step of a number, found by the counts of the places.
-use Rattle.std.proofs.Common.{ℕ, zero, suc, Bool, true, false, ◌∷◌, [], ◌++◌, ◌+◌, ◌-◌, ◌*◌, ◌≡◌, ◌<◌, ◌∙◌, List, refl, ap, filter,
-    flat_map, take, get_or, length, sum, count_by, nat_lt, if◌then◌else◌, length-append, arith}
+use Rattle.std.proofs.Common.{ℕ, zero, suc, Bool, true, false, ◌∷◌, [], ◌++◌, ◌+◌, ◌-◌, ◌*◌, ◌≡◌, ◌<◌, ◌∙◌, List, refl, ap, filter}
+use Rattle.std.proofs.Common.{flat_map, take, get_or, length, sum, count_by, nat_lt, if◌then◌else◌, length-append, arith}
 use Rattle.std.proofs.lemmas.List.{get_or_append_left, get_or-append_right}
 use Rattle.ptl_types.specs.Messages.{Sent}
 use Rattle.ptl_types.specs.declared.headers.Lane.{Lane}
@@ -57,7 +57,7 @@ module _ (k : System) (window : ℕ) (z : Scene) where
       let b = length-all (delivery_at k window z) (2 * (k.count * k.count)) in
       let c = length-all (fires_at k window z) k.count in
       ap length (by-places k window z) ∙ both all_starts (all_deliveries ++ all_firings)
-          ∙ omega (arith, a, b, c, both all_deliveries all_firings)
+      ∙ omega (arith, a, b, c, both all_deliveries all_firings)
     where
       both : (xs ys : List Step) → length (xs ++ ys) ≡ length xs + length ys
       both xs ys = length-append xs ys
@@ -75,7 +75,7 @@ module _ (k : System) (window : ℕ) (z : Scene) where
   pub found_delivery : (place rest i : ℕ) (d : Step) → place < 2 * (k.count * k.count) → sum (take place deliveries) + rest ≡ i →
       rest < get_or deliveries place 0 → i < sum deliveries
       → get_or (possible_steps k window z) (sum starts + i) d ≡ Deliver (source_at k.count place) (destination_at k.count place)
-          (kind_at place)
+      (kind_at place)
   found_delivery place rest i d h before within small =
       let a = length-all (start_at z) k.count in
       let b = length-all (delivery_at k window z) (2 * (k.count * k.count)) in
@@ -87,7 +87,7 @@ module _ (k : System) (window : ℕ) (z : Scene) where
       ∙ get_or_append_left all_deliveries all_firings d i (omega arith)
       ∙ listed (delivery_at k window z) (2 * (k.count * k.count)) place rest i d h before within
       ∙ only_delivery (is_possible k window z) (source_at k.count place) (destination_at k.count place) (kind_at place)
-          (z.held (source_at k.count place) (destination_at k.count place) (kind_at place)) d rest (omega arith)
+      (z.held (source_at k.count place) (destination_at k.count place) (kind_at place)) d rest (omega arith)
 
   pub found_firing : (place rest i : ℕ) (d : Step) → place < k.count → sum (take place firings) + rest ≡ i → rest < get_or firings place 0
       → get_or (possible_steps k window z) (sum starts + (sum deliveries + i)) d ≡ get_or (fires_at k window z place) rest d

@@ -1,6 +1,6 @@
 -- How much a lane holds, and how histories go on.
-use Rattle.std.proofs.Common.{ℕ, true, false, not, ◌<◌, ◌≤◌, ◌==◌, ◌∙◌, List, [], ◌∷◌, ◌++◌, Bool, refl, ap, sym, arith, length,
-    length-append, append-nil, if◌then◌else◌}
+use Rattle.std.proofs.Common.{ℕ, true, false, not, ◌<◌, ◌≤◌, ◌==◌, ◌∙◌, List, [], ◌∷◌, ◌++◌, Bool, refl, ap, sym, arith, length}
+use Rattle.std.proofs.Common.{length-append, append-nil, if◌then◌else◌}
 use Rattle.std.proofs.lemmas.List.Elements.{filter-append}
 use Rattle.ptl_types.specs.Messages.{Sent}
 use Rattle.ptl_types.specs.declared.headers.Lane.{Lane}
@@ -19,7 +19,7 @@ pub held_few : (k : System) (z : Scene) (s d : ℕ) (lane : Lane) (most : ℕ) �
     length (sent_by k z.world s d lane) ≤ most → length (owned (z.held s d lane)) ≤ most
 held_few k z s d lane most moment hs hd at_most =
     let a = ap length (sym (filter-append (λ (m : Sent). not (is_stray m)) (got (z.world d) s lane) (z.held s d lane))
-          ∙ moment.lanes s d lane hs hd) in
+    ∙ moment.lanes s d lane hs hd) in
     let b = length-append (owned (got (z.world d) s lane)) (owned (z.held s d lane)) in
     omega (arith, a, b, at_most)
 

@@ -1,6 +1,6 @@
 -- Each step that a rank may make is listed, among the enabled ones and under a window.
-use Rattle.std.proofs.Common.{eqb-true, ℕ, Bool, true, ◌≡◌, ◌<◌, nat_lt, List, [], ◌∷◌, ◌++◌, Option, Some, None, refl, length, map, filter,
-    flat_map, if◌then◌else◌, ap₂, sym, subst, inl, arith, lt-ltb, zero-le}
+use Rattle.std.proofs.Common.{eqb-true, ℕ, Bool, true, ◌≡◌, ◌<◌, nat_lt, List, [], ◌∷◌, ◌++◌, Option, Some, None, refl, length, map, filter}
+use Rattle.std.proofs.Common.{flat_map, if◌then◌else◌, ap₂, sym, subst, inl, arith, lt-ltb, zero-le}
 use Rattle.ptl_types.specs.Messages.{Sent}
 use Rattle.ptl_types.specs.declared.headers.Lane.{Lane}
 use Rattle.ptl_types.specs.declared.headers.Lane.TheVariants.{Request, Answer}
@@ -36,8 +36,8 @@ ready_listed s t e = at (posted_at t s.pending) refl e
         let g = find-In (is_number t) s.pending.waiting x q in
         let n : x.number ≡ t = eqb-true _ _ g.1 in
         In-filter (is_ready s) t (map (λ (p : Posted). p.number) s.pending.waiting)
-            (subst (λ v. In v (map (λ (p : Posted). p.number) s.pending.waiting)) n
-            (In-map (λ (p : Posted). p.number) x s.pending.waiting g.0)) e
+        (subst (λ v. In v (map (λ (p : Posted). p.number) s.pending.waiting)) n
+        (In-map (λ (p : Posted). p.number) x s.pending.waiting g.0)) e
 
 module _ (k : System) (z : Scene) where
   abbrev starts : List Step
@@ -68,7 +68,7 @@ module _ (k : System) (z : Scene) where
   enabled_listed r (Fired t) h e =
       In-append_right (Fire r t) starts (deliveries ++ firings) (In-append_right (Fire r t) deliveries firings
       (In-flat (firings_at k z) (from_to 0 k.count) r (Fire r t) (above k.count r h)
-          (In-map (Fire r) t (ready_numbers (state_at k z.world r)) (ready_listed (state_at k z.world r) t e))))
+      (In-map (Fire r) t (ready_numbers (state_at k z.world r)) (ready_listed (state_at k z.world r) t e))))
 
   -- ---- under a window
   fits : (window r : ℕ) (o : Option Sent) → HasWindow z.held window r o → finds_room window z r o ≡ true

@@ -1,6 +1,6 @@
 -- The possible steps by places are the possible steps.
-use Rattle.std.proofs.Common.{ℕ, zero, suc, Bool, true, false, ◌≡◌, ◌<◌, ◌≤◌, ◌+◌, ◌*◌, ◌/◌, ◌%◌, ◌==◌, ◌∙◌, nat_lt, List, [], ◌∷◌, ◌++◌,
-    refl, ap, ap₂, sym, arith, filter, flat_map, count_by, if◌then◌else◌, append-nil, append_assoc}
+use Rattle.std.proofs.Common.{ℕ, zero, suc, Bool, true, false, ◌≡◌, ◌<◌, ◌≤◌, ◌+◌, ◌*◌, ◌/◌, ◌%◌, ◌==◌, ◌∙◌, nat_lt, List, [], ◌∷◌, ◌++◌}
+use Rattle.std.proofs.Common.{refl, ap, ap₂, sym, arith, filter, flat_map, count_by, if◌then◌else◌, append-nil, append_assoc}
 use Rattle.std.proofs.lemmas.Grind.{flat_map-append}
 use Rattle.std.proofs.lemmas.List.Elements.{filter-append}
 use Rattle.std.proofs.lemmas.Nat.{div-mul-add, mod-mul-add}
@@ -44,11 +44,11 @@ flat-pairs f a zero = refl
 flat-pairs f a (suc n) =
     ap (λ m. flat_map f (from_to (2 * a) m)) (let q : 2 * suc n ≡ suc (suc (2 * n)) = omega arith in q)
     ∙ ap (λ y. f (2 * a) ++ y) (ap (λ c. f c ++ flat_map f (from_to (suc (suc (2 * a))) (2 * n))) (let q : suc (2 * a) ≡ 2 * a + 1 =
-                                                                                                         omega arith in q))
+    omega arith in q))
     ∙ sym (append_assoc (f (2 * a)) (f (2 * a + 1)) (flat_map f (from_to (suc (suc (2 * a))) (2 * n))))
     ∙ ap (λ y. (f (2 * a) ++ f (2 * a + 1)) ++ y) (ap (λ c. flat_map f (from_to c (2 * n))) (let q : suc (suc (2 * a)) ≡ 2 * suc a =
-                                                                                                   omega arith in q) ∙ flat-pairs f
-                                                                                                   (suc a) n)
+    omega arith in q) ∙ flat-pairs f
+    (suc a) n)
 
 -- row by row
 flat-rows : {Y : Type 0} (f : ℕ → List Y) (m n : ℕ) → flat_map f (from_to 0 (n * m)) ≡ flat_map
@@ -58,7 +58,7 @@ flat-rows {Y} f m (suc n) =
     ap (λ k. flat_map f (from_to 0 k)) (times n m)
     ∙ ap (flat_map f) (from_to-append 0 (n * m) m) ∙ flat_map-append f (from_to 0 (n * m)) (from_to (0 + n * m) m)
     ∙ ap₂ (λ x y. x ++ y) (flat-rows f m n) (ap (λ c. flat_map f (from_to c m)) (let q : 0 + n * m ≡ n * m + 0 = omega arith in q)
-        ∙ flat-shift f (n * m) 0 m)
+    ∙ flat-shift f (n * m) 0 m)
     ∙ sym (last n)
   where
     row : ℕ → List Y
@@ -75,7 +75,7 @@ flat-rows {Y} f m (suc n) =
         ∙ flat_map-append (λ s. flat_map (λ d. f (s * m + d)) (from_to 0 m)) (from_to 0 n) (from_to (0 + n) 1)
         ∙ ap (λ y. flat_map (λ s. flat_map (λ d. f (s * m + d)) (from_to 0 m)) (from_to 0 n) ++ y)
         (append-nil (flat_map (λ d. f ((0 + n) * m + d)) (from_to 0 m)) ∙ ap (λ c. flat_map (λ d. f (c * m + d)) (from_to 0 m))
-            (let q : 0 + n ≡ n = omega arith in q))
+        (let q : 0 + n ≡ n = omega arith in q))
 
 -- ---- the parts of the list
 module _ (k : System) (window : ℕ) (z : Scene) where
@@ -103,14 +103,14 @@ module _ (k : System) (window : ℕ) (z : Scene) where
           let half : 2 * x / 2 ≡ x = omega arith in
           let rest : (2 * x % 2 == 0) ≡ true = grind arith in
           ap₂ (λ i c. delivery_on k window z (i / k.count) (i % k.count) (if c then Request else Answer)) half rest
-              ∙ ap₂ (λ i j. delivery_on k window z i j Request) a b
+          ∙ ap₂ (λ i j. delivery_on k window z i j Request) a b
 
       odd : (x : ℕ) → x / k.count ≡ s → x % k.count ≡ d → delivery_at k window z (2 * x + 1) ≡ delivery_on k window z s d Answer
       odd x a b =
           let half : (2 * x + 1) / 2 ≡ x = omega arith in
           let rest : ((2 * x + 1) % 2 == 0) ≡ false = grind arith in
           ap₂ (λ i c. delivery_on k window z (i / k.count) (i % k.count) (if c then Request else Answer)) half rest
-              ∙ ap₂ (λ i j. delivery_on k window z i j Answer) a b
+          ∙ ap₂ (λ i j. delivery_on k window z i j Answer) a b
 
   deliveries-placed : flat_map (delivery_at k window z) (from_to 0 (2 * (k.count * k.count))) ≡ flat_map
       (λ s. flat_map (λ d. delivery_on k window z s d Request ++ delivery_on k window z s d Answer) (from_to 0 k.count)) (from_to 0 k.count)
@@ -125,10 +125,10 @@ module _ (k : System) (window : ℕ) (z : Scene) where
       ∙ ap₂ (λ a b. a ++ b)
       (filter-flat p (start_at z) (from_to 0 k.count) ∙ flat-same _ _ (from_to 0 k.count) starts-pass)
       (filter-append p (flat_map (λ s. flat_map (deliveries_between z s) (from_to 0 k.count)) (from_to 0 k.count))
-          (flat_map (firings_at k z) (from_to 0 k.count))
+      (flat_map (firings_at k z) (from_to 0 k.count))
       ∙ ap₂ (λ a b. a ++ b)
       (filter-flat p (λ s. flat_map (deliveries_between z s) (from_to 0 k.count)) (from_to 0 k.count)
       ∙ flat-same _ _ (from_to 0 k.count) (λ s. filter-flat p (deliveries_between z s) (from_to 0 k.count)
-          ∙ flat-same _ _ (from_to 0 k.count) (between s))
+      ∙ flat-same _ _ (from_to 0 k.count) (between s))
       ∙ sym deliveries-placed)
       (filter-flat p (firings_at k z) (from_to 0 k.count)))

@@ -227,8 +227,11 @@ none_has_passed j h is a m ha hm passed =
     (not_passed 22 refl (lit< tt)) m k r) j h is hm by)
 
 kept_where_none_has_passed : AreBarriersKept job given (λ r. slots) untouched
-kept_where_none_has_passed j h is = (none_has_passed j h is, λ k i m r a later first second here entered. absurd
-    (not_begun k i r second entered))
+kept_where_none_has_passed j h is = (
+  none_has_passed j h is,
+  λ k i m r a later first second here entered. absurd
+      (not_begun k i r second entered),
+)
 
 -- ---- what the memories hold: inputs at the first byte of each rank, and the sum behind rank 2's input and its entry
 abbrev memories : List ℕ → List ℕ → List ℕ → ℕ → List ℕ

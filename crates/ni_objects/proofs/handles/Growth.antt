@@ -1,6 +1,6 @@
 -- The list of live things as a thing is put in or taken out, and how long it is.
-use Rattle.std.proofs.Common.{◌≡◌, ℕ, zero, suc, ◌+◌, ◌<◌, true, false, List, [], ◌∷◌, ◌++◌, Option, Some, None, is_some, count_by, length,
-    get_or, cond, if◌then◌else◌, nat_lt, refl, arith, sym, ◌∙◌}
+use Rattle.std.proofs.Common.{◌≡◌, ℕ, zero, suc, ◌+◌, ◌<◌, true, false, List, [], ◌∷◌, ◌++◌, Option, Some, None, is_some, count_by, length}
+use Rattle.std.proofs.Common.{get_or, cond, if◌then◌else◌, nat_lt, refl, arith, sym, ◌∙◌}
 use Rattle.std.proofs.lemmas.List.Sums.{sum_by-cons}
 use Rattle.std.proofs.lemmas.Bool.Decides.{nat_tests}
 use Rattle.slab.specs.Slab.{Slab, get, slab_len, Updates}
@@ -21,8 +21,11 @@ module _ {A : Type 0} where
   pub length-live_from : (k : ℕ) (xs : List (Option (Stamped A))) → length (live_from k xs) ≡ count_by is_some xs
   length-live_from k [] = refl
   length-live_from k (None ∷ xs) = length-live_from (k + 1) xs
-  length-live_from k (Some x ∷ xs) = omega (arith, length-live_from (k + 1) xs,
-      sum_by-cons (λ (o : Option (Stamped A)). cond (is_some o) 1 0) (Some x) xs)
+  length-live_from k (Some x ∷ xs) = omega (
+    arith,
+    length-live_from (k + 1) xs,
+    sum_by-cons (λ (o : Option (Stamped A)). cond (is_some o) 1 0) (Some x) xs,
+  )
 
   pub length-table_of : (s : Slab (Stamped A)) (n m : ℕ) (t : Table A) → table_of s n m ≡ t → length t.live ≡ slab_len s
   length-table_of s n m t is = rw (← is) (length-by_stamp (live_from 0 s.slots) ∙ length-live_from 0 s.slots)
@@ -106,13 +109,13 @@ module _ {A : Type 0} where
   live_from-put k zero w (None ∷ xs) (y ∷ ys) below p =
       let e : y ≡ Some w = p.after in
       let r : live_from (k + 1) ys ≡ live_from (k + 1) xs = live_from-same (k + 1) xs ys
-            (λ e. p.others (suc e) (λ same. omega (arith, same))) in
+      (λ e. p.others (suc e) (λ same. omega (arith, same))) in
       let z : live_at (k + 0) w ≡ live_at k w = grind arith in
       rw (e, r, z) (put_in-last (live_at k w) (by_stamp (live_from (k + 1) xs))
-          (AllOlder-by_stamp w.stamp _ (AllOlder-live_from w.stamp (k + 1) xs (λ e. below (suc e)))))
+      (AllOlder-by_stamp w.stamp _ (AllOlder-live_from w.stamp (k + 1) xs (λ e. below (suc e)))))
   live_from-put k (suc d) w [] (None ∷ ys) below p =
       let r = live_from-put (k + 1) d w [] ys (λ e x is. below (suc e) x is)
-            (record { before = refl; after = p.after; others = λ e ne. p.others (suc e) (λ same. ne (omega arith)) }) in
+      (record { before = refl; after = p.after; others = λ e ne. p.others (suc e) (λ same. ne (omega arith)) }) in
       let z : (k + 1) + d ≡ k + suc d = omega arith in
       rw (← z) r
   live_from-put k (suc d) w [] (Some y ∷ ys) below p = let e : Some y ≡ None = p.others 0 (λ same. omega (arith, same)) in cc
@@ -134,6 +137,6 @@ module _ {A : Type 0} where
       StampsBelow w.stamp s.slots → get s d ≡ None → Updates s r d (Some w) → table_of r (w.stamp + 1) m ≡ with_new d w.value t
   table-put d w s r m t is below vacant u =
       let e : by_stamp (live_from 0 r.slots) ≡ by_stamp (live_from 0 s.slots) ++ live_at (0 + d) w ∷ [] =
-            live_from-put 0 d w s.slots r.slots below (record { before = vacant; after = u.changed; others = u.others }) in
+      live_from-put 0 d w s.slots r.slots below (record { before = vacant; after = u.changed; others = u.others }) in
       let z : 0 + d ≡ d = omega arith in
       rw (← is, e, z) refl

@@ -1,6 +1,6 @@
 -- The list of live things as one is taken out.
-use Rattle.std.proofs.Common.{◌≡◌, ℕ, zero, suc, ◌+◌, ◌<◌, ◌≤◌, Bool, true, false, not, List, [], ◌∷◌, Option, Some, None, filter, get_or,
-    set, if◌then◌else◌, nat_lt, refl, arith}
+use Rattle.std.proofs.Common.{◌≡◌, ℕ, zero, suc, ◌+◌, ◌<◌, ◌≤◌, Bool, true, false, not, List, [], ◌∷◌, Option, Some, None, filter, get_or}
+use Rattle.std.proofs.Common.{set, if◌then◌else◌, nat_lt, refl, arith}
 use Rattle.std.proofs.lemmas.Bool.Decides.{nat_tests}
 use Rattle.slab.specs.Slab.{Slab, get}
 use Rattle.ni_objects.specs.declared.handles.Stamped.{Stamped}
@@ -43,7 +43,7 @@ module _ {A : Type 0} where
   Rising-put_in x [] r = (tt, tt)
   Rising-put_in x (y ∷ ys) r =
       elim (nat_lt y.handle.stamp x.handle.stamp) as (λ b. nat_lt y.handle.stamp x.handle.stamp ≡ b →
-          Rising (if b then y ∷ put_in x ys else x ∷ y ∷ ys)) [
+      Rising (if b then y ∷ put_in x ys else x ∷ y ∷ ys)) [
         | true ↦ λ e. (NoneOlder-put_in y.handle.stamp x ys (is_below _ _ e) r.0, Rising-put_in x ys r.1)
         | false ↦ λ e. ((is_above _ _ e, NoneOlder-weaker x.handle.stamp y.handle.stamp ys (is_above _ _ e) r.0), r)
       ] refl
@@ -69,12 +69,12 @@ module _ {A : Type 0} where
   filter-put_in p x [] r = refl
   filter-put_in p x (y ∷ ys) r =
       elim (nat_lt y.handle.stamp x.handle.stamp) as (λ b. nat_lt y.handle.stamp x.handle.stamp ≡ b →
-          filter p (if b then y ∷ put_in x ys else x ∷ y ∷ ys) ≡ (if p x then put_in x (filter p (y ∷ ys)) else filter p (y ∷ ys))) [
+      filter p (if b then y ∷ put_in x ys else x ∷ y ∷ ys) ≡ (if p x then put_in x (filter p (y ∷ ys)) else filter p (y ∷ ys))) [
         | true ↦ λ e. grind (arith, filter-put_in p x ys r.1, e)
         | false ↦ λ e. let f : put_in x (filter p (y ∷ ys)) ≡ x ∷ filter p (y ∷ ys) =
-                             put_in-first x (filter p (y ∷ ys))
-                             (NoneOlder-filter x.handle.stamp p (y ∷ ys)
-                             (is_above _ _ e, NoneOlder-weaker x.handle.stamp y.handle.stamp ys (is_above _ _ e) r.0)) in rw f refl
+            put_in-first x (filter p (y ∷ ys))
+            (NoneOlder-filter x.handle.stamp p (y ∷ ys)
+            (is_above _ _ e, NoneOlder-weaker x.handle.stamp y.handle.stamp ys (is_above _ _ e) r.0)) in rw f refl
       ] refl
 
   pub filter-by_stamp : (p : Live A → Bool) (xs : List (Live A)) → filter p (by_stamp xs) ≡ by_stamp (filter p xs)
@@ -103,5 +103,5 @@ module _ {A : Type 0} where
   table-without h s r n m t x is at same slots =
       let e : get s h.slot ≡ Some (record { stamp = h.stamp; value = x.value }) = grind arith in
       let a : live_from 0 (set s.slots h.slot None) ≡ filter (keep h) (live_from 0 s.slots) =
-            live_from-drop h 0 h.slot s.slots x.value (omega arith) e in
+      live_from-drop h 0 h.slot s.slots x.value (omega arith) e in
       rw (← is, slots, a, ← filter-by_stamp (keep h) (live_from 0 s.slots)) refl

@@ -1,6 +1,6 @@
 -- Whether a live thing has a slot, and what each live thing is.
-use Rattle.std.proofs.Common.{◌≡◌, ℕ, zero, suc, ◌+◌, ◌<◌, false, List, [], ◌∷◌, Option, Some, None, true, nat_lt, if◌then◌else◌, is_some,
-    get_or, refl, ap, arith, ◌∙◌}
+use Rattle.std.proofs.Common.{◌≡◌, ℕ, zero, suc, ◌+◌, ◌<◌, false, List, [], ◌∷◌, Option, Some, None, true, nat_lt, if◌then◌else◌, is_some}
+use Rattle.std.proofs.Common.{get_or, refl, ap, arith, ◌∙◌}
 use Rattle.std.specs.Prelude.{All}
 use Rattle.std.proofs.lemmas.Bool.Decides.{nat_tests}
 use Rattle.std.proofs.lemmas.List.Elements.{All-head, All-tail, All-cons, All-nil}
@@ -67,7 +67,7 @@ module _ {A : Type 0} where
       All P t.live
   all-table P s n m t is each =
       rw (← is) (all-by_stamp P (live_from 0 s.slots) (all-live_from P 0 s.slots (λ d x at. let e : 0 + d ≡ d = omega arith in
-          rw e (each d x at))))
+      rw e (each d x at))))
 
   -- the things at one slot are one
   pub only-table : (s : Slab (Stamped A)) (n m slot : ℕ) (t : Table A) (v : Stamped A) → table_of s n m ≡ t → get s slot ≡ Some v →

@@ -1,6 +1,6 @@
 -- The list of live things is read and changed as the slots are.
-use Rattle.std.proofs.Common.{◌≡◌, ℕ, zero, suc, ◌+◌, ◌<◌, ◌==◌, List, [], ◌∷◌, Option, Bool, false, Some, None, IsSome, IsTrue, ◌↔◌, ◌∙◌,
-    get_or, set, if◌then◌else◌, refl, ap, sym, arith}
+use Rattle.std.proofs.Common.{◌≡◌, ℕ, zero, suc, ◌+◌, ◌<◌, ◌==◌, List, [], ◌∷◌, Option, Bool, false, Some, None, IsSome, IsTrue, ◌↔◌, ◌∙◌}
+use Rattle.std.proofs.Common.{get_or, set, if◌then◌else◌, refl, ap, sym, arith}
 use Rattle.std.proofs.lemmas.Bool.Decides.{nat_tests}
 use Rattle.slab.specs.Slab.{Slab, get, with_value}
 use Rattle.ni_objects.specs.declared.handles.Stamped.{Stamped}
@@ -85,7 +85,7 @@ module _ {A : Type 0} where
   table-write h s n m t x w is at same =
       let e : get s h.slot ≡ Some (record { stamp = h.stamp; value = x.value }) = grind (arith) in
       let a : live_from 0 (set s.slots h.slot (Some (record { stamp = h.stamp; value = w }))) ≡ change h (λ _. w) (live_from 0 s.slots) =
-            live_from-set h 0 h.slot s.slots x.value w (omega arith) e in
+      live_from-set h 0 h.slot s.slots x.value w (omega arith) e in
       rw (← is, same, a, change-by_stamp h (λ _. w) (live_from 0 s.slots)) refl
 
   pub there_live : (h : Handle) (s : Slab (Stamped A)) (n m : ℕ) (t : Table A) → table_of s n m ≡ t → IsSome (lookup h t.live) →
@@ -100,8 +100,12 @@ module _ {A : Type 0} where
   change-once_from f h k d [] v e is = refl
   change-once_from f h k zero (None ∷ xs) v e is = cc
   change-once_from f h k (suc d) (None ∷ xs) v e is = change-once_from f h (k + 1) d xs v (omega arith) is
-  change-once_from f h k zero (Some x ∷ xs) v e is = grind (arith, nat_tests, change-past h (λ _. f v) (k + 1) xs (omega arith),
-      change-past h f (k + 1) xs (omega arith))
+  change-once_from f h k zero (Some x ∷ xs) v e is = grind (
+    arith,
+    nat_tests,
+    change-past h (λ _. f v) (k + 1) xs (omega arith),
+    change-past h f (k + 1) xs (omega arith),
+  )
   change-once_from f h k (suc d) (Some x ∷ xs) v e is = grind (arith, nat_tests, change-once_from f h (k + 1) d xs v (omega arith) is)
 
   pub change-once : (f : A → A) (h : Handle) (s : Slab (Stamped A)) (n m : ℕ) (t : Table A) (x : Stamped A) → table_of s n m ≡ t →
@@ -109,7 +113,7 @@ module _ {A : Type 0} where
   change-once f h s n m t x is at same =
       let e : get s h.slot ≡ Some (record { stamp = h.stamp; value = x.value }) = grind (arith) in
       let a : change h (λ _. f x.value) (live_from 0 s.slots) ≡ change h f (live_from 0 s.slots) =
-            change-once_from f h 0 h.slot s.slots x.value (omega arith) e in
+      change-once_from f h 0 h.slot s.slots x.value (omega arith) e in
       rw (← is, ← change-by_stamp h (λ _. f x.value) (live_from 0 s.slots), a, change-by_stamp h f (live_from 0 s.slots)) refl
 
   pub change-absent : (f : A → A) (h : Handle) (xs : List (Live A)) → lookup h xs ≡ None → change h f xs ≡ xs

@@ -1,7 +1,7 @@
 -- A row still counts after one of its slots was counted up or down.
 use Rattle.std.specs.Prelude.{IfSome}
-use Rattle.std.proofs.Common.{◌||◌, ◌^◌, zero-add, ap, ◌≡◌, ◌≢◌, ◌<◌, ◌≤◌, ◌+◌, ◌-◌, ℕ, nat_eq, nat_lt, Bool, true, false, List, length,
-    set, get_or, Option, Some, None, if◌then◌else◌, refl, sym, subst, ◌∙◌, arith, zero, suc, replicate}
+use Rattle.std.proofs.Common.{◌||◌, ◌^◌, zero-add, ap, ◌≡◌, ◌≢◌, ◌<◌, ◌≤◌, ◌+◌, ◌-◌, ℕ, nat_eq, nat_lt, Bool, true, false, List, length}
+use Rattle.std.proofs.Common.{set, get_or, Option, Some, None, if◌then◌else◌, refl, sym, subst, ◌∙◌, arith, zero, suc, replicate}
 use Rattle.std.proofs.lemmas.List.{get_or-set_same, get_or-set_other, get_or_past, length-set}
 use Rattle.std.proofs.lemmas.Bool.Decides.{nat_tests}
 use Rattle.ptl_types.specs.declared.handles.Handle.{Handle}
@@ -27,12 +27,12 @@ module _ (f g : ℕ → ℕ) (row : List ℕ) (c : Counts f row) where
             let u : g k ≡ f k + (if true then 1 else 0) = rw e at (up k) in
             let h : count_at slot row ≡ f k = let P : ℕ → Type 0 = λ n. count_at n row ≡ f k in subst P (sym s) (c k within) in
             let at : get_or (set row slot (count_at slot row + 1)) slot 0 ≡ count_at slot row + 1 =
-                  get_or-set_same row slot (count_at slot row + 1) 0 (omega (arith, within, s)) in
+            get_or-set_same row slot (count_at slot row + 1) 0 (omega (arith, within, s)) in
             let there : get_or (set row slot (count_at slot row + 1)) k 0 ≡ count_at slot row + 1 = let P : ℕ → Type 0 =
-                                                                                                          λ n. get_or (set row slot
-                                                                                                          (count_at slot row + 1)) n 0
-                                                                                                          ≡ count_at slot row + 1 in
-                                                                                                          subst P s at in
+            λ n. get_or (set row slot
+            (count_at slot row + 1)) n 0
+            ≡ count_at slot row + 1 in
+            subst P s at in
             omega (arith, there, u, h)
         | false ↦ λ e.
             let u : g k ≡ f k + (if false then 1 else 0) = rw e at (up k) in
@@ -48,12 +48,12 @@ module _ (f g : ℕ → ℕ) (row : List ℕ) (c : Counts f row) where
             let u : f k ≡ g k + (if true then 1 else 0) = rw e at (down k) in
             let h : count_at slot row ≡ f k = let P : ℕ → Type 0 = λ n. count_at n row ≡ f k in subst P (sym s) (c k within) in
             let at : get_or (set row slot (count_at slot row - 1)) slot 0 ≡ count_at slot row - 1 =
-                  get_or-set_same row slot (count_at slot row - 1) 0 (omega (arith, within, s)) in
+            get_or-set_same row slot (count_at slot row - 1) 0 (omega (arith, within, s)) in
             let there : get_or (set row slot (count_at slot row - 1)) k 0 ≡ count_at slot row - 1 = let P : ℕ → Type 0 =
-                                                                                                          λ n. get_or (set row slot
-                                                                                                          (count_at slot row - 1)) n 0
-                                                                                                          ≡ count_at slot row - 1 in
-                                                                                                          subst P s at in
+            λ n. get_or (set row slot
+            (count_at slot row - 1)) n 0
+            ≡ count_at slot row - 1 in
+            subst P s at in
             omega (arith, there, u, h)
         | false ↦ λ e.
             let u : f k ≡ g k + (if false then 1 else 0) = rw e at (down k) in

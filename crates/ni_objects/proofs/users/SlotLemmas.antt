@@ -1,6 +1,6 @@
 -- No two live things share a slot: so what is live and named with the slot of a live thing is that thing.
-use Rattle.std.proofs.Common.{◌≡◌, Bool, true, false, ◌||◌, nat_eq, List, [], ◌∷◌, Option, Some, None, is_some, if◌then◌else◌, refl, sym,
-    ◌∙◌, arith}
+use Rattle.std.proofs.Common.{◌≡◌, Bool, true, false, ◌||◌, nat_eq, List, [], ◌∷◌, Option, Some, None, is_some, if◌then◌else◌, refl, sym}
+use Rattle.std.proofs.Common.{◌∙◌, arith}
 use Rattle.std.specs.Prelude.{IsSome, IfSome, IfNone}
 use Rattle.std.proofs.lemmas.Bool.Decides.{nat_tests}
 use Rattle.ptl_types.specs.declared.handles.Handle.{Handle}
@@ -29,7 +29,7 @@ module _ {A : Type 0} where
   slot-here h [] e = cc
   slot-here h (x ∷ xs) e =
       elim (same_handle x.handle h) as (λ b. same_handle x.handle h ≡ b → is_some (if b then Some x.value else lookup h xs) ≡ true →
-          (nat_eq x.handle.slot h.slot || has_slot h.slot xs) ≡ true) [
+      (nat_eq x.handle.slot h.slot || has_slot h.slot xs) ≡ true) [
         | true ↦ λ s f. rw (same-slots x.handle h s) refl
         | false ↦ λ s f. rw (slot-here h xs f) (or-true (nat_eq x.handle.slot h.slot))
       ] refl e

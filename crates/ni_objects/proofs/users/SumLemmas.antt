@@ -1,6 +1,6 @@
 -- Numbers of live things added up, as a thing comes, changes or goes.
-use Rattle.std.proofs.Common.{◌≡◌, ℕ, ◌+◌, ◌≤◌, Bool, true, false, not, ◌||◌, nat_eq, List, [], ◌∷◌, ◌++◌, length, Option, Some, None,
-    filter, if◌then◌else◌, refl, ap, arith}
+use Rattle.std.proofs.Common.{◌≡◌, ℕ, ◌+◌, ◌≤◌, Bool, true, false, not, ◌||◌, nat_eq, List, [], ◌∷◌, ◌++◌, length, Option, Some, None}
+use Rattle.std.proofs.Common.{filter, if◌then◌else◌, refl, ap, arith}
 use Rattle.std.proofs.lemmas.Bool.Decides.{nat_tests}
 use Rattle.ptl_types.specs.declared.handles.Handle.{Handle}
 use Rattle.ptl_types.specs.Handles.{same_handle}
@@ -48,7 +48,7 @@ module _ {A : Type 0} where
   none-there me f [] e = refl
   none-there me f (x ∷ xs) e =
       elim (same_handle x.handle me) as (λ s. (if s then 1 else 0) + sum_of (named_as me) xs ≡ 0 →
-          (if s then 0 else f x.handle x.value) + sum_of (but_of me f) xs ≡ f x.handle x.value + sum_of f xs) [
+      (if s then 0 else f x.handle x.value) + sum_of (but_of me f) xs ≡ f x.handle x.value + sum_of f xs) [
         | true ↦ λ z. absurd (omega arith)
         | false ↦ λ z. ap (λ n. f x.handle x.value + n) (none-there me f xs (omega arith))
       ] e
@@ -58,8 +58,8 @@ module _ {A : Type 0} where
   sum-split me f [] one = refl
   sum-split me f (x ∷ xs) one =
       elim (same_handle x.handle me) as (λ s. same_handle x.handle me ≡ s → (if s then 1 else 0) + sum_of (named_as me) xs ≤ 1 →
-          f x.handle x.value + sum_of f xs ≡ (if s then 0 else f x.handle x.value) + sum_of (but_of me f) xs + number_at f me
-          (if s then Some x.value else lookup me xs)) [
+      f x.handle x.value + sum_of f xs ≡ (if s then 0 else f x.handle x.value) + sum_of (but_of me f) xs + number_at f me
+      (if s then Some x.value else lookup me xs)) [
         | true ↦ λ s le.
             let g : f x.handle x.value ≡ f me x.value = ap (λ h. f h x.value) (same-is x.handle me s) in
             omega (arith, none-there me f xs (omega arith), g)
@@ -71,7 +71,7 @@ module _ {A : Type 0} where
   but-zero me f [] z = refl
   but-zero me f (x ∷ xs) z =
       elim (same_handle x.handle me) as (λ s. same_handle x.handle me ≡ s → (if s then 0 else f x.handle x.value) + sum_of (but_of me f)
-          xs ≡ 0) [
+      xs ≡ 0) [
         | true ↦ λ s. omega (arith, but-zero me f xs z)
         | false ↦ λ s. omega (arith, but-zero me f xs z, z x.handle x.value s)
       ] refl
@@ -81,7 +81,7 @@ module _ {A : Type 0} where
   but-same me f g [] z = refl
   but-same me f g (x ∷ xs) z =
       elim (same_handle x.handle me) as (λ s. same_handle x.handle me ≡ s → (if s then 0 else f x.handle x.value) + sum_of (but_of me f)
-          xs ≡ (if s then 0 else g x.handle x.value) + sum_of (but_of me g) xs) [
+      xs ≡ (if s then 0 else g x.handle x.value) + sum_of (but_of me g) xs) [
         | true ↦ λ s. omega (arith, but-same me f g xs z)
         | false ↦ λ s. omega (arith, but-same me f g xs z, z x.handle x.value s)
       ] refl
@@ -90,7 +90,7 @@ module _ {A : Type 0} where
   but-le me f [] = omega arith
   but-le me f (x ∷ xs) =
       elim (same_handle x.handle me) as (λ s. (if s then 0 else f x.handle x.value) + sum_of (but_of me f) xs ≤ f x.handle x.value
-          + sum_of f xs) [
+      + sum_of f xs) [
         | true ↦ omega (arith, but-le me f xs)
         | false ↦ omega (arith, but-le me f xs)
       ]
@@ -109,7 +109,7 @@ module _ {A : Type 0} where
   sum-without me f (x ∷ xs) =
       let rest : List (Live A) = filter (λ y. not (same_handle y.handle me)) xs in
       elim (same_handle x.handle me) as (λ s. sum_of f (if not s then x ∷ rest else rest) ≡ (if s then 0 else f x.handle x.value) + sum_of
-          (but_of me f) xs) [
+      (but_of me f) xs) [
         | true ↦ omega (arith, sum-without me f xs)
         | false ↦ omega (arith, sum-without me f xs)
       ]
@@ -121,7 +121,7 @@ module _ {A : Type 0} where
   but-changed me f g [] = refl
   but-changed me f g (x ∷ xs) =
       elim (same_handle x.handle me) as (λ s. (if s then 0 else f x.handle (if s then g x.value else x.value)) + sum_of (but_of me f)
-          (change me g xs) ≡ (if s then 0 else f x.handle x.value) + sum_of (but_of me f) xs) [
+      (change me g xs) ≡ (if s then 0 else f x.handle x.value) + sum_of (but_of me f) xs) [
         | true ↦ ap (λ n. 0 + n) (but-changed me f g xs)
         | false ↦ ap (λ n. f x.handle x.value + n) (but-changed me f g xs)
       ]
@@ -135,7 +135,7 @@ module _ {A : Type 0} where
   lookup-changed me g [] w e = cc
   lookup-changed me g (x ∷ xs) w e =
       elim (same_handle x.handle me) as (λ s. (if s then Some x.value else lookup me xs) ≡ Some w →
-          (if s then Some (if s then g x.value else x.value) else lookup me (change me g xs)) ≡ Some (g w)) [
+      (if s then Some (if s then g x.value else x.value) else lookup me (change me g xs)) ≡ Some (g w)) [
         | true ↦ λ is. let v : x.value ≡ w = cc in ap (λ y. Some (g y)) v
         | false ↦ λ is. lookup-changed me g xs w is
       ] e
@@ -153,7 +153,7 @@ module _ {A : Type 0} where
   sum-kept f me g [] same = refl
   sum-kept f me g (x ∷ xs) same =
       elim (same_handle x.handle me) as (λ s. f x.handle (if s then g x.value else x.value) + sum_of f (change me g xs) ≡ f x.handle
-          x.value + sum_of f xs) [
+      x.value + sum_of f xs) [
         | true ↦ omega (arith, same x.handle x.value, sum-kept f me g xs same)
         | false ↦ omega (arith, sum-kept f me g xs same)
       ]
@@ -183,8 +183,8 @@ module _ {A : Type 0} where
       let new : Live A = record { handle = handle slot t.given; value = v } in
       let p = sum-push (named_as h) t.live new in
       elim (same_handle (handle slot t.given) h) as (λ s. same_handle (handle slot t.given) h ≡ s →
-          sum_of (named_as h) (with_new slot v t).live ≡ sum_of (named_as h) t.live + (if s then 1 else 0) →
-          sum_of (named_as h) (with_new slot v t).live ≤ 1) [
+      sum_of (named_as h) (with_new slot v t).live ≡ sum_of (named_as h) t.live + (if s then 1 else 0) →
+      sum_of (named_as h) (with_new slot v t).live ≤ 1) [
         | true ↦ λ e q.
             let here : has_slot h.slot t.live ≡ false = rw (← same-is (handle slot t.given) h e) free in
             omega (arith, q, named-none h t.live here)

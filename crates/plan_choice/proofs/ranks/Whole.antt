@@ -1,6 +1,6 @@
 -- Step by step, and all calls together.
-use Rattle.std.proofs.Common.{ℕ, suc, Bool, true, false, ◌==◌, ◌+◌, ◌≡◌, ◌≤◌, ◌<◌, ◌∙◌, List, [], ◌∷◌, ◌++◌, None, ap, arith, flat_map,
-    if◌then◌else◌, length, map, refl, subst, sym}
+use Rattle.std.proofs.Common.{ℕ, suc, Bool, true, false, ◌==◌, ◌+◌, ◌≡◌, ◌≤◌, ◌<◌, ◌∙◌, List, [], ◌∷◌, ◌++◌, None, ap, arith, flat_map}
+use Rattle.std.proofs.Common.{if◌then◌else◌, length, map, refl, subst, sym}
 use Rattle.std.specs.Prelude.{sum_by}
 use Rattle.std.proofs.lemmas.List.{map-append}
 use Rattle.std.proofs.lemmas.List.Sums.{sum_by-cons}

@@ -1,6 +1,7 @@
 //! The calls that install a choice text on one rank.
 
-ghost use Rattle.std.specs.Prelude.{List, None, true, false, ◌≡◌, ◌<◌, ◌≤◌, ◌+◌, ◌*◌, ◌^◌, [], ◌∷◌, IfOk, OnOk, is_some, flat_map, length, map, sum_by};
+ghost use Rattle.std.specs.Prelude.{List, None, true, false, ◌≡◌, ◌<◌, ◌≤◌, ◌+◌, ◌*◌, ◌^◌, [], ◌∷◌, IfOk, OnOk, is_some, flat_map, length};
+ghost use Rattle.std.specs.Prelude.{map, sum_by};
 ghost use Rattle.ptl_types.specs.declared.headers.AckRequest.TheVariants.{NoAck};
 ghost use Rattle.coll_lang.specs.declared.choices.ChoiceKind.{ChoiceKind};
 ghost use Rattle.coll_lang.specs.declared.choices.ChoiceKind.TheVariants.{Elect, Tickets};
@@ -19,10 +20,12 @@ use crate::ranks::seat::ChoiceRank;
 use coll_lang::ChoiceKind;
 use portals_ni::Nic;
 use ptl_types::{
-    AckRequest, AtomicOp, TriggeredOp, Descriptor, ElemType, Entry, GetArgs, Handle, Limits,
-    List as MatchList, NoMemory, PutArgs, Rank, SwapOp,
+    AckRequest, AtomicOp, Descriptor, ElemType, Entry, GetArgs, Handle, Limits, List as MatchList,
+    NoMemory, PutArgs, Rank, SwapOp, TriggeredOp,
 };
-use rank_node::{History, NodeHandles, alloc_index, make_counter, make_descriptor, make_entry, one, post};
+use rank_node::{
+    History, NodeHandles, alloc_index, make_counter, make_descriptor, make_entry, one, post,
+};
 use std::alloc::Global;
 
 /// What an interface is opened with for so many steps.
@@ -46,7 +49,16 @@ fn limits_for(steps: u32) -> Limits
 
 /// The descriptor of a word, whose answers count on a counting event, if there is one.
 fn word_at(start: u64, ct: Option<Handle>) -> Descriptor
-    ensures { result ≡ record { start = start; length = 8; eq = None; ct = ct; count_send = false; count_reply = is_some ct; count_ack = false } }
+    ensures { result ≡ record {
+      start = start;
+      length = 8;
+      eq = None;
+      ct = ct;
+      count_send = false;
+      count_reply = is_some ct;
+      count_ack =
+          false;
+    } }
 {
     Descriptor {
         start,
@@ -60,7 +72,12 @@ fn word_at(start: u64, ct: Option<Handle>) -> Descriptor
 }
 
 /// The two counting events and three descriptors of an elect. `counter` is the number of the first.
-fn make_elect(nic: &mut Nic, kept: &mut NodeHandles, step: u32, counter: usize) -> Result<(), NoMemory>
+fn make_elect(
+    nic: &mut Nic,
+    kept: &mut NodeHandles,
+    step: u32,
+    counter: usize,
+) -> Result<(), NoMemory>
     requires at_most { step < 64 }
     requires next { counter ≡ length kept.old.counters }
     requires all { AreAllOf nic.old kept.old }
@@ -83,7 +100,12 @@ fn make_elect(nic: &mut Nic, kept: &mut NodeHandles, step: u32, counter: usize) 
 }
 
 /// The counting event and two descriptors of tickets. `counter` is the number of the first.
-fn make_tickets(nic: &mut Nic, kept: &mut NodeHandles, step: u32, counter: usize) -> Result<(), NoMemory>
+fn make_tickets(
+    nic: &mut Nic,
+    kept: &mut NodeHandles,
+    step: u32,
+    counter: usize,
+) -> Result<(), NoMemory>
     requires at_most { step < 64 }
     requires next { counter ≡ length kept.old.counters }
     requires all { AreAllOf nic.old kept.old }
@@ -218,7 +240,18 @@ fn answer_to(md: Handle, step: u64) -> GetArgs
 
 /// What a rank gives to a step.
 fn giving(md: Handle, step: u64) -> PutArgs
-    ensures { result ≡ record { md = md; local_offset = 0; length = 8; ack = NoAck; target = 0; pt = 0; match_bits = step; remote_offset = 0; hdr_data = 0 } }
+    ensures { result ≡ record {
+      md = md;
+      local_offset = 0;
+      length = 8;
+      ack = NoAck;
+      target = 0;
+      pt = 0;
+      match_bits = step;
+      remote_offset =
+          0;
+      hdr_data = 0;
+    } }
 {
     PutArgs {
         md,

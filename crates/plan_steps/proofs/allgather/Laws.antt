@@ -1,6 +1,6 @@
 -- An allgather is sound, and each place has all lists: they go round a ring.
-use Rattle.std.proofs.Common.{ℕ, zero, suc, ◌+◌, ◌-◌, ◌*◌, ◌%◌, ◌≡◌, ◌<◌, List, ◌++◌, refl, length, map, flat_map, ap, ◌∙◌, sym, subst,
-    arith, mod-lt}
+use Rattle.std.proofs.Common.{ℕ, zero, suc, ◌+◌, ◌-◌, ◌*◌, ◌%◌, ◌≡◌, ◌<◌, List, ◌++◌, refl, length, map, flat_map, ap, ◌∙◌, sym, subst}
+use Rattle.std.proofs.Common.{arith, mod-lt}
 use Rattle.op_laws.proofs.Bytes.{part_all}
 use Rattle.plan_core.specs.Draw.{NewCell}
 use Rattle.plan_core.specs.Plan.{from_to}
@@ -32,10 +32,10 @@ module _ (k : ℕ → Cell) (s : StepContext) where
   ring-at P h d r i j =
       let z : 0 + d ≡ d = omega arith in
       subst (λ c. P c (ring_node s d r)) (let e : s.first + count s + (d * count s + r) ≡ s.first + (count s + (d * count s + r)) =
-                                                omega arith in e)
+      omega arith in e)
       (subst (λ e. P (s.first + count s + (d * count s + r)) (ring_node s e r)) z
       (each_of_rows P (s.first + count s) (ring_node s) (count s) 0 (count s)
-          (each_front P (s.first + count s) ring_rows ends (ring_part P h)) d r i j))
+      (each_front P (s.first + count s) ring_rows ends (ring_part P h)) d r i j))
 
   pub end_part : (P : ℕ → NewCell → Type 0) → EachAt P s.first (allgather_cells s) → EachAt P (s.first + count s + count s * count s) ends
   end_part P h = subst (λ v. EachAt P (s.first + count s + v) ends) (length-rows (ring_node s) (count s) 0 (count s))
@@ -83,13 +83,16 @@ module _ (k : ℕ → Cell) (s : StepContext) where
       (each_append (SoundNewCell ranks k) (s.first + count s) ring_rows ends
       (each_rows (SoundNewCell ranks k) (s.first + count s) (ring_node s) (count s) 0 (count s)
       (λ d r h i. let z : d ≡ 0 + d = omega arith in subst (λ e. SoundNewCell ranks k (s.first + count s + (d * count s + r))
-          (ring_node s e r)) z (one d r h i)))
+      (ring_node s e r)) z (one d r h i)))
       (subst (λ v. EachAt (SoundNewCell ranks k) (s.first + count s + v) ends) (sym (length-rows (ring_node s) (count s) 0 (count s)))
       (each_places (SoundNewCell ranks k) s (s.first + count s + count s * count s) (collected s)
       (λ r h. gathering-sound ranks k (s.first + count s + count s * count s + r) s.ty (count s * s.length) s.length (count s)
-          (rank_at s r) (λ d. ring_cell s d r) (λ d. 0) (λ d. origin s d r) (ground.members r h) whole' refl ground.some
-      (λ d i. ((let l = row_before d r i h in omega (arith, l)),
-          (let l = ap (λ (c : Cell). c.length) (ring-at (IsCell k) cells d r i h).is_cell in omega (arith, l)), origin-lt d r ground.some))
+      (rank_at s r) (λ d. ring_cell s d r) (λ d. 0) (λ d. origin s d r) (ground.members r h) whole' refl ground.some
+      (λ d i. (
+        (let l = row_before d r i h in omega (arith, l)),
+        (let l = ap (λ (c : Cell). c.length) (ring-at (IsCell k) cells d r i h).is_cell in omega (arith, l)),
+        origin-lt d r ground.some,
+      ))
       (origin-one r h)))))
     where
       one : (d r : ℕ) → d < count s → r < count s → SoundNewCell ranks k (s.first + count s + (d * count s + r)) (ring_node s d r)
@@ -98,7 +101,7 @@ module _ (k : ℕ → Cell) (s : StepContext) where
       one (suc d) r h i =
           let n = mod-lt (r + (count s - 1)) ground.some in
           taking-sound ranks k (s.first + count s + (suc d * count s + r)) s.ty s.length (rank_at s r)
-              (ring_cell s d ((r + (count s - 1)) % count s)) (ground.members r i) whole
+          (ring_cell s d ((r + (count s - 1)) % count s)) (ground.members r i) whole
           (let e : suc d * count s ≡ d * count s + count s = omega arith in omega (arith, e, n))
           (ap (λ (c : Cell). c.length) (ring-at (IsCell k) cells d ((r + (count s - 1)) % count s) (omega arith) n).is_cell)
 
@@ -111,7 +114,7 @@ module _ (k : ℕ → Cell) (s : StepContext) where
       ap val (let e : s.first + (count s + (count s * count s + r)) ≡ s.first + count s + count s * count s + r = omega arith in e)
       ∙ last.is_value
       ∙ gathering-value s.ty (count s * s.length) s.length (count s) (rank_at s r) (λ d. ring_cell s d r) (λ d. 0) (λ d. origin s d r) val
-          x refl
+      x refl
       (λ q i. ap length (sym (ent q i).0) ∙ (ent q i).1)
       (λ d i. (origin-lt d r pos, part_all s.length (val (ring_cell s d r)) (ring-at (Known k val) known d r i h).is_long ∙ ring d r i h))
       (origin-one r h)
@@ -134,6 +137,6 @@ module _ (k : ℕ → Cell) (s : StepContext) where
           let n = mod-lt (r + (count s - 1)) pos in
           (ring-at (Known k val) known (suc d) r h i).is_value
           ∙ taking-value s.ty s.length (rank_at s r) (ring_cell s d ((r + (count s - 1)) % count s)) val
-              (ring-at (Known k val) known d ((r + (count s - 1)) % count s) (omega arith) n).is_long
+          (ring-at (Known k val) known d ((r + (count s - 1)) % count s) (omega arith) n).is_long
           ∙ ring d ((r + (count s - 1)) % count s) (omega arith) n
           ∙ ap x (origin-next d r h i)

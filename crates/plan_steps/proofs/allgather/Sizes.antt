@@ -26,4 +26,4 @@ allgather-bytes s =
     let d = bytes-rows s (ring_node s) 0 m n (λ k i. refl) in
     let e = bytes-row (collected s) 0 m (m * n) (λ i. refl) in
     a ∙ ap₂ (λ x y. x + y) c (b ∙ ap₂ (λ x y. x + y) d e) ∙ (let z : m * n + (m * (m * n) + m * (m * n)) ≡ m * n + 2 * (m * (m * n)) =
-                                                                   omega arith in z)
+    omega arith in z)

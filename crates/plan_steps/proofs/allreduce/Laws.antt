@@ -29,13 +29,13 @@ module _ (k : ℕ → Cell) (s : StepContext) (o : AtomicOp) where
       let firsts = Rattle.plan_steps.proofs.Drawn.each_front (IsCell k) (s.first + count s) (up s 0 o) back ups in
       let pos = ground.some in
       let c_cell : (v : ℕ) → v < count s → k (up_number s v) ≡ cell_of (up_cell s 0 o v) =
-            λ v h. (up-at k s 0 o (IsCell k) firsts v h).is_cell in
+      λ v h. (up-at k s 0 o (IsCell k) firsts v h).is_cell in
       both_parts (SoundNewCell ranks k) s s.first (full_entry s) (up s 0 o ++ back)
       (entries-sound ranks k s ground whole has)
       (both_parts (SoundNewCell ranks k) s (s.first + count s) (λ j. up_cell s 0 o (count s - 1 - j)) back
       (up-sound k s 0 o ranks ground.some ground.members whole (entry-cells k s (up s 0 o ++ back) cells) firsts)
       (subst (λ c. EachAt (SoundNewCell ranks k) c back) (let e : s.first + (count s + count s) ≡ s.first + count s + count s =
-                                                                omega arith in e)
+      omega arith in e)
       (down-sound k s 0 (further s (count s)) (up_number s 0) (up_number s) ranks pos ground.members whole (omega arith)
       (ap (λ (c : Cell). c.length) (c_cell 0 pos))
       (λ v h. (omega arith, ap (λ (c : Cell). c.rank) (c_cell v h)))
@@ -43,12 +43,12 @@ module _ (k : ℕ → Cell) (s : StepContext) (o : AtomicOp) where
 
   pub allreduce-value : (val x : ℕ → List ℕ) → 0 < count s → s.length % bytes_of s.ty ≡ 0
       → ((i : ℕ) → i < count s → (val (source_at s i) ≡ x i) × (length (val (source_at s i)) ≡ s.length)) →
-          EachAt (Known k val) s.first (allreduce_cells s o)
+      EachAt (Known k val) s.first (allreduce_cells s o)
       → (i : ℕ) → i < count s → val (further s (count s + i)) ≡ folded o s.ty (map x (from_to 0 (count s))) (starting o s.ty s.length)
   allreduce-value val x pos whole has known i h =
       let ups = behind (Known k val) s s.first (full_entry s) (up s 0 o ++ back) known in
       let firsts = Rattle.plan_steps.proofs.Drawn.each_front (Known k val) (s.first + count s) (up s 0 o) back ups in
       ap val (let e : s.first + (count s + (count s + i)) ≡ s.first + (count s + count s) + i = omega arith in e)
       ∙ down-value k s 0 (further s (count s)) (up_number s 0) (up_number s) val (last_part (Known k val) ups)
-          (up-at k s 0 o (Known k val) firsts 0 pos).is_long i h
+      (up-at k s 0 o (Known k val) firsts 0 pos).is_long i h
       ∙ up-value k s 0 o val x pos whole (entry-known k val x s (up s 0 o ++ back) known has) firsts

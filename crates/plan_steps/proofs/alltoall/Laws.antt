@@ -21,11 +21,15 @@ module _ (k : ℕ → Cell) (s : StepContext) where
       both_parts (SoundNewCell ranks k) s s.first (full_entry s) _
       (entries-sound ranks k s ground whole has)
       (each_places (SoundNewCell ranks k) s (s.first + count s) (λ r. gathering s.ty s.length (s.length / count s) (count s) (rank_at s r)
-          (entry s) (λ q. r * (s.length / count s)) (λ q. q))
+      (entry s) (λ q. r * (s.length / count s)) (λ q. q))
       (λ r h. gathering-sound ranks k (s.first + count s + r) s.ty s.length (s.length / count s) (count s) (rank_at s r) (entry s)
-          (λ q. r * (s.length / count s)) (λ q. q) (ground.members r h) whole (all ∙ ap (λ v. count s * v) (sym is_m)) ground.some
-      (λ d i. (omega arith, (let l = ap (λ (c : Cell). c.length) (entry-cells k s _ cells d i) in let w = before r h in
-          omega (arith, l, w, all, is_m)), i)) (λ d e i j q. q)))
+      (λ q. r * (s.length / count s)) (λ q. q) (ground.members r h) whole (all ∙ ap (λ v. count s * v) (sym is_m)) ground.some
+      (λ d i. (
+        omega arith,
+        (let l = ap (λ (c : Cell). c.length) (entry-cells k s _ cells d i) in let w = before r h in
+            omega (arith, l, w, all, is_m)),
+        i,
+      )) (λ d e i j q. q)))
     where
       before : (r : ℕ) → r < count s → r * (s.length / count s) + s.length / count s ≤ s.length
       before r h =
@@ -45,9 +49,9 @@ module _ (k : ℕ → Cell) (s : StepContext) where
       ap val (let e : s.first + (count s + r) ≡ s.first + count s + r = omega arith in e)
       ∙ last.is_value
       ∙ gathering-value s.ty s.length (s.length / count s) (count s) (rank_at s r) (entry s) (λ q. r * (s.length / count s)) (λ q. q) val
-          (λ q. part (r * (s.length / count s)) (s.length / count s) (x q)) full
+      (λ q. part (r * (s.length / count s)) (s.length / count s) (x q)) full
       (λ q i. let l = ap length (sym (ent q i).0) ∙ (ent q i).1 in length-part (r * (s.length / count s)) (s.length / count s) (x q)
-          (let w = before r h in omega (arith, l, w)))
+      (let w = before r h in omega (arith, l, w)))
       (λ d i. (i, ap (part (r * (s.length / count s)) (s.length / count s)) (ent d i).0)) (λ d e i j q. q)
       ∙ ap (λ v. flat_map (λ q. part (r * v) v (x q)) (from_to 0 (count s))) is_m
     where

@@ -11,7 +11,7 @@ alltoall-links s =
     let m = count s in
     links-append (entries s) (map (exchanged s) (places s))
     ∙ ap₂ (λ x y. x + y) (links-row (full_entry s) 0 m 2 (λ i. refl))
-        (links-row (exchanged s) 0 m m (λ i. length-row (exchange_link s i) 0 m))
+    (links-row (exchanged s) 0 m m (λ i. length-row (exchange_link s i) 0 m))
     ∙ (let z : m * 2 + m * m ≡ 2 * m + m * m = omega arith in z)
 
 pub alltoall-bytes : (s : StepContext) → bytes_in (alltoall_cells s) ≡ 2 * (count s * s.length)

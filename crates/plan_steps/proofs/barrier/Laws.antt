@@ -1,6 +1,6 @@
 -- A barrier is sound, and its exit at a place comes after every entry.
-use Rattle.std.proofs.Common.{ℕ, zero, suc, ◌+◌, ◌-◌, ◌*◌, ◌%◌, ◌^◌, ◌≡◌, ◌≤◌, ◌<◌, List, refl, length, map, ap, ◌∙◌, sym, subst, inl, inr,
-    arith, mod-lt, pow_pos}
+use Rattle.std.proofs.Common.{ℕ, zero, suc, ◌+◌, ◌-◌, ◌*◌, ◌%◌, ◌^◌, ◌≡◌, ◌≤◌, ◌<◌, List, refl, length, map, ap, ◌∙◌, sym, subst, inl, inr}
+use Rattle.std.proofs.Common.{arith, mod-lt, pow_pos}
 use Rattle.plan_core.specs.Draw.{NewCell}
 use Rattle.plan_core.specs.Plan.{Plan, cell}
 use Rattle.plan_core.specs.Rounds.{Comes}
@@ -29,7 +29,7 @@ module _ (k : ℕ → Cell) (s : StepContext) where
   round-at P h j r i l =
       let z : 0 + j ≡ j = omega arith in
       subst (λ c. P c (round_node j r)) (let q : suc j * count s ≡ j * count s + count s = omega arith in
-          let e : s.first + count s + (j * count s + r) ≡ s.first + (suc j * count s + r) = omega (arith, q) in e)
+      let e : s.first + count s + (j * count s + r) ≡ s.first + (suc j * count s + r) = omega (arith, q) in e)
       (subst (λ v. P (s.first + count s + (j * count s + r)) (round_node v r)) z
       (each_of_rows P (s.first + count s) round_node (count s) 0 (rounds (count s)) h j r i l))
 
@@ -51,11 +51,11 @@ module _ (k : ℕ → Cell) (s : StepContext) where
       (bare-sound ranks k s ground)
       (each_rows (SoundNewCell ranks k) (s.first + count s) round_node (count s) 0 (rounds (count s))
       (λ j r h i. let z : j ≡ 0 + j = omega arith in subst (λ v. SoundNewCell ranks k (s.first + count s + (j * count s + r))
-          (round_node v r)) z
+      (round_node v r)) z
       (let n = mod-lt (r + (count s - 2 ^ j)) ground.some in
       told-sound ranks k (s.first + count s + (j * count s + r)) (rank_at s r) (in_row s j r)
-          (in_row s j ((r + (count s - 2 ^ j)) % count s)) (ground.members r i) (omega arith) (round_rank cells j r (omega arith) i)
-          (omega (arith, n)))))
+      (in_row s j ((r + (count s - 2 ^ j)) % count s)) (ground.members r i) (omega arith) (round_rank cells j r (omega arith) i)
+      (omega (arith, n)))))
 
 -- ---- a barrier that is drawn: round j + 1 at place r comes after round j there and at the place 2 ^ j before it
 module _ (q : Plan) (inputs : Inputs) (s : StepContext) (pos : 0 < count s) (small : count s ≤ 256)
@@ -74,8 +74,8 @@ module _ (q : Plan) (inputs : Inputs) (s : StepContext) (pos : 0 < count s) (sma
       Comes q (in_row s j m) (in_row s (suc j) r)
   round-comes j m r t l h e =
       subst (λ v. Comes q (in_row s j v) (in_row s (suc j) r))
-          (before (rounds-at_most (count s) j t) (turn m (2 ^ j) (count s) l (let f = rounds-at_most (count s) j t in omega (arith, f)))
-          (turn r (count s - 2 ^ j) (count s) h (let p : 0 < 2 ^ j = pow_pos j in omega (arith, p))))
+      (before (rounds-at_most (count s) j t) (turn m (2 ^ j) (count s) l (let f = rounds-at_most (count s) j t in omega (arith, f)))
+      (turn r (count s - 2 ^ j) (count s) h (let p : 0 < 2 ^ j = pow_pos j in omega (arith, p))))
       ((there j r t h).comes (put 0 (in_row s j ((r + (count s - 2 ^ j)) % count s)) 0 0) (inr (inl refl)))
     where
       before : 2 ^ j < count s → Turned m (2 ^ j) (count s) → Turned r (count s - 2 ^ j) (count s) → (r + (count s - 2 ^ j)) % count s ≡ m

@@ -21,5 +21,5 @@ barrier-bytes s =
     let c = bytes-rows s (round_cell s) 0 (rounds (count s)) 0 (λ k i. refl) in
     let d : count s * 0 ≡ 0 = omega arith in
     let e : rounds (count s) * (count s * 0) ≡ 0 = ap (λ v. rounds (count s) * v) d
-          ∙ (let z : rounds (count s) * 0 ≡ 0 = omega arith in z) in
+    ∙ (let z : rounds (count s) * 0 ≡ 0 = omega arith in z) in
     omega (arith, a, b, c, d, e)

@@ -1,6 +1,6 @@
 -- A broadcast is sound, and each place has what the root holds.
-use Rattle.std.proofs.Common.{ℕ, Bool, true, false, cond, ◌+◌, ◌%◌, ◌≡◌, ◌<◌, ◌==◌, List, refl, length, map, ap, ◌∙◌, sym, subst, arith,
-    eqb-true, eq-eqb}
+use Rattle.std.proofs.Common.{ℕ, Bool, true, false, cond, ◌+◌, ◌%◌, ◌≡◌, ◌<◌, ◌==◌, List, refl, length, map, ap, ◌∙◌, sym, subst, arith}
+use Rattle.std.proofs.Common.{eqb-true, eq-eqb}
 use Rattle.plan_core.specs.Draw.{NewCell, cell_of}
 use Rattle.plan_core.specs.declared.Cell.{Cell}
 use Rattle.plan_steps.proofs.CellKinds.{bumped-sound, copying-sound}
@@ -43,12 +43,12 @@ module _ (k : ℕ → Cell) (s : StepContext) (root : ℕ) (root_in : root < cou
   broadcast-sound ranks ground whole has cells =
       let firsts = Rattle.plan_steps.proofs.Drawn.each_front (IsCell k) s.first (map first_node (places s)) down_part cells in
       let cell_at : (i : ℕ) → i < count s → k (entry s i) ≡ cell_of (first_node i) =
-            λ i h. (of_places (IsCell k) s s.first first_node firsts i h).is_cell in
+      λ i h. (of_places (IsCell k) s s.first first_node firsts i h).is_cell in
       both_parts (SoundNewCell ranks k) s s.first first_node down_part
       (each_places (SoundNewCell ranks k) s s.first first_node (λ i h. one i h (i == root) refl))
       (unshift (SoundNewCell ranks k) down_part
       (down-sound k s root (further s 0) (entry s root) (λ v. entry s (turned s root v)) ranks ground.some ground.members whole
-          (omega arith)
+      (omega arith)
       (ap (λ (c : Cell). c.length) (cell_at root root_in ∙ ap cell_of root_node))
       (λ v h. let l = turned-lt s root v ground.some in (omega arith, entry_rank (turned s root v) (cell_at (turned s root v) l)))
       (shift (IsCell k) down_part (behind (IsCell k) s s.first first_node down_part cells))))
@@ -60,7 +60,7 @@ module _ (k : ℕ → Cell) (s : StepContext) (root : ℕ) (root_in : root < cou
           let a : HasA k s i = subst (HasA k s) (sym q) has in
           let l = a.low in let x = ground.exit_low i h in
           copying-sound ranks k (s.first + i) s.ty s.length (rank_at s i) (exit_at s i) (source_at s i) (ground.members i h) whole
-              (omega arith) (ground.exit_rank i h) (omega arith) a.long
+          (omega arith) (ground.exit_rank i h) (omega arith) a.long
       one i h false e = let x = ground.exit_low i h in bumped-sound ranks k (s.first + i) (rank_at s i) (exit_at s i) (ground.members i h)
           (omega arith) (ground.exit_rank i h)
 
@@ -71,9 +71,9 @@ module _ (k : ℕ → Cell) (s : StepContext) (root : ℕ) (root_in : root < cou
   broadcast-value val pos long known i h =
       let firsts = Rattle.plan_steps.proofs.Drawn.each_front (Known k val) s.first (map first_node (places s)) down_part known in
       let at_root : Known k val (entry s root) (full_entry s root) =
-            subst (Known k val (entry s root)) root_node (of_places (Known k val) s s.first first_node firsts root root_in) in
+      subst (Known k val (entry s root)) root_node (of_places (Known k val) s s.first first_node firsts root root_in) in
       ap val (let e : s.first + (count s + unturned s root i) ≡ s.first + (count s + 0) + unturned s root i = omega arith in e)
       ∙ down-value k s root (further s 0) (entry s root) (λ v. entry s (turned s root v)) val
-          (shift (Known k val) down_part (behind (Known k val) s s.first first_node down_part known)) at_root.is_long (unturned s root i)
-          (unturned-lt s root i pos)
+      (shift (Known k val) down_part (behind (Known k val) s s.first first_node down_part known)) at_root.is_long (unturned s root i)
+      (unturned-lt s root i pos)
       ∙ entry-value k val s root at_root long

@@ -15,7 +15,7 @@ broadcast-links s root h =
     (ap (λ t. length (cond t (full_entry s root) (bare_entry s root)).into) (eq-eqb root root refl))
     (λ i n. ap (λ t. length (cond t (full_entry s i) (bare_entry s i)).into) (ne_eqb _ _ n)) in
     let c = links-one (copy_cell s root) 0 m 0 1 2 (let z : 0 ≤ 0 = omega arith in z) (let z : 0 < 0 + m = omega arith in z) refl
-          (λ i n. further-two i n) in
+    (λ i n. further-two i n) in
     let q : m * 1 ≡ m = omega arith in
     let r : m * 2 ≡ m + m = omega arith in
     omega (arith, a, b, c, q, r)

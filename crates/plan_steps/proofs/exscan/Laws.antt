@@ -1,6 +1,6 @@
 -- An exclusive scan is sound, and each place but the first has the fold of those before it.
-use Rattle.std.proofs.Common.{ℕ, suc, ◌+◌, ◌-◌, ◌*◌, ◌%◌, ◌≡◌, ◌≤◌, ◌<◌, List, ◌++◌, refl, length, map, ap, ◌∙◌, sym, subst, arith,
-    append_assoc, length-append}
+use Rattle.std.proofs.Common.{ℕ, suc, ◌+◌, ◌-◌, ◌*◌, ◌%◌, ◌≡◌, ◌≤◌, ◌<◌, List, ◌++◌, refl, length, map, ap, ◌∙◌, sym, subst, arith}
+use Rattle.std.proofs.Common.{append_assoc, length-append}
 use Rattle.coll_shape.specs.Folding.{folded}
 use Rattle.plan_core.specs.Draw.{NewCell, cell_of}
 use Rattle.plan_core.specs.Plan.{from_to}
@@ -63,24 +63,24 @@ module _ (k : ℕ → Cell) (s : StepContext) (o : AtomicOp) where
       one : (j : ℕ) → j < count s - 1 → SoundNewCell ranks k (base + j) (shifted s j)
       one j h =
           copying-sound ranks k (base + j) s.ty s.length (rank_at s (suc j)) (scan_number s (rounds (count s)) (suc j))
-              (scan_number s (rounds (count s)) j) (ground.members (suc j) (omega arith)) whole
+          (scan_number s (rounds (count s)) j) (ground.members (suc j) (omega arith)) whole
           (below (suc j) (omega arith) j) (ap (λ (c : Cell). c.rank) (p_cell (suc j) (omega arith)) ∙ at_rank (rounds (count s)) (suc j))
           (below j (omega arith) j) (ap (λ (c : Cell). c.length) (p_cell j (omega arith)) ∙ at_length (rounds (count s)) j)
 
   -- place j + 1 has the fold of the places up to j
   pub exscan-value : (val x : ℕ → List ℕ) → count s ≤ 256 → s.length % bytes_of s.ty ≡ 0
       → ((i : ℕ) → i < count s → (val (source_at s i) ≡ x i) × (length (val (source_at s i)) ≡ s.length)) →
-          EachAt (Known k val) s.first (exscan_cells s o)
+      EachAt (Known k val) s.first (exscan_cells s o)
       → (j : ℕ) → suc j < count s → val (further s (suc (rounds (count s)) * count s + j)) ≡ folded o s.ty (map x (from_to 0 (suc j)))
-          (starting o s.ty s.length)
+      (starting o s.ty s.length)
   exscan-value val x small whole has known j h =
       let last = each_of_map (Known k val) base (shifted s) 0 (count s - 1)
-            (back_of (Known k val) s.first base (exscan_cells s o) (scan_cells s o) last_cells rescanned long_scan known) j (omega arith) in
+      (back_of (Known k val) s.first base (exscan_cells s o) (scan_cells s o) last_cells rescanned long_scan known) j (omega arith) in
       let here : Known k val (base + j) (shifted s j) = subst (λ v. Known k val (base + j) (shifted s v))
-            (let z : 0 + j ≡ j = omega arith in z) last in
+      (let z : 0 + j ≡ j = omega arith in z) last in
       let firsts = front_of (Known k val) s.first (exscan_cells s o) (scan_cells s o) last_cells rescanned known in
       ap val (let e : s.first + (count s + (suc (rounds (count s)) * count s + j)) ≡ base + j = omega arith in e)
       ∙ here.is_value
       ∙ copying-value s.ty s.length (rank_at s (suc j)) (scan_number s (rounds (count s)) (suc j)) (scan_number s (rounds (count s)) j)
-          val (scan-at k s o (Known k val) (rows_of (Known k val) known) (rounds (count s)) j (omega arith) (omega arith)).is_long
+      val (scan-at k s o (Known k val) (rows_of (Known k val) known) (rounds (count s)) j (omega arith) (omega arith)).is_long
       ∙ scan-value k s o val x small whole has firsts j (omega arith)

@@ -30,6 +30,6 @@ exscan-bytes s o =
     let e = bytes-row (shifted s) 0 (count s - 1) s.length (λ i. refl) in
     a ∙ ap₂ (λ x y. x + y) c (b ∙ ap₂ (λ x y. x + y) d e)
     ∙ (let z : count s * s.length + (suc (rounds (count s)) * (count s * s.length) + (count s - 1) * s.length) ≡ count s * s.length + suc
-             (rounds (count s)) * (count s * s.length) + (count s - 1) * s.length =
-             Rattle.std.proofs.Common.sym (Rattle.std.proofs.Common.add_assoc (count s * s.length)
-             (suc (rounds (count s)) * (count s * s.length)) ((count s - 1) * s.length)) in z)
+    (rounds (count s)) * (count s * s.length) + (count s - 1) * s.length =
+    Rattle.std.proofs.Common.sym (Rattle.std.proofs.Common.add_assoc (count s * s.length)
+    (suc (rounds (count s)) * (count s * s.length)) ((count s - 1) * s.length)) in z)

@@ -21,7 +21,7 @@ module _ (k : ℕ → Cell) (s : StepContext) where
         gathering-sound ranks k (s.first + count s) s.ty (count s * s.length) s.length (count s) (rank_at s root) (entry s) (λ q. 0)
             (λ q. q) (ground.members root root_in) whole' refl ground.some
             (λ d h. (omega arith, (let l = ap (λ (c : Cell). c.length) (entry-cells k s _ cells d h) in omega (arith, l)), h))
-                (λ d e h i q. q),
+            (λ d e h i q. q),
         tt,
       )
 

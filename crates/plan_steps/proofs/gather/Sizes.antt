@@ -11,7 +11,7 @@ gather-links s root =
     let m = count s in
     links-append (entries s) (gathered s root ∷ [])
     ∙ ap₂ (λ x y. x + y) (links-row (full_entry s) 0 m 2 (λ i. refl)) (links-cons (gathered s root) []
-        ∙ ap (λ v. v + 0) (length-row (gather_link s) 0 m))
+    ∙ ap (λ v. v + 0) (length-row (gather_link s) 0 m))
     ∙ (let z : m * 2 + (m + 0) ≡ 3 * m = omega arith in z)
 
 pub gather-bytes : (s : StepContext) (root : ℕ) → bytes_in (gather_cells s root) ≡ 2 * (count s * s.length)

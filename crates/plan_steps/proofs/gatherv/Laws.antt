@@ -1,6 +1,6 @@
 -- A gather of what is held is sound, and the root has the lists of those that hold one.
-use Rattle.std.proofs.Common.{ℕ, zero, suc, Bool, true, false, cond, ◌+◌, ◌*◌, ◌%◌, ◌≡◌, ◌<◌, List, [], ◌∷◌, ◌++◌, refl, length, map,
-    filter, flat_map, get_or, ap, ap₂, ◌∙◌, sym, subst, arith, le_of_suc-le-suc}
+use Rattle.std.proofs.Common.{ℕ, zero, suc, Bool, true, false, cond, ◌+◌, ◌*◌, ◌%◌, ◌≡◌, ◌<◌, List, [], ◌∷◌, ◌++◌, refl, length, map}
+use Rattle.std.proofs.Common.{filter, flat_map, get_or, ap, ap₂, ◌∙◌, sym, subst, arith, le_of_suc-le-suc}
 use Rattle.coll_shape.specs.Collectives.{is_in}
 use Rattle.op_laws.proofs.Bytes.{part_all}
 use Rattle.plan_core.specs.Draw.{cell_of}
@@ -23,9 +23,9 @@ filtered-at t k (suc n) j h = at (t k) refl j h (λ i l. let r = filtered-at t (
   where
     at : (b : Bool) → t k ≡ b → (j : ℕ) → j < length (cond b (k ∷ filter t (from_to (suc k) n)) (filter t (from_to (suc k) n)))
         → ((i : ℕ) → i < length (filter t (from_to (suc k) n)) → (get_or (filter t (from_to (suc k) n)) i 0 < k + suc n) ×
-            (t (get_or (filter t (from_to (suc k) n)) i 0) ≡ true))
+        (t (get_or (filter t (from_to (suc k) n)) i 0) ≡ true))
         → (get_or (cond b (k ∷ filter t (from_to (suc k) n)) (filter t (from_to (suc k) n))) j 0 < k + suc n) ×
-            (t (get_or (cond b (k ∷ filter t (from_to (suc k) n)) (filter t (from_to (suc k) n))) j 0) ≡ true)
+        (t (get_or (cond b (k ∷ filter t (from_to (suc k) n)) (filter t (from_to (suc k) n))) j 0) ≡ true)
     at true e zero l later = (omega arith, e)
     at true e (suc j) l later = later j (le_of_suc-le-suc l)
     at false e j l later = later j l
@@ -73,8 +73,11 @@ module _ (k : ℕ → Cell) (s : StepContext) (root : ℕ) (t : ℕ → Bool) (h
         gathering_after-sound ranks k (s.first + count s) s.ty (length s.holding * s.length) s.length (length s.holding) (rank_at s root)
             (entry s root) (λ i. entry s (get_or s.holding i 0)) (λ q. 0) (λ q. q)
             (ground.members root root_in) whole' refl (omega arith) (rank_of root root_in)
-            (λ d h. let r = holder d h in (let a = r.0 in omega (arith, a),
-                (let l = long (get_or s.holding d 0) r.0 r.1 in omega (arith, l)), h)) (λ d e h i q. q),
+            (λ d h. let r = holder d h in (
+              let a = r.0 in omega (arith, a),
+              (let l = long (get_or s.holding d 0) r.0 r.1 in omega (arith, l)),
+              h,
+            )) (λ d e h i q. q),
         tt,
       )
     where
@@ -100,7 +103,7 @@ module _ (k : ℕ → Cell) (s : StepContext) (root : ℕ) (t : ℕ → Bool) (h
           let a : HasA k s i = has i h e in
           let l = a.low in let x = ground.exit_low i h in
           copying-sound ranks k (s.first + i) s.ty s.length (rank_at s i) (exit_at s i) (source_at s i) (ground.members i h) whole
-              (omega arith) (ground.exit_rank i h) (omega arith) a.long
+          (omega arith) (ground.exit_rank i h) (omega arith) a.long
       one i h false e = let x = ground.exit_low i h in bumped-sound ranks k (s.first + i) (rank_at s i) (exit_at s i) (ground.members i h)
           (omega arith) (ground.exit_rank i h)
 
@@ -114,11 +117,14 @@ module _ (k : ℕ → Cell) (s : StepContext) (root : ℕ) (t : ℕ → Bool) (h
       ap val (let e : s.first + (count s + 0) ≡ s.first + count s = omega arith in e)
       ∙ last.0.is_value
       ∙ gathering_after-value s.ty (length s.holding * s.length) s.length (length s.holding) (rank_at s root) (entry s root)
-          (λ i. entry s (get_or s.holding i 0)) (λ q. 0) (λ q. q) val (λ j. x (get_or s.holding j 0)) refl
+      (λ i. entry s (get_or s.holding i 0)) (λ q. 0) (λ q. q) val (λ j. x (get_or s.holding j 0)) refl
       (λ q h. let r = holder q h in ap length (sym (has (get_or s.holding q 0) r.0 r.1).0) ∙ (has (get_or s.holding q 0) r.0 r.1).1)
-      (λ d h. let r = holder d h in (h, part_all s.length (val (entry s (get_or s.holding d 0)))
-          (ap length (ent (get_or s.holding d 0) r.0 r.1) ∙ (has (get_or s.holding d 0) r.0 r.1).1) ∙ ent (get_or s.holding d 0) r.0 r.1
-          ∙ (has (get_or s.holding d 0) r.0 r.1).0))
+      (λ d h. let r = holder d h in (
+        h,
+        part_all s.length (val (entry s (get_or s.holding d 0)))
+            (ap length (ent (get_or s.holding d 0) r.0 r.1) ∙ (has (get_or s.holding d 0) r.0 r.1).1) ∙ ent (get_or s.holding d 0) r.0 r.1
+            ∙ (has (get_or s.holding d 0) r.0 r.1).0,
+      ))
       (λ d e h i q. q)
       ∙ by-place x s.holding s.holding 0 (λ i. ap (λ v. get_or s.holding v 0) (let z : 0 + i ≡ i = omega arith in z))
       ∙ ap (λ hs. flat_map x hs) held
@@ -128,5 +134,5 @@ module _ (k : ℕ → Cell) (s : StepContext) (root : ℕ) (t : ℕ → Bool) (h
       ent i h e =
           entry-value k val s i
           (subst (Known k val (entry s i)) (held-full i e) (of_places (Known k val) s s.first (held_entry s)
-              (each_front (Known k val) s.first (map (held_entry s) (places s)) (concatenated s root ∷ []) known) i h))
+          (each_front (Known k val) s.first (map (held_entry s) (places s)) (concatenated s root ∷ []) known) i h))
           (has i h e).1

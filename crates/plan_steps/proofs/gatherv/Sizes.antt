@@ -1,6 +1,6 @@
 -- The links and bytes of a gather of what is held, in closed form.
-use Rattle.std.proofs.Common.{ℕ, zero, suc, Bool, true, false, cond, ◌+◌, ◌*◌, ◌≡◌, ◌<◌, ◌≤◌, [], ◌∷◌, refl, length, map, filter, ap, ap₂,
-    ◌∙◌, sym, arith}
+use Rattle.std.proofs.Common.{ℕ, zero, suc, Bool, true, false, cond, ◌+◌, ◌*◌, ◌≡◌, ◌<◌, ◌≤◌, [], ◌∷◌, refl, length, map, filter, ap, ap₂}
+use Rattle.std.proofs.Common.{◌∙◌, sym, arith}
 use Rattle.coll_shape.specs.Collectives.{is_in}
 use Rattle.plan_core.proofs.Drawing.{length-row}
 use Rattle.plan_core.specs.Draw.{NewCell, bytes_in, links_of}
@@ -20,14 +20,14 @@ links-where t f k (suc n) h = at (t k) refl (links-cons (f k) (map f (from_to (s
     at : (b : Bool) → t k ≡ b → links_of (f k ∷ map f (from_to (suc k) n)) ≡ length (f k).into + links_of (map f (from_to (suc k) n)) →
         length (f k).into ≡ cond (t k) 2 1
         → links_of (map f (from_to (suc k) n)) ≡ n + length (filter t (from_to (suc k) n)) →
-            links_of (f k ∷ map f (from_to (suc k) n)) ≡ suc n + length
-            (cond (t k) (k ∷ filter t (from_to (suc k) n)) (filter t (from_to (suc k) n)))
+        links_of (f k ∷ map f (from_to (suc k) n)) ≡ suc n + length
+        (cond (t k) (k ∷ filter t (from_to (suc k) n)) (filter t (from_to (suc k) n)))
     at true e c d r = let g = d ∙ ap (λ b. cond b 2 1) e in let q =
-                                                                  ap (λ b. length (cond b (k ∷ filter t (from_to (suc k) n))
-                                                                  (filter t (from_to (suc k) n)))) e in omega (arith, c, g, r, q)
+        ap (λ b. length (cond b (k ∷ filter t (from_to (suc k) n))
+        (filter t (from_to (suc k) n)))) e in omega (arith, c, g, r, q)
     at false e c d r = let g = d ∙ ap (λ b. cond b 2 1) e in let q =
-                                                                   ap (λ b. length (cond b (k ∷ filter t (from_to (suc k) n))
-                                                                   (filter t (from_to (suc k) n)))) e in omega (arith, c, g, r, q)
+        ap (λ b. length (cond b (k ∷ filter t (from_to (suc k) n))
+        (filter t (from_to (suc k) n)))) e in omega (arith, c, g, r, q)
 
 bytes-where : (t : ℕ → Bool) (f : ℕ → NewCell) (a k n : ℕ) → ((i : ℕ) → k ≤ i → i < k + n → (f i).length ≡ cond (t i) a 0) →
     bytes_in (map f (from_to k n)) ≡ length (filter t (from_to k n)) * a
@@ -38,8 +38,8 @@ bytes-where t f a k (suc n) h = at (t k) refl (bytes-cons (f k) (map f (from_to 
     at : (b : Bool) → t k ≡ b → bytes_in (f k ∷ map f (from_to (suc k) n)) ≡ (f k).length + bytes_in (map f (from_to (suc k) n)) →
         (f k).length ≡ cond (t k) a 0
         → bytes_in (map f (from_to (suc k) n)) ≡ length (filter t (from_to (suc k) n)) * a →
-            bytes_in (f k ∷ map f (from_to (suc k) n)) ≡ length
-            (cond (t k) (k ∷ filter t (from_to (suc k) n)) (filter t (from_to (suc k) n))) * a
+        bytes_in (f k ∷ map f (from_to (suc k) n)) ≡ length
+        (cond (t k) (k ∷ filter t (from_to (suc k) n)) (filter t (from_to (suc k) n))) * a
     at true e c d r =
         c ∙ ap₂ (λ x y. x + y) (d ∙ ap (λ b. cond b a 0) e) r
         ∙ (let z : a + length (filter t (from_to (suc k) n)) * a ≡ suc (length (filter t (from_to (suc k) n))) * a = omega arith in z)
@@ -52,7 +52,7 @@ bytes-where t f a k (suc n) h = at (t k) refl (bytes-cons (f k) (map f (from_to 
 module _ (s : StepContext) (t : ℕ → Bool) (held : s.holding ≡ filter t (from_to 0 (count s))) where
   holds : (i : ℕ) → i < count s → is_in i s.holding ≡ t i
   holds i h = ap (is_in i) held ∙ is_in-filter t 0 (count s) i (let z : 0 ≤ i = omega arith in z) (let z : i < 0 + count s =
-                                                                                                         omega arith in z)
+      omega arith in z)
 
   entry-size : (i : ℕ) → i < count s → length (held_entry s i).into ≡ cond (t i) 2 1
   entry-size i h = ap (λ b. length (cond b (full_entry s i) (bare_entry s i)).into) (holds i h) ∙ at (t i)
@@ -81,6 +81,6 @@ module _ (s : StepContext) (t : ℕ → Bool) (held : s.holding ≡ filter t (fr
   gatherv-bytes root =
       let a = bytes-append (map (held_entry s) (places s)) (concatenated s root ∷ []) in
       let b = bytes-where t (held_entry s) s.length 0 (count s) (λ i g l. entry-bytes i (let z : i < count s = omega (arith, l) in z))
-            ∙ ap (λ v. length v * s.length) (sym held) in
+      ∙ ap (λ v. length v * s.length) (sym held) in
       let c = bytes-cons (concatenated s root) [] in
       omega (arith, a, b, c)

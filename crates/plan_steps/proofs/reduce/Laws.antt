@@ -20,12 +20,12 @@ reduce-sound ranks k s root o ground whole has cells =
     both_parts (SoundNewCell ranks k) s s.first (full_entry s) (up s root o)
     (entries-sound ranks k s ground whole has)
     (up-sound k s root o ranks ground.some ground.members whole (entry-cells k s (up s root o) cells)
-        (behind (IsCell k) s s.first (full_entry s) (up s root o) cells))
+    (behind (IsCell k) s s.first (full_entry s) (up s root o) cells))
 
 pub reduce-value : (k : ℕ → Cell) (val x : ℕ → List ℕ) (s : StepContext) (root : ℕ) (o : AtomicOp) → root < count s →
     s.length % bytes_of s.ty ≡ 0
     → ((i : ℕ) → i < count s → (val (source_at s i) ≡ x i) × (length (val (source_at s i)) ≡ s.length)) →
-        EachAt (Known k val) s.first (reduce_cells s root o)
+    EachAt (Known k val) s.first (reduce_cells s root o)
     → val (up_number s 0) ≡ folded o s.ty (map x (from_to 0 (count s))) (starting o s.ty s.length)
 reduce-value k val x s root o root_in whole has known = up-value k s root o val x root_in whole
     (entry-known k val x s (up s root o) known has) (behind (Known k val) s s.first (full_entry s) (up s root o) known)

@@ -1,12 +1,12 @@
 -- A reduce-scatter is sound, and each place has its block of the fold.
-use Rattle.std.proofs.Common.{ℕ, zero, suc, ◌+◌, ◌-◌, ◌*◌, ◌%◌, ◌≡◌, ◌≤◌, ◌<◌, List, ◌++◌, length, map, ap, ◌∙◌, sym, arith, append_assoc,
-    length-append}
+use Rattle.std.proofs.Common.{ℕ, zero, suc, ◌+◌, ◌-◌, ◌*◌, ◌%◌, ◌≡◌, ◌≤◌, ◌<◌, List, ◌++◌, length, map, ap, ◌∙◌, sym, arith, append_assoc}
+use Rattle.std.proofs.Common.{length-append}
 use Rattle.coll_shape.specs.Folding.{folded}
 use Rattle.plan_core.specs.Draw.{NewCell, cell_of}
 use Rattle.plan_core.specs.Plan.{from_to}
 use Rattle.plan_core.specs.declared.Cell.{Cell}
-use Rattle.plan_steps.proofs.Cutting.{cutting-sound, cutting_after-sound, cutting-value, cutting_after-value, within, front_of, back_of,
-    whole_of}
+use Rattle.plan_steps.proofs.Cutting.{cutting-sound, cutting_after-sound, cutting-value, cutting_after-value, within, front_of, back_of}
+use Rattle.plan_steps.proofs.Cutting.{whole_of}
 use Rattle.plan_steps.proofs.Drawn.{length-map-from}
 use Rattle.plan_steps.proofs.Entries.{Ground, HasA, IsCell, Known, behind, each_places, of_places}
 use Rattle.plan_steps.proofs.Trees.{up-at}
@@ -43,9 +43,9 @@ module _ (k : ℕ → Cell) (s : StepContext) (o : AtomicOp) where
       → EachAt (IsCell k) s.first (reducescatter_cells s o) → EachAt (SoundNewCell ranks k) s.first (reducescatter_cells s o)
   reducescatter-sound ranks ground whole whole' all has cells =
       whole_of (SoundNewCell ranks k) s.first (further s (count s)) (reducescatter_cells s o) (reduce_cells s 0 o) blocks regrouped
-          long_front
+      long_front
       (reduce-sound ranks k s 0 o ground whole has (front_of (IsCell k) s.first (reducescatter_cells s o) (reduce_cells s 0 o) blocks
-          regrouped cells))
+      regrouped cells))
       (each_places (SoundNewCell ranks k) s (further s (count s)) (result_block s) one)
     where
       ups : EachAt (IsCell k) (s.first + count s) (up s 0 o)
@@ -64,15 +64,15 @@ module _ (k : ℕ → Cell) (s : StepContext) (o : AtomicOp) where
           (0 * block_length s) (ground.members 0 h) whole' (omega arith) (fits 0 h)
       one (suc r) h =
           cutting_after-sound ranks k (further s (count s) + suc r) s.ty (block_length s) (rank_at s (suc r)) (up_number s (suc r))
-              (up_number s 0) (suc r * block_length s) (ground.members (suc r) h) whole' (omega arith)
+          (up_number s 0) (suc r * block_length s) (ground.members (suc r) h) whole' (omega arith)
           (ap (λ (c : Cell). c.rank) (c_cell (suc r) h) ∙ ap (rank_at s) (same_place (suc r) h)) (omega arith) (fits (suc r) h)
 
   -- each place has its block of the fold
   pub reducescatter-value : (val x : ℕ → List ℕ) → 0 < count s → s.length % bytes_of s.ty ≡ 0 → s.length ≡ count s * block_length s
       → ((i : ℕ) → i < count s → (val (source_at s i) ≡ x i) × (length (val (source_at s i)) ≡ s.length)) →
-          EachAt (Known k val) s.first (reducescatter_cells s o)
+      EachAt (Known k val) s.first (reducescatter_cells s o)
       → (i : ℕ) → i < count s → val (further s (count s + i)) ≡ part (i * block_length s) (block_length s)
-          (folded o s.ty (map x (from_to 0 (count s))) (starting o s.ty s.length))
+      (folded o s.ty (map x (from_to 0 (count s))) (starting o s.ty s.length))
   reducescatter-value val x pos whole all has known i h =
       ap val (let e : s.first + (count s + (count s + i)) ≡ further s (count s) + i = omega arith in e)
       ∙ (of_places (Known k val) s (further s (count s)) (result_block s) last i h).is_value

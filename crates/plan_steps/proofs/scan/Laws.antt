@@ -1,6 +1,6 @@
 -- A scan is sound, and each place has the fold of the places up to it.
-use Rattle.std.proofs.Common.{ℕ, zero, suc, Bool, true, false, cond, ◌+◌, ◌-◌, ◌*◌, ◌%◌, ◌^◌, ◌≡◌, ◌≤◌, ◌<◌, List, [], ◌∷◌, refl, length,
-    map, ap, ◌∙◌, subst, inl, inr, arith, nat_le, le_refl}
+use Rattle.std.proofs.Common.{ℕ, zero, suc, Bool, true, false, cond, ◌+◌, ◌-◌, ◌*◌, ◌%◌, ◌^◌, ◌≡◌, ◌≤◌, ◌<◌, List, [], ◌∷◌, refl, length}
+use Rattle.std.proofs.Common.{map, ap, ◌∙◌, subst, inl, inr, arith, nat_le, le_refl}
 use Rattle.coll_shape.specs.Folding.{folded}
 use Rattle.plan_core.specs.Draw.{NewCell}
 use Rattle.plan_core.specs.Members.{In}
@@ -29,7 +29,7 @@ module _ (k : ℕ → Cell) (s : StepContext) (o : AtomicOp) where
   scan-at P h j r i l =
       let z : 0 + j ≡ j = omega arith in
       subst (λ c. P c (scan_cell s o j r)) (let e : s.first + count s + (j * count s + r) ≡ s.first + (count s + (j * count s + r)) =
-                                                  omega arith in e)
+      omega arith in e)
       (subst (λ v. P (s.first + count s + (j * count s + r)) (scan_cell s o v r)) z
       (each_of_rows P (s.first + count s) (scan_cell s o) (count s) 0 (suc (rounds (count s))) h j r (omega arith) l))
 
@@ -40,7 +40,7 @@ module _ (k : ℕ → Cell) (s : StepContext) (o : AtomicOp) where
       (entries-sound ranks k s ground whole has)
       (each_rows (SoundNewCell ranks k) (s.first + count s) (scan_cell s o) (count s) 0 (suc (rounds (count s)))
       (λ j r h i. let z : j ≡ 0 + j = omega arith in subst (λ v. SoundNewCell ranks k (s.first + count s + (j * count s + r))
-          (scan_cell s o v r)) z (one j r h i)))
+      (scan_cell s o v r)) z (one j r h i)))
     where
       row_cells : EachAt (IsCell k) (s.first + count s) scan_rows
       row_cells = behind (IsCell k) s s.first (full_entry s) scan_rows cells
@@ -57,13 +57,16 @@ module _ (k : ℕ → Cell) (s : StepContext) (o : AtomicOp) where
           (scan_cell s o j r)
       one zero r h i =
           combining-sound ranks k (s.first + count s + (0 * count s + r)) o s.ty s.length (rank_at s r) (entry s r) []
-              (ground.members r i) whole
-          (λ c m. elim m [ inl e ↦ subst (λ c. (c < s.first + count s + (0 * count s + r)) × ((k c).ty ≡ s.ty) ×
-              ((k c).length ≡ s.length)) e (let q = entry-cells k s scan_rows cells r i in
-              (omega arith, ap (λ (x : Cell). x.ty) q, ap (λ (x : Cell). x.length) q)) | inr z ↦ absurd z ])
+          (ground.members r i) whole
+          (λ c m. elim m [
+            | inl e ↦ subst (λ c. (c < s.first + count s + (0 * count s + r)) × ((k c).ty ≡ s.ty) ×
+                ((k c).length ≡ s.length)) e (let q = entry-cells k s scan_rows cells r i in
+                (omega arith, ap (λ (x : Cell). x.ty) q, ap (λ (x : Cell). x.length) q))
+            | inr z ↦ absurd z
+          ])
       one (suc j) r h i =
           combining-sound ranks k (s.first + count s + (suc j * count s + r)) o s.ty s.length (rank_at s r) (scan_number s j r)
-              (cond (nat_le (2 ^ j) r) (scan_number s j (r - 2 ^ j) ∷ []) []) (ground.members r i) whole
+          (cond (nat_le (2 ^ j) r) (scan_number s j (r - 2 ^ j) ∷ []) []) (ground.members r i) whole
           (λ c m. elim m [
             | inl e ↦ subst (λ c. (c < s.first + count s + (suc j * count s + r)) × ((k c).ty ≡ s.ty) × ((k c).length ≡ s.length)) e
                 (earlier (s.first + count s + (suc j * count s + r)) j r (omega arith) i
@@ -83,10 +86,10 @@ module _ (k : ℕ → Cell) (s : StepContext) (o : AtomicOp) where
       ((i : ℕ) → i < count s → (val (source_at s i) ≡ x i) × (length (val (source_at s i)) ≡ s.length)) →
       EachAt (Known k val) s.first (scan_cells s o)
       → (r : ℕ) → r < count s → val (scan_number s (rounds (count s)) r) ≡ folded o s.ty (map x (from_to 0 (suc r)))
-          (starting o s.ty s.length)
+      (starting o s.ty s.length)
   scan-value val x small whole has known r h =
       scanned o s.ty s.length (count s) whole x (λ j r. val (scan_number s j r)) (rounds (count s)) first next (rounds (count s)) r
-          (le_refl (rounds (count s))) (rounds-enough (count s) small) h
+      (le_refl (rounds (count s))) (rounds-enough (count s) small) h
     where
       row_known : EachAt (Known k val) (s.first + count s) scan_rows
       row_known = behind (Known k val) s s.first (full_entry s) scan_rows known
@@ -96,7 +99,7 @@ module _ (k : ℕ → Cell) (s : StepContext) (o : AtomicOp) where
           let e = entry-known k val x s scan_rows known has r i in
           (scan-at (Known k val) row_known 0 r (omega arith) i).is_value
           ∙ combining-value o s.ty s.length (rank_at s r) (entry s r ∷ []) val whole
-              (λ c m. elim m [ inl q ↦ subst (λ c. length (val c) ≡ s.length) q e.1 | inr z ↦ absurd z ])
+          (λ c m. elim m [ inl q ↦ subst (λ c. length (val c) ≡ s.length) q e.1 | inr z ↦ absurd z ])
           ∙ ap (combined o s.ty (starting o s.ty s.length)) e.0
 
       long : (j r : ℕ) → j ≤ rounds (count s) → r < count s → length (val (scan_number s j r)) ≡ s.length
@@ -108,8 +111,11 @@ module _ (k : ℕ → Cell) (s : StepContext) (o : AtomicOp) where
       next j r t i =
           (scan-at (Known k val) row_known (suc j) r t i).is_value
           ∙ combining-value o s.ty s.length (rank_at s r) (scan_number s j r ∷ cond (nat_le (2 ^ j) r) (scan_number s j (r - 2 ^ j) ∷ [])
-              []) val whole (λ c m. elim m [ inl q ↦ subst (λ c. length (val c) ≡ s.length) q (long j r (omega arith) i) | inr n ↦ second
-              (nat_le (2 ^ j) r) c n ])
+          []) val whole (λ c m. elim m [
+            | inl q ↦ subst (λ c. length (val c) ≡ s.length) q (long j r (omega arith) i)
+            | inr n ↦ second
+                (nat_le (2 ^ j) r) c n
+          ])
           ∙ both (nat_le (2 ^ j) r)
         where
           second : (b : Bool) (c : ℕ) → In c (cond b (scan_number s j (r - 2 ^ j) ∷ []) []) → length (val c) ≡ s.length

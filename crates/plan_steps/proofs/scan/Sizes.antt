@@ -1,6 +1,6 @@
 -- A scan's links and bytes, in closed form.
-use Rattle.std.proofs.Common.{ℕ, zero, suc, Bool, true, false, cond, ◌+◌, ◌-◌, ◌*◌, ◌^◌, ◌≡◌, [], ◌∷◌, refl, length, map, sum_by, nat_le,
-    ap, ap₂, ◌∙◌, sym, arith}
+use Rattle.std.proofs.Common.{ℕ, zero, suc, Bool, true, false, cond, ◌+◌, ◌-◌, ◌*◌, ◌^◌, ◌≡◌, [], ◌∷◌, refl, length, map, sum_by, nat_le}
+use Rattle.std.proofs.Common.{ap, ap₂, ◌∙◌, sym, arith}
 use Rattle.plan_core.specs.Draw.{NewCell, links_of, bytes_in}
 use Rattle.plan_core.specs.Plan.{from_to}
 use Rattle.plan_steps.proofs.StepSizes.{links-cons, links-append, bytes-append, links-row, bytes-rows, entry-links, entry-bytes}
@@ -20,7 +20,7 @@ links-above f t k (suc n) h = at (nat_le t k) refl (links-cons (f k) (map f (fro
     at : (b : Bool) → nat_le t k ≡ b → links_of (f k ∷ map f (from_to (suc k) n)) ≡ length (f k).into + links_of
         (map f (from_to (suc k) n)) → length (f k).into ≡ cond (nat_le t k) 2 1
         → links_of (map f (from_to (suc k) n)) ≡ n + (suc k + n - t - (suc k - t)) → links_of (f k ∷ map f (from_to (suc k) n)) ≡ suc n
-            + (k + suc n - t - (k - t))
+        + (k + suc n - t - (k - t))
     at true e c d r = let l = leb-true _ _ e in let g = d ∙ ap (λ b. cond b 2 1) e in omega (arith, l, c, g, r)
     at false e c d r = let l = leb-false _ _ e in let g = d ∙ ap (λ b. cond b 2 1) e in omega (arith, l, c, g, r)
 
@@ -39,7 +39,7 @@ further-rows s o a (suc n) =
     links-append (row s (scan_cell s o) (suc a)) (rows s (scan_cell s o) (suc (suc a)) n)
     ∙ ap₂ (λ x y. x + y)
     (links-above (scan_cell s o (suc a)) (2 ^ a) 0 (count s) (scan-size s o a)
-        ∙ (let e : count s + (0 + count s - 2 ^ a - (0 - 2 ^ a)) ≡ count s + (count s - 2 ^ a) = omega arith in e))
+    ∙ (let e : count s + (0 + count s - 2 ^ a - (0 - 2 ^ a)) ≡ count s + (count s - 2 ^ a) = omega arith in e))
     (further-rows s o (suc a) n)
     ∙ sym (sum_by-cons (λ k. count s + (count s - 2 ^ k)) a (from_to (suc a) n))
 

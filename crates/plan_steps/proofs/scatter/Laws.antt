@@ -1,6 +1,6 @@
 -- A scatter is sound, and each place has its block of the root's list.
-use Rattle.std.proofs.Common.{ℕ, Bool, true, false, cond, ◌+◌, ◌*◌, ◌%◌, ◌≡◌, ◌≤◌, ◌<◌, ◌==◌, List, [], ◌∷◌, refl, length, map, ap, ◌∙◌,
-    sym, subst, arith, eqb-true, eq-eqb}
+use Rattle.std.proofs.Common.{ℕ, Bool, true, false, cond, ◌+◌, ◌*◌, ◌%◌, ◌≡◌, ◌≤◌, ◌<◌, ◌==◌, List, [], ◌∷◌, refl, length, map, ap, ◌∙◌}
+use Rattle.std.proofs.Common.{sym, subst, arith, eqb-true, eq-eqb}
 use Rattle.plan_core.specs.Draw.{NewCell, cell_of}
 use Rattle.plan_core.specs.declared.Cell.{Cell}
 use Rattle.plan_steps.proofs.CellKinds.{bumped-sound, copying-sound}
@@ -9,8 +9,8 @@ use Rattle.plan_steps.proofs.Drawn.{each_front}
 use Rattle.plan_steps.proofs.Entries.{behind, both_parts, each_places, entry-value, of_places}
 use Rattle.plan_steps.specs.Broadcast.{first_cell}
 use Rattle.plan_steps.specs.Scatter.{scatter_cells, scatter_put, scattered}
-use Rattle.plan_steps.specs.StepContext.{StepContext, bare_entry, bump, count, entry, exit_at, full_entry, further, holding, places,
-    rank_at, source_at, block_length}
+use Rattle.plan_steps.specs.StepContext.{StepContext, bare_entry, bump, count, entry, exit_at, full_entry, further, holding, places}
+use Rattle.plan_steps.specs.StepContext.{rank_at, source_at, block_length}
 use Rattle.plan_steps.specs.Sounding.{EachAt, Ground, HasA, IsCell, Known, SoundNewCell, new_value}
 use Rattle.ptl_types.specs.Elements.{part}
 use Rattle.ptl_types.specs.Operations.{bytes_of}
@@ -52,14 +52,14 @@ module _ (k : ℕ → Cell) (s : StepContext) (root : ℕ) (root_in : root < cou
           let a : HasA k s i = subst (HasA k s) (sym q) has in
           let l = a.low in let x = ground.exit_low i h in
           copying-sound ranks k (s.first + i) s.ty s.length (rank_at s i) (exit_at s i) (source_at s i) (ground.members i h) whole
-              (omega arith) (ground.exit_rank i h) (omega arith) a.long
+          (omega arith) (ground.exit_rank i h) (omega arith) a.long
       one i h false e = let x = ground.exit_low i h in bumped-sound ranks k (s.first + i) (rank_at s i) (exit_at s i) (ground.members i h)
           (omega arith) (ground.exit_rank i h)
 
       fits : (r : ℕ) → r < count s → r * block_length s + block_length s ≤ (k (entry s root)).length
       fits r h = let l = ap (λ (c : Cell). c.length) (at_place root root_in ∙ ap cell_of root_first) in let w =
-                                                                                                              within (count s) s.length r
-                                                                                                              h all in omega (arith, l, w)
+          within (count s) s.length r
+          h all in omega (arith, l, w)
 
       two : (r : ℕ) → r < count s → (b : Bool) → SoundNewCell ranks k (s.first + count s + r) (block_cell r b)
       two r h true = cutting-sound ranks k (s.first + count s + r) s.ty (block_length s) (rank_at s r) (entry s root) (r * block_length s)
@@ -74,7 +74,7 @@ module _ (k : ℕ → Cell) (s : StepContext) (root : ℕ) (root_in : root < cou
   scatter-value val all long known r h =
       ap val (let e : s.first + (count s + r) ≡ s.first + count s + r = omega arith in e)
       ∙ (of_places (Known k val) s (s.first + count s) (scattered s root)
-          (behind (Known k val) s s.first (first_cell s root) (map (scattered s root) (places s)) known) r h).is_value
+      (behind (Known k val) s s.first (first_cell s root) (map (scattered s root) (places s)) known) r h).is_value
       ∙ at (r == root)
       ∙ ap (part (r * block_length s) (block_length s)) (entry-value k val s root at_root long)
     where

@@ -1,6 +1,6 @@
 -- A scatter's links and bytes, in closed form.
-use Rattle.std.proofs.Common.{ℕ, Bool, true, false, cond, ◌+◌, ◌-◌, ◌*◌, ◌≡◌, ◌<◌, ◌≤◌, ◌==◌, [], ◌∷◌, refl, length, map, ap, ap₂, ◌∙◌,
-    arith, eq-eqb, ◌/◌}
+use Rattle.std.proofs.Common.{ℕ, Bool, true, false, cond, ◌+◌, ◌-◌, ◌*◌, ◌≡◌, ◌<◌, ◌≤◌, ◌==◌, [], ◌∷◌, refl, length, map, ap, ap₂, ◌∙◌}
+use Rattle.std.proofs.Common.{arith, eq-eqb, ◌/◌}
 use Rattle.plan_core.specs.Draw.{links_of, bytes_in}
 use Rattle.plan_steps.proofs.StepSizes.{links-append, bytes-append, bytes-row, links-one, first-bytes}
 use Rattle.plan_steps.specs.Broadcast.{first_cell}

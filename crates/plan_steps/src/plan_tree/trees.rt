@@ -96,9 +96,15 @@ pub(crate) fn up_number(site: &StepContext, v: u32) -> u32
 }
 
 /// What a child of v has, if w is one.
-fn push_child(links: &mut Vec<Incoming>, site: &StepContext, v: u32, w: u32) -> Result<(), AllocError>
+fn push_child(
+    links: &mut Vec<Incoming>,
+    site: &StepContext,
+    v: u32,
+    w: u32,
+) -> Result<(), AllocError>
     requires { w < count site.now }
-    ensures { IfOk result (λ u. links.new.items ≡ links.old.items ++ (if parent w == v then atomic site.now.length (up_number site.now w) ∷ [] else [])) }
+    ensures { IfOk result (λ u. links.new.items ≡ links.old.items ++
+        (if parent w == v then atomic site.now.length (up_number site.now w) ∷ [] else [])) }
 {
     if parent(w) == v {
         links.push(atomic(site.length(), up_number(site, w)))?;
@@ -107,7 +113,12 @@ fn push_child(links: &mut Vec<Incoming>, site: &StepContext, v: u32, w: u32) -> 
 }
 
 /// What is combined in the cell of v: the list at its place, and what its children have.
-fn up_links(alloc: Global, site: &StepContext, root: u32, v: u32) -> Result<Vec<Incoming>, AllocError>
+fn up_links(
+    alloc: Global,
+    site: &StepContext,
+    root: u32,
+    v: u32,
+) -> Result<Vec<Incoming>, AllocError>
     requires root { root < count site.now }
     requires v { v < count site.now }
     ensures { IfOk result (λ links. links.items ≡ map (atomic site.now.length) (up_sources site.now root v)) }
@@ -155,7 +166,13 @@ impl Rows for Up {
 
     ghost cell = { λ up s k. up_at s up.root up.op };
 
-    fn draw(&self, plan: &mut Plan, site: &StepContext, _number: u32, place: u32) -> Result<(), NoMemory> {
+    fn draw(
+        &self,
+        plan: &mut Plan,
+        site: &StepContext,
+        _number: u32,
+        place: u32,
+    ) -> Result<(), NoMemory> {
         let count = site.count();
         draw_up_cell(
             self.alloc,

@@ -1,6 +1,6 @@
 -- What a node finds ready after its open lanes.
-use Rattle.std.proofs.Common.{ℕ, zero, suc, Bool, true, false, not, ◌≡◌, ◌<◌, ◌≤◌, ◌∙◌, List, [], ◌∷◌, Option, Some, None, refl, ap, ap₂,
-    sym, arith, inl, inr, map, filter, length, get_or, nat_lt, if◌then◌else◌, lt-ltb}
+use Rattle.std.proofs.Common.{ℕ, zero, suc, Bool, true, false, not, ◌≡◌, ◌<◌, ◌≤◌, ◌∙◌, List, [], ◌∷◌, Option, Some, None, refl, ap, ap₂}
+use Rattle.std.proofs.Common.{sym, arith, inl, inr, map, filter, length, get_or, nat_lt, if◌then◌else◌, lt-ltb}
 use Rattle.std.proofs.lemmas.Bool.{cases_lt}
 use Rattle.std.proofs.lemmas.List.{get_or_default}
 use Rattle.ptl_types.specs.Messages.{Sent}
@@ -53,6 +53,6 @@ module _ (z : Scene) (window r : ℕ) (some : 0 < window) (closed : List Bool) (
   open-possible k s e =
       filter-map (Fire r) (is_possible k window z) (ready_numbers (state_at k z.world r))
       ∙ ap (map (Fire r)) (filter-same (λ t. is_possible k window z (Fire r t))
-          (λ t. goes_out closed (target_at (state_at k z.world r) t)) (ready_numbers (state_at k z.world r))
+      (λ t. goes_out closed (target_at (state_at k z.world r) t)) (ready_numbers (state_at k z.world r))
       (λ t. room (fired (state_at k z.world r) t).message ∙ ap (goes_out closed) (fired-target (state_at k z.world r) t)))
       ∙ ap (λ v. map (Fire r) (open_numbers closed v)) (sym e)

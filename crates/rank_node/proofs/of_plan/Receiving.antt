@@ -1,6 +1,6 @@
 -- The first message of a lane finds room at its target's node.
-use Rattle.std.proofs.Common.{ℕ, Bool, true, false, cond, ◌≡◌, ◌<◌, ◌≤◌, ◌+◌, ◌*◌, ◌∙◌, List, [], ◌∷◌, ◌++◌, refl, ap, sym, subst, arith,
-    count_by, length, sum_by, eq-eqb, if◌then◌else◌}
+use Rattle.std.proofs.Common.{ℕ, Bool, true, false, cond, ◌≡◌, ◌<◌, ◌≤◌, ◌+◌, ◌*◌, ◌∙◌, List, [], ◌∷◌, ◌++◌, refl, ap, sym, subst, arith}
+use Rattle.std.proofs.Common.{count_by, length, sum_by, eq-eqb, if◌then◌else◌}
 use Rattle.op_laws.proofs.OpLaws.{op_laws}
 use Rattle.op_laws.proofs.Starts.{combined-starts}
 use Rattle.op_laws.proofs.Swaps.{combined-swaps}
@@ -44,19 +44,19 @@ all_bytes (Receive s l m ∷ es) short =
     at : (b : Bool) → is_stray m ≡ b → bytes_received es ≤ received_bytes es + stray_bytes * count_by is_received_stray es →
         count_by is_received_stray (Receive s l m ∷ es) ≡ cond (is_stray m) 1 0 + count_by is_received_stray es
         → bytes_received (Receive s l m ∷ es) ≤ received_bytes (Receive s l m ∷ es) + stray_bytes * count_by is_received_stray
-            (Receive s l m ∷ es)
+        (Receive s l m ∷ es)
     at true e k c =
         let n = short.0 e in
         let d : count_by is_received_stray (Receive s l m ∷ es) ≡ 1 + count_by is_received_stray es = c
-              ∙ ap (λ b. cond b 1 0 + count_by is_received_stray es) e in
+        ∙ ap (λ b. cond b 1 0 + count_by is_received_stray es) e in
         let r : received_bytes (Receive s l m ∷ es) ≡ 0 + received_bytes es =
-              ap (λ b. (if b then 0 else length m.bytes) + received_bytes es) e in
+        ap (λ b. (if b then 0 else length m.bytes) + received_bytes es) e in
         omega arith
     at false e k c =
         let d : count_by is_received_stray (Receive s l m ∷ es) ≡ 0 + count_by is_received_stray es = c
-              ∙ ap (λ b. cond b 1 0 + count_by is_received_stray es) e in
+        ∙ ap (λ b. cond b 1 0 + count_by is_received_stray es) e in
         let r : received_bytes (Receive s l m ∷ es) ≡ length m.bytes + received_bytes es =
-              ap (λ b. (if b then 0 else length m.bytes) + received_bytes es) e in
+        ap (λ b. (if b then 0 else length m.bytes) + received_bytes es) e in
         omega arith
 
 -- the interface of a node is its rank's
@@ -67,7 +67,7 @@ rank-state p inputs slots z r n is = run-state p inputs slots z.world r n is.com
 module _ (p : Plan) (inputs : Inputs) (sound : SoundPlan p (length inputs)) (fit : AreInputsOf p inputs) (slots : ℕ → Slots) (z : Scene)
     (moment : IsMoment (system_of p inputs slots) z.world z.held)
     (r s : ℕ) (lane : Lane) (m : Sent) (later : List Sent) (hr : r < p.ranks) (hs : s < p.ranks) (front : z.held s r lane ≡ m ∷ later)
-        (n : NodeState) (is : IsRank p inputs slots z r n) (room : HasStrayRoom n (Receive s lane m)) where
+    (n : NodeState) (is : IsRank p inputs slots z r n) (room : HasStrayRoom n (Receive s lane m)) where
   abbrev received : Local
   received = Receive s lane m
 
@@ -81,7 +81,7 @@ module _ (p : Plan) (inputs : Inputs) (sound : SoundPlan p (length inputs)) (fit
       let step = listed_made k z (Deliver s r lane) (enabled_listed k z r received hr (hs, (later, front))) in
       let next : IsMoment k (behind (z.held s r lane)).world (behind (z.held s r lane)).held =
       next_local combined-starts p inputs sound fit (combined-swaps op_laws) slots z.world z.held moment (behind (z.held s r lane)).world
-          (behind (z.held s r lane)).held step in
+      (behind (z.held s r lane)).held step in
       subst (λ ms. IsMoment k (behind ms).world (behind ms).held) front next
 
   history : (behind (m ∷ later)).world r ≡ n.diary.locals ++ received ∷ []
@@ -101,15 +101,15 @@ module _ (p : Plan) (inputs : Inputs) (sound : SoundPlan p (length inputs)) (fit
   finds_room =
       let may : May false n.nic received = subst (λ v. May false v received) (sym (rank-state p inputs slots z r n is))
       (next_held combined-starts p inputs sound fit (combined-swaps op_laws) slots z.world z.held moment false r s lane m later hr hs
-          front) in
+      front) in
       let told = is.compiled.receipts in
       let told_bytes = is.compiled.bytes in
       let had = is.node.receipts in
       let held_bytes = is.node.bytes in
       let more : count_by is_receipt (n.diary.locals ++ received ∷ []) ≡ count_by is_receipt n.diary.locals + 1 =
-            receipts-push n.diary.locals received in
+      receipts-push n.diary.locals received in
       let longer : bytes_received (n.diary.locals ++ received ∷ []) ≡ bytes_received n.diary.locals + (length m.bytes + 0) =
-            bytes-push n.diary.locals received in
+      bytes-push n.diary.locals received in
       let at_most = room.at_most in
       let a = number in
       let b = own_bytes in

@@ -22,8 +22,13 @@ use Rattle.rank_node.specs.Plans.{IsCompiledFor}
 module _ (p : Plan) (inputs : Inputs) (slots : ℕ → Slots) (z : Scene) (r : ℕ) where
   pub fired-rank : (t : ℕ) (n : NodeState) → IsRank p inputs slots z r n → IsNode (fired_node t n) →
       IsRank p inputs slots (step_made (system_of p inputs slots) (Fire r t) z) r (fired_node t n)
-  fired-rank t n is keeps = record { compiled = is.compiled; node = keeps; agrees = is.agrees; history = here r (Fired t) z.world
-      ∙ ap (λ h. h ++ Fired t ∷ []) is.history }
+  fired-rank t n is keeps = record {
+    compiled = is.compiled;
+    node = keeps;
+    agrees = is.agrees;
+    history = here r (Fired t) z.world
+        ∙ ap (λ h. h ++ Fired t ∷ []) is.history;
+  }
 
   pub received-rank : (s : ℕ) (lane : Lane) (m : Sent) (later : List Sent) (n : NodeState) → z.held s r lane ≡ m ∷ later →
       IsRank p inputs slots z r n → IsNode (received_node s lane m n)
@@ -57,5 +62,10 @@ module _ (k : System) (z : Scene) (q : ℕ) where
 
 pub other-rank : (p : Plan) (inputs : Inputs) (slots : ℕ → Slots) (z : Scene) (q : ℕ) (x : Step) (n : NodeState) → (q ≡ mover x → ⊥) →
     IsRank p inputs slots z q n → IsRank p inputs slots (step_made (system_of p inputs slots) x z) q n
-other-rank p inputs slots z q x n apart is = record { compiled = is.compiled; node = is.node; agrees = is.agrees; history =
-    other-world (system_of p inputs slots) z q x apart ∙ is.history }
+other-rank p inputs slots z q x n apart is = record {
+  compiled = is.compiled;
+  node = is.node;
+  agrees = is.agrees;
+  history =
+      other-world (system_of p inputs slots) z q x apart ∙ is.history;
+}

@@ -1,6 +1,6 @@
 -- Orders that are written are read back.
-use Rattle.std.proofs.Common.{ℕ, zero, suc, ◌+◌, ◌-◌, ◌<◌, ◌≤◌, ◌^◌, ◌≡◌, ◌++◌, List, [], ◌∷◌, map, Option, Some, None, Ok, Err, true,
-    false, cond, ◌&&◌, refl, sym, ap, ◌∙◌, arith, append_assoc}
+use Rattle.std.proofs.Common.{ℕ, zero, suc, ◌+◌, ◌-◌, ◌<◌, ◌≤◌, ◌^◌, ◌≡◌, ◌++◌, List, [], ◌∷◌, map, Option, Some, None, Ok, Err, true}
+use Rattle.std.proofs.Common.{false, cond, ◌&&◌, refl, sym, ap, ◌∙◌, arith, append_assoc}
 use Rattle.std.specs.Prelude.{nat_le, ◌==◌, is_some, option_map, option_and_then, codes}
 use Rattle.std.specs.List.{list_all, join_with_byte, flat_map, AllByRecursion}
 use Rattle.std.specs.Fmt.{decimal}

@@ -1,6 +1,6 @@
 -- The first line `end` of a text that is accepted is its last.
-use Rattle.std.proofs.Common.{ℕ, zero, suc, ◌+◌, ◌-◌, ◌≡◌, ◌++◌, List, [], ◌∷◌, length, Option, Some, None, Result, Ok, Err, Bool, true,
-    false, cond, ◌&&◌, ◌||◌, refl, sym, ap, subst, ◌∙◌, inl, inr, arith, append_assoc, length-append, codes}
+use Rattle.std.proofs.Common.{ℕ, zero, suc, ◌+◌, ◌-◌, ◌≡◌, ◌++◌, List, [], ◌∷◌, length, Option, Some, None, Result, Ok, Err, Bool, true}
+use Rattle.std.proofs.Common.{false, cond, ◌&&◌, ◌||◌, refl, sym, ap, subst, ◌∙◌, inl, inr, arith, append_assoc, length-append, codes}
 use Rattle.std.specs.Prelude.{◌==◌, nat_lt, nat_le, is_some, not, option_and_then, option_map}
 use Rattle.std.specs.List.{list_all, list_any, join_with_byte}
 use Rattle.std.specs.Str.{bytes_eq}
@@ -20,17 +20,17 @@ use Rattle.coll_shape.specs.Collectives.{can_read, made_length}
 use Rattle.coll_shape.specs.WellFormed.{most_ranks, elements_of}
 use Rattle.coll_shape.specs.declared.limits.TheConstants.{MOST_GROUPS, MOST_BUFFERS, MOST_STEPS, MOST_PRINTS, MOST_GIVEN, MOST_ELEMENTS}
 use Rattle.coll_lang.specs.Forms.{Form, complete, group, input, step, choice, print, last, form_of}
-use Rattle.coll_lang.specs.Language.{Past, all_numbers, buffer_named, choice_line, data_due, form_line, group_line, group_named, holds_of,
-    input_line, is_allowed, is_finished, is_taken, judge, later_line, line_at, may_stand, members_in, nothing, numbered, print_line,
-    program_in, ranks_in, read, read_from, root_number, rooted_line, source_named, step_line, step_on, unless_flawed, values_line,
-    version_of, are_members}
+use Rattle.coll_lang.specs.Language.{Past, all_numbers, buffer_named, choice_line, data_due, form_line, group_line, group_named, holds_of}
+use Rattle.coll_lang.specs.Language.{input_line, is_allowed, is_finished, is_taken, judge, later_line, line_at, may_stand, members_in}
+use Rattle.coll_lang.specs.Language.{nothing, numbered, print_line, program_in, ranks_in, read, read_from, root_number, rooted_line}
+use Rattle.coll_lang.specs.Language.{source_named, step_line, step_on, unless_flawed, values_line, version_of, are_members}
 use Rattle.coll_lang.specs.Program.{Program}
 use Rattle.coll_lang.specs.declared.stage.Stage.{Stage}
-use Rattle.coll_lang.specs.declared.stage.Stage.TheVariants.{Header, Ranks, Options, Groups, Inputs, Data, Steps, Choosing, Prints,
-    Finished}
+use Rattle.coll_lang.specs.declared.stage.Stage.TheVariants.{Header, Ranks, Options, Groups, Inputs, Data, Steps, Choosing, Prints}
+use Rattle.coll_lang.specs.declared.stage.Stage.TheVariants.{Finished}
 use Rattle.coll_lang.specs.declared.fault.Refusal.{Refusal}
-use Rattle.coll_lang.specs.declared.fault.Refusal.TheVariants.{BadByte, BadGroup, BadHeader, BadLine, BadNumber, BadRanks, BadRoot,
-    NameTaken, TooLarge, TooLong, TooMany, UnknownBuffer, WrongShape}
+use Rattle.coll_lang.specs.declared.fault.Refusal.TheVariants.{BadByte, BadGroup, BadHeader, BadLine, BadNumber, BadRanks, BadRoot}
+use Rattle.coll_lang.specs.declared.fault.Refusal.TheVariants.{NameTaken, TooLarge, TooLong, TooMany, UnknownBuffer, WrongShape}
 use Rattle.coll_lang.proofs.FormSaid.{form_said, form_words}
 use Rattle.coll_lang.proofs.Reading.{not_empty}
 use Rattle.coll_lang.proofs.Sound.{ok_is, ok_of, passed, some_of}

@@ -1,6 +1,6 @@
 -- What is counted for a rank is what it sends.
-use Rattle.std.proofs.Common.{ℕ, Bool, true, false, cond, not, ◌&&◌, ◌+◌, ◌≡◌, ◌<◌, ◌==◌, List, [], ◌∷◌, refl, length, filter, count_by,
-    get_or, ap, ap₂, ◌∙◌, sym, arith, zero-add}
+use Rattle.std.proofs.Common.{ℕ, Bool, true, false, cond, not, ◌&&◌, ◌+◌, ◌≡◌, ◌<◌, ◌==◌, List, [], ◌∷◌, refl, length, filter, count_by}
+use Rattle.std.proofs.Common.{get_or, ap, ap₂, ◌∙◌, sym, arith, zero-add}
 use Rattle.std.proofs.lemmas.Bool.{ne_eqb}
 use Rattle.std.proofs.lemmas.List.Sums.{length-filter}
 use Rattle.plan_core.specs.declared.LinkKind.{LinkKind}

@@ -2,10 +2,10 @@
 use Rattle.coll_lang.specs.declared.fault.Refusal.{Refusal}
 use Rattle.coll_lang.specs.declared.fault.Refusal.TheVariants as names
 use Rattle.text_notes.specs.declared.notes.cause.Cause.{Cause}
-use Rattle.text_notes.specs.declared.notes.cause.Cause.TheVariants.{TooLong, BadByte, BadHeader, BadRanks, BadLine, BadNumber, NameTaken,
-    UnknownBuffer, BadRoot}
-use Rattle.text_notes.specs.declared.notes.cause.Cause.TheVariants.{WrongShape, TooMany, TooLarge, Unended, AfterEnd, BadOrder, BadGroup,
-    BadJson, BadForm, OneThread}
+use Rattle.text_notes.specs.declared.notes.cause.Cause.TheVariants.{TooLong, BadByte, BadHeader, BadRanks, BadLine, BadNumber, NameTaken}
+use Rattle.text_notes.specs.declared.notes.cause.Cause.TheVariants.{UnknownBuffer, BadRoot}
+use Rattle.text_notes.specs.declared.notes.cause.Cause.TheVariants.{WrongShape, TooMany, TooLarge, Unended, AfterEnd, BadOrder, BadGroup}
+use Rattle.text_notes.specs.declared.notes.cause.Cause.TheVariants.{BadJson, BadForm, OneThread}
 
 abbrev pub name_of : Cause → Refusal
 name_of (TooLong most) = names.TooLong

@@ -2,7 +2,8 @@
 
 ghost use Rattle.std.specs.Prelude.{◌≡◌, []};
 ghost use Rattle.text_notes.specs.notes.Messages.{said};
-ghost use Rattle.text_notes.specs.notes.Notes.{line_place, message_of, note_text, path_place, place_of, then_column, then_found, then_line, then_said, then_text_line};
+ghost use Rattle.text_notes.specs.notes.Notes.{line_place, message_of, note_text, path_place, place_of, then_column, then_found, then_line};
+ghost use Rattle.text_notes.specs.notes.Notes.{then_said, then_text_line};
 
 use crate::notes::detail::show_detail;
 use crate::notes::message::{Message, cause_message, fails_message};

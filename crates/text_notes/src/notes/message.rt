@@ -1,7 +1,8 @@
 //! What a note says of its cause.
 
 ghost use Rattle.std.specs.Prelude.{◌≡◌, []};
-ghost use Rattle.text_notes.specs.notes.Messages.{cause_message, excess_message, fails_message, form_message, group_message, limit_message, line_message, need_message, number_message, order_message, said};
+ghost use Rattle.text_notes.specs.notes.Messages.{cause_message, excess_message, fails_message, form_message, group_message, limit_message};
+ghost use Rattle.text_notes.specs.notes.Messages.{line_message, need_message, number_message, order_message, said};
 
 use crate::notes::cause::{
     Cause, Excess, FormFlaw, GroupFlaw, Limit, LineFlaw, Need, NumberFlaw, OrderFlaw,

@@ -1,11 +1,11 @@
 -- What a bit of a word is among the marks of all words.
-use Rattle.std.proofs.Common.{◌≡◌, ℕ, zero, suc, ◌+◌, ◌-◌, ◌*◌, ◌/◌, ◌%◌, ◌^◌, ◌<◌, ◌≤◌, List, [], ◌∷◌, ◌++◌, length, take, drop, get_or,
-    set, sum, replicate, refl, sym, ap, subst, ◌∙◌, inl, inr, arith, zero-add, length-append, length-set}
+use Rattle.std.proofs.Common.{◌≡◌, ℕ, zero, suc, ◌+◌, ◌-◌, ◌*◌, ◌/◌, ◌%◌, ◌^◌, ◌<◌, ◌≤◌, List, [], ◌∷◌, ◌++◌, length, take, drop, get_or}
+use Rattle.std.proofs.Common.{set, sum, replicate, refl, sym, ap, subst, ◌∙◌, inl, inr, arith, zero-add, length-append, length-set}
 use Rattle.std.proofs.Math.Nat.{pow-suc, div-one}
 use Rattle.std.proofs.Math.Seq.{take-append-add}
 use Rattle.std.proofs.lemmas.Nat.{shr-shr}
-use Rattle.std.proofs.lemmas.List.{set-append_left, set-append_right, take-append-le, get_or_append_left, get_or-append-add,
-    replicate-append-replicate, map-set, length-map}
+use Rattle.std.proofs.lemmas.List.{set-append_left, set-append_right, take-append-le, get_or_append_left, get_or-append-add}
+use Rattle.std.proofs.lemmas.List.{replicate-append-replicate, map-set, length-map}
 use Rattle.std.proofs.lemmas.List.Folds.{sum_by-replicate}
 use Rattle.std.proofs.lemmas.List.Sums.{sum_by-append, sum_by-cons, sum_by-set}
 use Rattle.std.proofs.lemmas.Bool.{cases_lt}
@@ -131,7 +131,7 @@ module _ (n j : ℕ) where
   set-marks (x ∷ ws) zero w v lt inside is =
       let l = length-bits n x in
       ap (λ r. r ++ marks_of n ws) is ∙ sym (set-append_left (bits n x) (marks_of n ws) j v (omega (arith, l, inside)))
-          ∙ ap (λ p. set (bits n x ++ marks_of n ws) p v) (sym first)
+      ∙ ap (λ p. set (bits n x ++ marks_of n ws) p v) (sym first)
   set-marks (x ∷ ws) (suc k) w v lt inside is =
       let l = length-bits n x in
       let p : n * suc k + j - n ≡ n * k + j = omega (arith, later k) in
@@ -147,7 +147,7 @@ module _ (n j : ℕ) where
   get-marks (x ∷ ws) (suc k) lt inside =
       let l = length-bits n x in
       ap (λ p. get_or (bits n x ++ marks_of n ws) p 0) (later k ∙ ap (λ m. m + (n * k + j)) (sym l))
-          ∙ get_or-append-add (bits n x) (marks_of n ws) (n * k + j) 0
+      ∙ get_or-append-add (bits n x) (marks_of n ws) (n * k + j) 0
       ∙ get-marks ws k (omega (arith, lt)) inside
 
   pub take-marks : (ws : List ℕ) (k : ℕ) → k < length ws → j < n → sum (take (n * k + j) (marks_of n ws)) ≡ sum (take k (counts_of n ws))
@@ -157,14 +157,14 @@ module _ (n j : ℕ) where
   take-marks (x ∷ ws) zero lt inside =
       let l = length-bits n x in
       ap (λ p. sum (take p (bits n x ++ marks_of n ws))) first
-          ∙ ap sum (take-append-le j (bits n x) (marks_of n ws) (omega (arith, l, inside))) ∙ sym (zero-add (sum (take j (bits n x))))
+      ∙ ap sum (take-append-le j (bits n x) (marks_of n ws) (omega (arith, l, inside))) ∙ sym (zero-add (sum (take j (bits n x))))
   take-marks (x ∷ ws) (suc k) lt inside =
       let l = length-bits n x in
       let rest = take-marks ws k (omega (arith, lt)) inside in
       let head = sum-cons (sum (bits n x)) (take k (counts_of n ws)) in
       ap (λ p. sum (take p (bits n x ++ marks_of n ws))) (later k ∙ ap (λ m. m + (n * k + j)) (sym l))
       ∙ ap sum (take-append-add (bits n x) (marks_of n ws) (n * k + j)) ∙ sum-append (bits n x) (take (n * k + j) (marks_of n ws))
-          ∙ omega (arith, rest, head)
+      ∙ omega (arith, rest, head)
 
 -- ---- how many are set
 pub sum-ones : (n w : ℕ) → w < 2 ^ n → sum (bits n w) ≡ ones w
@@ -232,7 +232,7 @@ module _ (n word i rest left bit : ℕ) (s : IsSearch n word i rest left bit) wh
         within = omega (arith, lt, next);
         rest_is = ap (λ k. drop k (bits n word)) next ∙ d.1;
         before = let sums : sum (take b (bits n word)) ≡ sum (take bit (bits n word)) + rest % 2 =
-                       ap (λ k. sum (take k (bits n word))) next ∙ d.2 in omega (arith, sums, s.before, le);
+            ap (λ k. sum (take k (bits n word))) next ∙ d.2 in omega (arith, sums, s.before, le);
         has = let h = o.1 in omega (arith, h, le);
       }
 
@@ -255,14 +255,14 @@ search-jump zero n word i rest left bit b c s e le at =
     let same : left ≡ left - c = omega (arith, none) in
     let here : bit ≡ b = omega (arith, at) in
     subst (λ r. IsSearch n word i r (left - c) b) (sym (div-one rest))
-        (subst (λ l. IsSearch n word i rest l b) same (subst (λ k. IsSearch n word i rest left k) here s))
+    (subst (λ l. IsSearch n word i rest l b) same (subst (λ k. IsSearch n word i rest left k) here s))
 search-jump (suc z) n word i rest left bit b c s e le at =
     let head = sum-cons (rest % 2) (bits z (rest / 2)) in
     let more = sum (bits z (rest / 2)) in
     let parts : rest % 2 + more ≡ c = sym head ∙ e in
     let first = search-step n word i rest left bit s (suc bit) refl (omega (arith, parts, le)) in
     let then = search-jump z n word i (rest / 2) (left - rest % 2) (suc bit) b more first refl (omega (arith, parts, le))
-          (omega (arith, at)) in
+    (omega (arith, at)) in
     let less : left - rest % 2 - more ≡ left - c = omega (arith, parts) in
     subst (λ r. IsSearch n word i r (left - c) b) (half rest z) (subst (λ l. IsSearch n word i (rest / 2 / 2 ^ z) l b) less then)
 
@@ -327,7 +327,7 @@ module _ (words value : List ℕ) (place : ℕ) (is : marks_of 64 words ≡ valu
       marks_of 64 (set words (place / 64) w) ≡ set value place v
   place-set w v e =
       set-marks 64 (place % 64) words (place / 64) w v word-within (omega arith) e ∙ ap (λ p. set (marks_of 64 words) p v) parts
-          ∙ ap (λ xs. set xs place v) is
+      ∙ ap (λ xs. set xs place v) is
 
 -- the place of a bit
 pub place-found : (words value : List ℕ) (k j rest i : ℕ) → marks_of 64 words ≡ value → k < length words → j < 64 →
@@ -339,6 +339,9 @@ place-found words value k j rest i is lt inside before some one =
     let P : ℕ → List ℕ → Type 0 = λ p xs. (p < length xs) × (sum (take p xs) ≡ i) × (get_or xs p 0 ≡ 1) in
     let l = length-marks 64 words in
     let sums = take-marks 64 j words k lt inside in
-    let all : P (64 * k + j) (marks_of 64 words) = (omega (arith, l, lt, inside), omega (arith, sums, before, some),
-          get-marks 64 j words k lt inside ∙ one) in
+    let all : P (64 * k + j) (marks_of 64 words) = (
+      omega (arith, l, lt, inside),
+      omega (arith, sums, before, some),
+      get-marks 64 j words k lt inside ∙ one,
+    ) in
     subst (λ p. P p value) at (subst (λ xs. P (64 * k + j) xs) is all)

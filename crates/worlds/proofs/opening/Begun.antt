@@ -1,6 +1,6 @@
 -- Parts of which nothing was done are a world.
-use Rattle.std.proofs.Common.{ℕ, zero, suc, true, false, not, ◌&&◌, ◌+◌, ◌*◌, ◌<◌, ◌≤◌, ◌≡◌, ◌∙◌, List, [], get_or, length, count_by,
-    sum_by, nat_lt, replicate, if◌then◌else◌, refl, ap, sym, subst, inl, inr, arith, lt-ltb, ltb-true}
+use Rattle.std.proofs.Common.{ℕ, zero, suc, true, false, not, ◌&&◌, ◌+◌, ◌*◌, ◌<◌, ◌≤◌, ◌≡◌, ◌∙◌, List, [], get_or, length, count_by}
+use Rattle.std.proofs.Common.{sum_by, nat_lt, replicate, if◌then◌else◌, refl, ap, sym, subst, inl, inr, arith, lt-ltb, ltb-true}
 use Rattle.std.proofs.lemmas.Bool.{and_parts, cases_Bool, cases_lt}
 use Rattle.std.proofs.lemmas.List.{get_or-replicate, get_or_past, length-replicate}
 use Rattle.std.proofs.lemmas.List.Sums.{sum_by-cons}
@@ -102,7 +102,7 @@ module _ (p : Plan) (inputs : Inputs) (n : ℕ) (nodes : List NodeState) (lanes 
   none-for d hd =
       let a = ap (count_by is_received_stray) (done-before d) in
       let b = none-due 0 (λ s. count_by is_stray (lane_at lanes (lane_place n s d Request)).messages) n
-            (λ s low high. ap (count_by is_stray) (empty s d Request (omega (arith, high)) hd)) in
+      (λ s low high. ap (count_by is_stray) (empty s d Request (omega (arith, high)) hd)) in
       omega (arith, a, b)
 
   are-strays : AreStrays n nodes lanes strays strays

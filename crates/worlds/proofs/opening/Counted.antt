@@ -13,14 +13,14 @@ pub record AreFilled (n window : ℕ) (lanes : List Plain) (xs : List ℕ) (i : 
 
 pub filled_more : (n window : ℕ) (lanes : List Plain) (xs : List ℕ) (i : ℕ) → i < n * n → AreFilled n window lanes xs i
     → AreFilled n window lanes (delivery_mark lanes n window (i / n) (i % n) Answer
-        (delivery_mark lanes n window (i / n) (i % n) Request xs)) (i + 1)
+    (delivery_mark lanes n window (i / n) (i % n) Request xs)) (i + 1)
 filled_more n window lanes xs i h before =
     let s = before.size in
     let places = pair-place n i in
     record {
       size =
           length-set (delivery_mark lanes n window (i / n) (i % n) Request xs) (lane_place n (i / n) (i % n) Answer)
-              (delivery_count lanes n window (i / n) (i % n) Answer)
+          (delivery_count lanes n window (i / n) (i % n) Answer)
           ∙ length-set xs (lane_place n (i / n) (i % n) Request) (delivery_count lanes n window (i / n) (i % n) Request)
           ∙ before.size;
       laid = pair-set (delivery_count lanes n window) n xs 0 i (lane_place n (i / n) (i % n) Request) (lane_place n (i / n) (i % n) Answer)

@@ -1,6 +1,6 @@
 -- Nodes that are told, rank by rank, which of their lanes have room.
-use Rattle.std.proofs.Common.{ℕ, Bool, false, not, ◌+◌, ◌*◌, ◌/◌, ◌%◌, ◌<◌, ◌≡◌, ◌∙◌, List, get_or, length, refl, sym, ap, ap₂, subst, inl,
-    inr, arith}
+use Rattle.std.proofs.Common.{ℕ, Bool, false, not, ◌+◌, ◌*◌, ◌/◌, ◌%◌, ◌<◌, ◌≡◌, ◌∙◌, List, get_or, length, refl, sym, ap, ap₂, subst, inl}
+use Rattle.std.proofs.Common.{inr, arith}
 use Rattle.std.proofs.Math.ListN.{length-set}
 use Rattle.std.proofs.lemmas.Bool.{cases_eq}
 use Rattle.std.proofs.lemmas.Nat.{div-add-mod', div_below, mod_below}
@@ -38,7 +38,7 @@ module _ (lanes : List Plain) (n window s d : ℕ) (nodes : List NodeState) (the
   -- the gates of the pairs before, and this one
   pub gates_more : s < n → d < n → d < length (node_at nodes s).closed
       → ((r e : ℕ) → r < n → e < n → r * n + e < s * n + d →
-          get_or (node_at nodes r).closed e false ≡ not (lane_has lanes n window r e Request))
+      get_or (node_at nodes r).closed e false ≡ not (lane_has lanes n window r e Request))
       → (r e : ℕ) → r < n → e < n → r * n + e < s * n + d + 1
       → get_or (node_at (gated lanes n window s d nodes) r).closed e false ≡ not (lane_has lanes n window r e Request)
   gates_more hs hd inside before r e hr he h =

@@ -1,6 +1,6 @@
 -- The counts and gates after a step, of which those that it changed were made right.
-use Rattle.std.proofs.Common.{ℕ, false, not, ◌*◌, ◌<◌, ◌≡◌, ◌∙◌, List, get_or, length, count_by, nat_lt, if◌then◌else◌, refl, sym, ap, ap₂,
-    arith}
+use Rattle.std.proofs.Common.{ℕ, false, not, ◌*◌, ◌<◌, ◌≡◌, ◌∙◌, List, get_or, length, count_by, nat_lt, if◌then◌else◌, refl, sym, ap, ap₂}
+use Rattle.std.proofs.Common.{arith}
 use Rattle.std.proofs.Math.ListN.{set, length-set}
 use Rattle.std.proofs.lemmas.List.{get_or-set_other}
 use Rattle.ptl_types.specs.declared.headers.Lane.{Lane}
@@ -86,7 +86,7 @@ module _ (n : ℕ) (nodes : List NodeState) (lanes : List Plain) (starts deliver
     -- or no other request lane came to have room or to have none, and node s was told of that one
     module _ (wide : (q : ℕ) → q < n → length (node_at nodes q).closed ≡ n) (later : List Plain) (s d : ℕ) (hs : s < n) (hd : d < n)
         (rooms : (q e : ℕ) → q < n → e < n → ((q ≡ s) × (e ≡ d) → ⊥) → lane_has later n window q e Request ≡ lane_has lanes n window q e
-            Request) where
+        Request) where
       abbrev nexts : List NodeState
       nexts = gated later n window s d news
 
@@ -97,7 +97,7 @@ module _ (n : ℕ) (nodes : List NodeState) (lanes : List Plain) (starts deliver
       starts_gated q h =
           starts_same q h
           ∙ ap (λ (x : Diary). if nat_lt 0 (count_by is_start x.locals) then 0 else 1)
-              (sym (is_gated later n window s d news q inside_news).diary)
+          (sym (is_gated later n window s d news q inside_news).diary)
 
       gates_gated : (q e : ℕ) → q < n → e < n → get_or (node_at nexts q).closed e false ≡ not (lane_has later n window q e Request)
       gates_gated q e hq he =

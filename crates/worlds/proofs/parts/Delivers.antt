@@ -1,6 +1,7 @@
 -- A delivery over the parts of a world.
-use Rattle.std.proofs.Common.{ℕ, Bool, true, false, not, cond, ◌&&◌, ◌+◌, ◌<◌, ◌≤◌, ◌*◌, ◌≡◌, ◌==◌, ◌∙◌, List, [], ◌∷◌, ◌++◌, Option, Some,
-    None, drop, length, count_by, sum_by, filter, nat_lt, if◌then◌else◌, refl, sym, ap, ap₂, subst, inl, inr, arith, eq-eqb, eqb-true}
+use Rattle.std.proofs.Common.{ℕ, Bool, true, false, not, cond, ◌&&◌, ◌+◌, ◌<◌, ◌≤◌, ◌*◌, ◌≡◌, ◌==◌, ◌∙◌, List, [], ◌∷◌, ◌++◌, Option, Some}
+use Rattle.std.proofs.Common.{None, drop, length, count_by, sum_by, filter, nat_lt, if◌then◌else◌, refl, sym, ap, ap₂, subst, inl, inr}
+use Rattle.std.proofs.Common.{arith, eq-eqb, eqb-true}
 use Rattle.std.proofs.Math.ListN.{set, length-set}
 use Rattle.std.proofs.lemmas.Bool.{and_parts, ltb-true}
 use Rattle.op_laws.proofs.OpLaws.{op_laws}
@@ -39,14 +40,14 @@ use Rattle.rank_node.proofs.Nodes.{receipt-node}
 use Rattle.rank_node.specs.Node.{NodeState, received_node}
 use Rattle.worlds.specs.parts.Keeps.{AgreeAll, IsWorld}
 use Rattle.worlds.specs.parts.Layout.{held_in, lane_at, node_at, scene_of}
-use Rattle.worlds.specs.parts.Marks.{HasPlace, delivery_mark, firing_mark, gated, lane_back, lane_has, lane_may, out_with, popped,
-    start_count}
+use Rattle.worlds.specs.parts.Marks.{HasPlace, delivery_mark, firing_mark, gated, lane_back, lane_has, lane_may, out_with, popped}
+use Rattle.worlds.specs.parts.Marks.{start_count}
 use Rattle.worlds.proofs.parts.Counted.{delivered_counted}
 use Rattle.worlds.proofs.parts.Gated.{scene_by}
 use Rattle.worlds.proofs.parts.Held.{held_here, held_set, inside, set_capacity, set_here, set_other, set_size}
 use Rattle.worlds.proofs.parts.Marked.{lane_marked, mark_size}
-use Rattle.worlds.proofs.parts.Moving.{clash, Moved, Taken, agree_back, agree_now, may_go_out, nic_is, parts_news, scene_news, slots_now,
-    strays_news}
+use Rattle.worlds.proofs.parts.Moving.{clash, Moved, Taken, agree_back, agree_now, may_go_out, nic_is, parts_news, scene_news, slots_now}
+use Rattle.worlds.proofs.parts.Moving.{strays_news}
 use Rattle.worlds.proofs.parts.Placed.{OneLane, lanes_apart}
 use Rattle.worlds.proofs.parts.Renewed.{IsRenewed, as_told, renewed_by}
 use Rattle.worlds.proofs.parts.Sets.{at_set, sum_moves}
@@ -152,7 +153,7 @@ module _ (p : Plan) (inputs : Inputs) (n : ℕ) (nodes : List NodeState) (lanes 
           (lane_place n s d lane) i (plain rest (lane_at lanes (lane_place n s d lane)).capacity) (plain [] 0)
           (inside n lanes k.parts.wide s d lane hs hd)
           (λ j. let a = ap (λ t. length (owned (lane_at lanes t).messages)) j in let b = ap (λ xs. length (owned xs)) front in let c =
-                                                                                                                                     owned_front m rest in omega (arith, a, b, c))
+          owned_front m rest in omega (arith, a, b, c))
           (λ j. omega arith);
     }
 
@@ -160,15 +161,18 @@ module _ (p : Plan) (inputs : Inputs) (n : ℕ) (nodes : List NodeState) (lanes 
     deliver_enabled slots a = let c = k.parts.count in (omega (arith, c), (rest, front_held))
 
     deliver_is : (slots : ℕ → Slots) → AgreeAll n slots nodes → step_made (system_of p inputs slots) (Deliver s d lane) z
-        ≡ (let y : Scene = record { world = with_step d e z.world; held =
-                 λ q u l. held_in n mid q u l ++ sent_more (system_of p inputs slots) z.world d e q u l } in y)
+        ≡ (let y : Scene = record {
+          world = with_step d e z.world;
+          held =
+              λ q u l. held_in n mid q u l ++ sent_more (system_of p inputs slots) z.world d e q u l;
+        } in y)
     deliver_is slots a =
         ap (λ xs. delivered (system_of p inputs slots) s d lane xs z) front_held
         ∙ scene_by (with_step d e z.world) (with_step d e z.world)
-            (λ q u l. (with_lane s d lane rest z).held q u l ++ sent_more (system_of p inputs slots) z.world d e q u l)
-            (λ q u l. held_in n mid q u l ++ sent_more (system_of p inputs slots) z.world d e q u l)
+        (λ q u l. (with_lane s d lane rest z).held q u l ++ sent_more (system_of p inputs slots) z.world d e q u l)
+        (λ q u l. held_in n mid q u l ++ sent_more (system_of p inputs slots) z.world d e q u l)
         (λ q. refl) (λ q u l. ap (λ xs. xs ++ sent_more (system_of p inputs slots) z.world d e q u l)
-            (sym (held_set n lanes k.parts.wide s d lane hs hd rest q u l)))
+        (sym (held_set n lanes k.parts.wide s d lane hs hd rest q u l)))
 
     nic_here : (node_at nodes d).nic ≡ state_at (system_of p inputs slots) z.world d
     nic_here = nic_is p inputs n nodes lanes window strays spare k.parts k.stray slots agree d hd
@@ -178,7 +182,7 @@ module _ (p : Plan) (inputs : Inputs) (n : ℕ) (nodes : List NodeState) (lanes 
         let c = k.parts.count in
         subst (λ v. May false v e) (sym nic_here)
         (next_held combined-starts p inputs k.parts.sound k.parts.fit (combined-swaps op_laws) slots z.world z.held
-            (k.parts.moment slots agree) false d s lane m rest (omega (arith, c)) (omega (arith, c)) front_held)
+        (k.parts.moment slots agree) false d s lane m rest (omega (arith, c)) (omega (arith, c)) front_held)
 
     -- ---- strays
     short_here : AreShort (e ∷ [])
@@ -191,8 +195,8 @@ module _ (p : Plan) (inputs : Inputs) (n : ℕ) (nodes : List NodeState) (lanes 
         (e ∷ []) ≤ sum_by (λ q. count_by is_stray (lane_at lanes (lane_place n q d Request)).messages) (from_to 0 n)
     fewer =
         let a = sum_moves (λ q. count_by is_stray (lane_at lanes (lane_place n q d Request)).messages)
-              (λ q. count_by is_stray (lane_at mid (lane_place n q d Request)).messages) s (count_by is_received_stray (e ∷ [])) 0 0 n
-              (omega arith) (omega arith)
+        (λ q. count_by is_stray (lane_at mid (lane_place n q d Request)).messages) s (count_by is_received_stray (e ∷ [])) 0 0 n
+        (omega arith) (omega arith)
         (λ q x low high. deliver_taken.strays (lane_place n q d Request)) (here (is_stray m) refl) in
         omega (arith, a)
       where
@@ -203,9 +207,9 @@ module _ (p : Plan) (inputs : Inputs) (n : ℕ) (nodes : List NodeState) (lanes 
         here : (b : Bool) → is_stray m ≡ b → count_by is_stray (lane_at mid (lane_place n s d Request)).messages + count_by
             is_received_stray (e ∷ []) ≤ count_by is_stray (lane_at lanes (lane_place n s d Request)).messages + 0
         here false y = let a = one_count in let b = ap (λ t. cond {A = ℕ} t 1 0) y in let c =
-                                                                                            deliver_taken.strays
-                                                                                            (lane_place n s d Request) in
-                                                                                            omega (arith, a, b, c)
+            deliver_taken.strays
+            (lane_place n s d Request) in
+            omega (arith, a, b, c)
         here true y =
             let a = one_count in
             let b = count_front in
@@ -230,9 +234,9 @@ module _ (p : Plan) (inputs : Inputs) (n : ℕ) (nodes : List NodeState) (lanes 
     deliver_room =
         let c = k.parts.count in
         let is : IsRank p inputs slots z d (node_at nodes d) =
-              record { compiled = k.parts.compiled d hd; node = k.parts.node d hd; agrees = agree d hd; history = refl } in
+        record { compiled = k.parts.compiled d hd; node = k.parts.node d hd; agrees = agree d hd; history = refl } in
         finds_room p inputs k.parts.sound k.parts.fit slots z (k.parts.moment slots agree) d s lane m rest (omega (arith, c))
-            (omega (arith, c)) front_held (node_at nodes d) is stray_room
+        (omega (arith, c)) front_held (node_at nodes d) is stray_room
 
     deliver_moved : Moved (node_at nodes d) (received_node s lane m (node_at nodes d)) e
     deliver_moved = record {
@@ -248,7 +252,7 @@ module _ (p : Plan) (inputs : Inputs) (n : ℕ) (nodes : List NodeState) (lanes 
       back_to x q =
           goes_back p (slots d) d (node_at nodes d).nic s lane m x
           (subst (IsOf p (slots d) d) (sym nic_here) (stays_of p (slots d) d (start_of p (slots d) d) (z.world d)
-              (prepare p inputs (slots d) d) (prepared_of p inputs k.parts.sound (slots d) d)))
+          (prepare p inputs (slots d) d) (prepared_of p inputs k.parts.sound (slots d) d)))
           may_here (sym makes ∙ q)
 
       deliver_to : (x : Sent) → o ≡ Some x → x.header.target < n
@@ -310,9 +314,13 @@ module _ (p : Plan) (inputs : Inputs) (n : ℕ) (nodes : List NodeState) (lanes 
       deliver_apart None q a b l ha hb there back = set_other n lanes k.parts.wide s d lane hs hd rest a b l hb there
       deliver_apart (Some x) q a b l ha hb there back =
           set_other n mid mid_size d x.header.target (lane_of x.header.kind) hd (deliver_to x q)
-              ((lane_at mid (lane_place n d x.header.target (lane_of x.header.kind))).messages ++ x ∷ []) a b l hb
-          (λ i. back (record { source = i.source; goal = i.destination ∙ back_to x q; kind = i.kind ∙ answers x q
-              ∙ sym (ap lane_back (request x q)) }))
+          ((lane_at mid (lane_place n d x.header.target (lane_of x.header.kind))).messages ++ x ∷ []) a b l hb
+          (λ i. back (record {
+            source = i.source;
+            goal = i.destination ∙ back_to x q;
+            kind = i.kind ∙ answers x q
+                ∙ sym (ap lane_back (request x q));
+          }))
           ∙ set_other n lanes k.parts.wide s d lane hs hd rest a b l hb there
 
       -- no other request lane
@@ -320,11 +328,11 @@ module _ (p : Plan) (inputs : Inputs) (n : ℕ) (nodes : List NodeState) (lanes 
           lane_has (out_with n d y mid) n window a b Request ≡ lane_has lanes n window a b Request
       deliver_rooms None q a b ha hb there =
           ap (λ (z : Plain). nat_lt (length z.messages) window)
-              (set_other n lanes k.parts.wide s d lane hs hd rest a b Request hb (λ i. there (i.source, i.destination)))
+          (set_other n lanes k.parts.wide s d lane hs hd rest a b Request hb (λ i. there (i.source, i.destination)))
       deliver_rooms (Some x) q a b ha hb there =
           ap (λ (z : Plain). nat_lt (length z.messages) window)
           (set_other n mid mid_size d x.header.target (lane_of x.header.kind) hd (deliver_to x q)
-              ((lane_at mid (lane_place n d x.header.target (lane_of x.header.kind))).messages ++ x ∷ []) a b Request hb
+          ((lane_at mid (lane_place n d x.header.target (lane_of x.header.kind))).messages ++ x ∷ []) a b Request hb
           (λ i. lanes_apart (sym (i.kind ∙ answers x q)))
           ∙ set_other n lanes k.parts.wide s d lane hs hd rest a b Request hb (λ i. there (i.source, i.destination)))
 
@@ -338,13 +346,13 @@ module _ (p : Plan) (inputs : Inputs) (n : ℕ) (nodes : List NodeState) (lanes 
           (delivery_mark answered n window d s (lane_back lane) (delivery_mark answered n window s d lane deliveries))
           (firing_mark (gated answered n window s d received) s (firing_mark received d firings))
           (delivered_counted n nodes lanes starts deliveries firings window k.counted k.parts.size d hd
-              (received_node s lane m (node_at nodes d)) refl deliver_count
+          (received_node s lane m (node_at nodes d)) refl deliver_count
           (wide_gates p inputs n nodes lanes window spare k.parts) answered s d hs hd (deliver_rooms o refl)
           (delivery_mark answered n window d s (lane_back lane) (delivery_mark answered n window s d lane deliveries))
           (mark_size n answered window d s (lane_back lane) (delivery_mark answered n window s d lane deliveries)
-              ∙ mark_size n answered window s d lane deliveries ∙ k.counted.wide_deliveries)
+          ∙ mark_size n answered window s d lane deliveries ∙ k.counted.wide_deliveries)
           (lane_marked n lanes deliveries window answered s d hs hd k.counted.wide_deliveries k.counted.of_deliveries lane
-              (deliver_apart o refl)))
+          (deliver_apart o refl)))
 
       pub deliver_done : (nexts : List NodeState) (b c : List ℕ) →
           IsDelivered n window s d lane (set nodes d (received_node s lane m (node_at nodes d))) (out_with n d o mid) deliveries firings
@@ -353,13 +361,13 @@ module _ (p : Plan) (inputs : Inputs) (n : ℕ) (nodes : List NodeState) (lanes 
       deliver_done nexts b c is = finish p inputs n nodes lanes starts deliveries firings window strays spare k (Deliver s d lane)
           (set nodes d (received_node s lane m (node_at nodes d))) (out_with n d o mid)
           (parts_news p inputs n nodes lanes window strays spare k.parts k.stray d hd e mid deliver_taken deliver_enabled deliver_is o
-              makes deliver_to deliver_open (received_node s lane m (node_at nodes d)) deliver_moved)
+          makes deliver_to deliver_open (received_node s lane m (node_at nodes d)) deliver_moved)
           (strays_news p inputs n nodes lanes window strays spare k.parts k.stray d hd e mid deliver_taken deliver_enabled deliver_is o
-              makes deliver_to deliver_open (received_node s lane m (node_at nodes d)) deliver_moved short_here fewer)
+          makes deliver_to deliver_open (received_node s lane m (node_at nodes d)) deliver_moved short_here fewer)
           (scene_news p inputs n nodes lanes window strays spare k.parts k.stray d hd e mid deliver_taken deliver_enabled deliver_is o
-              makes deliver_to deliver_open (received_node s lane m (node_at nodes d)) deliver_moved)
+          makes deliver_to deliver_open (received_node s lane m (node_at nodes d)) deliver_moved)
           (agree_back p inputs n nodes lanes window strays spare k.parts k.stray d hd e mid deliver_taken deliver_enabled deliver_is o
-              makes deliver_to deliver_open (received_node s lane m (node_at nodes d)) deliver_moved)
+          makes deliver_to deliver_open (received_node s lane m (node_at nodes d)) deliver_moved)
           nexts starts b c
           (renewed_by n window received answered (gated answered n window s d received) starts
           (delivery_mark answered n window d s (lane_back lane) (delivery_mark answered n window s d lane deliveries))
@@ -369,10 +377,10 @@ module _ (p : Plan) (inputs : Inputs) (n : ℕ) (nodes : List NodeState) (lanes 
       pub deliver_as : (later : List Plain) → later ≡ out_with n d o mid → (news : List NodeState) →
           news ≡ set nodes d (received_node s lane m (node_at nodes d))
           → (nexts : List NodeState) (b c : List ℕ) → IsDelivered n window s d lane news later deliveries firings nexts b c →
-              IsDone p inputs n (Deliver s d lane) nodes lanes nexts later starts b c window strays spare
+          IsDone p inputs n (Deliver s d lane) nodes lanes nexts later starts b c window strays spare
       deliver_as later out news made nexts b c is =
           subst (λ l. IsDone p inputs n (Deliver s d lane) nodes lanes nexts l starts b c window strays spare) (sym out)
           (deliver_done nexts b c
           (subst (λ l. IsDelivered n window s d lane (set nodes d (received_node s lane m (node_at nodes d))) l deliveries firings nexts b
-              c) out
+          c) out
           (subst (λ v. IsDelivered n window s d lane v later deliveries firings nexts b c) made is)))

@@ -41,8 +41,16 @@ gates_after x y z a b = record {
 }
 
 one_gate : (x : NodeState) (d : ℕ) (b : Bool) → IsGated x (gated_node d b x)
-one_gate x d b = record { task = refl; kept = refl; diary = refl; nic = refl; strays = refl; wide = length-set x.closed d b; node =
-    gated-is x d b }
+one_gate x d b = record {
+  task = refl;
+  kept = refl;
+  diary = refl;
+  nic = refl;
+  strays = refl;
+  wide = length-set x.closed d b;
+  node =
+      gated-is x d b;
+}
 
 module _ (lanes : List Plain) (n window s d : ℕ) (nodes : List NodeState) where
   abbrev shut : Bool
@@ -66,11 +74,11 @@ module _ (lanes : List Plain) (n window s d : ℕ) (nodes : List NodeState) wher
   -- whether a lane is closed
   pub gate_right : (r e : ℕ) (v : Bool) → s < length nodes → d < length (node_at nodes s).closed
       → ((r ≡ s) × (e ≡ d) → not (lane_has lanes n window s d Request) ≡ v) →
-          (((r ≡ s) × (e ≡ d) → ⊥) → get_or (node_at nodes r).closed e false ≡ v)
+      (((r ≡ s) × (e ≡ d) → ⊥) → get_or (node_at nodes r).closed e false ≡ v)
       → get_or (node_at (gated lanes n window s d nodes) r).closed e false ≡ v
   gate_right r e v h i right rest = at_set (λ (k : NodeState). get_or k.closed e false ≡ v) nodes s r gate no_node h
       (λ a. at_set (λ c. c ≡ v) (node_at nodes s).closed d e (not (lane_has lanes n window s d Request)) false i (λ b. right (a, b))
-          (λ y. subst (λ q. get_or (node_at nodes q).closed e false ≡ v) a (rest (λ z. y z.1))))
+      (λ y. subst (λ q. get_or (node_at nodes q).closed e false ≡ v) a (rest (λ z. y z.1))))
       (λ x. rest (λ y. x y.0))
 
 -- a node that is told what it was told last is as it was

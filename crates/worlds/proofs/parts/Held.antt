@@ -1,6 +1,7 @@
 -- What lies in the lanes of which one is changed.
-use Rattle.std.proofs.Common.{ℕ, Bool, true, false, not, cond, ◌&&◌, ◌*◌, ◌<◌, ◌≤◌, ◌≡◌, ◌∙◌, List, [], ◌∷◌, ◌++◌, Option, Some, None,
-    length, filter, nat_lt, if◌then◌else◌, ◌==◌, refl, sym, ap, ap₂, inl, inr, arith, append-nil, eq-eqb, eqb-true, lt-ltb}
+use Rattle.std.proofs.Common.{ℕ, Bool, true, false, not, cond, ◌&&◌, ◌*◌, ◌<◌, ◌≤◌, ◌≡◌, ◌∙◌, List, [], ◌∷◌, ◌++◌, Option, Some, None}
+use Rattle.std.proofs.Common.{length, filter, nat_lt, if◌then◌else◌, ◌==◌, refl, sym, ap, ap₂, inl, inr, arith, append-nil, eq-eqb}
+use Rattle.std.proofs.Common.{eqb-true, lt-ltb}
 use Rattle.std.proofs.Math.ListN.{set, length-set}
 use Rattle.std.proofs.lemmas.Bool.{and_parts, cases_Bool, cases_lt}
 use Rattle.std.proofs.lemmas.List.{get_or-set_same, get_or-set_other}
@@ -91,7 +92,7 @@ module _ (n : ℕ) (lanes : List Plain) (size : length lanes ≡ 2 * (n * n)) (a
     | inl e ↦
         let o = one_lane a b way s d lane e in
         ap₂ (λ x y. held_in n set_lane x y lane) o.source o.destination ∙ ap (held_in n set_lane a b) o.kind
-            ∙ held_here n set_lane a b way ha hb ∙ set_here
+        ∙ held_here n set_lane a b way ha hb ∙ set_here
         ∙ sym (ap (λ t. if t then ms else held_in n lanes s d lane) e)
     | inr e ↦
         held_same n lanes set_lane s d lane (λ hs hd. set_other s d lane hd (not_one a b way s d lane e))
@@ -122,7 +123,7 @@ sent_there r s d lane m = elim (cases_Bool (is_lane_of r m.header.target (lane_o
       let o = one_lane r m.header.target (lane_of m.header.kind) s d lane e in
       ap (λ b. if b then filter (is_for d lane) (m ∷ []) else []) (eq-eqb s r o.source)
       ∙ ap (λ b. if b then m ∷ [] else []) (ap₂ (λ x y. x && y) (eq-eqb m.header.target d (sym o.destination))
-          (ap (λ l. is_lane l m.header.kind) o.kind ∙ known_lane m.header.kind))
+      (ap (λ l. is_lane l m.header.kind) o.kind ∙ known_lane m.header.kind))
       ∙ sym (ap (λ b. if b then m ∷ [] else []) e)
   | inr e ↦ elsewhere e ∙ sym (ap (λ b. if b then m ∷ [] else []) e)
 ]
@@ -145,7 +146,7 @@ module _ (n : ℕ) (lanes : List Plain) (size : length lanes ≡ 2 * (n * n)) (r
       s d lane ++ (if s == r then filter (is_for d lane) (m ∷ []) else [])
   held_sent m hm s d lane =
       held_set n lanes size r m.header.target (lane_of m.header.kind) hr hm
-          ((lane_at lanes (lane_place n r m.header.target (lane_of m.header.kind))).messages ++ m ∷ []) s d lane
+      ((lane_at lanes (lane_place n r m.header.target (lane_of m.header.kind))).messages ++ m ∷ []) s d lane
       ∙ by_lane
       ∙ ap (λ ms. held_in n lanes s d lane ++ ms) (sym (sent_there r s d lane m))
     where
@@ -156,13 +157,13 @@ module _ (n : ℕ) (lanes : List Plain) (size : length lanes ≡ 2 * (n * n)) (r
         | inl e ↦
             let o = one_lane r m.header.target (lane_of m.header.kind) s d lane e in
             ap (λ t. if t then (lane_at lanes (lane_place n r m.header.target (lane_of m.header.kind))).messages ++ m ∷ [] else held_in n
-                lanes s d lane) e
+            lanes s d lane) e
             ∙ ap (λ ms. ms ++ m ∷ []) (sym (ap₂ (λ x y. held_in n lanes x y lane) o.source o.destination
-                ∙ ap (held_in n lanes r m.header.target) o.kind ∙ held_here n lanes r m.header.target (lane_of m.header.kind) hr hm))
+            ∙ ap (held_in n lanes r m.header.target) o.kind ∙ held_here n lanes r m.header.target (lane_of m.header.kind) hr hm))
             ∙ ap (λ t. held_in n lanes s d lane ++ (if t then m ∷ [] else [])) (sym e)
         | inr e ↦
             ap (λ t. if t then (lane_at lanes (lane_place n r m.header.target (lane_of m.header.kind))).messages ++ m ∷ [] else held_in n
-                lanes s d lane) e ∙ sym (append-nil (held_in n lanes s d lane))
+            lanes s d lane) e ∙ sym (append-nil (held_in n lanes s d lane))
             ∙ ap (λ t. held_in n lanes s d lane ++ (if t then m ∷ [] else [])) (sym e)
       ]
 

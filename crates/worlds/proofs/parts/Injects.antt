@@ -1,6 +1,6 @@
 -- A stray goes into its lane, over the parts of a world.
-use Rattle.std.proofs.Common.{ℕ, true, ◌+◌, ◌-◌, ◌<◌, ◌≤◌, ◌≡◌, ◌∙◌, List, [], ◌∷◌, ◌++◌, length, count_by, nat_lt, if◌then◌else◌, refl,
-    sym, ap, ap₂, subst, inl, inr, arith, append-nil}
+use Rattle.std.proofs.Common.{ℕ, true, ◌+◌, ◌-◌, ◌<◌, ◌≤◌, ◌≡◌, ◌∙◌, List, [], ◌∷◌, ◌++◌, length, count_by, nat_lt, if◌then◌else◌, refl}
+use Rattle.std.proofs.Common.{sym, ap, ap₂, subst, inl, inr, arith, append-nil}
 use Rattle.std.proofs.lemmas.Bool.{cases_Bool, cases_eq}
 use Rattle.std.proofs.lemmas.List.{set-get_or}
 use Rattle.ptl_types.specs.Messages.{Sent}
@@ -46,7 +46,7 @@ pub record IsJoined (n window s d : ℕ) (news : List NodeState) (later : List P
 -- the injection of a stray on a used lane is a step of the plan's ranks and strays
 pub stray_step : (ranks : System) (z : Scene) (s d : ℕ) (m : Sent) → s < ranks.count → d < ranks.count → ranks.used s d Request ≡ true
     → is_stray m ≡ true → m.header.source ≡ s → m.header.target ≡ d → IsKept m → IsStrayStep ranks z.world z.held (injected s d m z).world
-        (injected s d m z).held
+    (injected s d m z).held
 stray_step ranks z s d m hs hd used stray source target kept = record {
   s = s;
   d = d;
@@ -72,9 +72,9 @@ module _ (p : Plan) (inputs : Inputs) (n : ℕ) (nodes : List NodeState) (lanes 
   pub inject_room : length (lane_at lanes (lane_place n s d Request)).messages < (lane_at lanes (lane_place n s d Request)).capacity
   inject_room =
       let a = few_held p inputs n nodes lanes window strays spare k.parts k.stray
-            (slots_now p inputs n nodes lanes window strays spare k.parts k.stray) (scene_of n nodes lanes)
-            (k.parts.moment (slots_now p inputs n nodes lanes window strays spare k.parts k.stray)
-            (agree_now p inputs n nodes lanes window strays spare k.parts k.stray)) s d Request hs hd in
+      (slots_now p inputs n nodes lanes window strays spare k.parts k.stray) (scene_of n nodes lanes)
+      (k.parts.moment (slots_now p inputs n nodes lanes window strays spare k.parts k.stray)
+      (agree_now p inputs n nodes lanes window strays spare k.parts k.stray)) s d Request hs hd in
       let b = ap (λ xs. length (owned xs)) (held_here n lanes s d Request hs hd) in
       let e = k.stray.at_most d hd in
       let f = part_le (λ q. count_by is_stray (lane_at lanes (lane_place n q d Request)).messages) s 0 n (omega arith) (omega arith) in
@@ -94,7 +94,7 @@ module _ (p : Plan) (inputs : Inputs) (n : ℕ) (nodes : List NodeState) (lanes 
             let o = one_lane s d Request q u l e in
             ap (λ t. if t then full else held_in n lanes q u l) e
             ∙ ap (λ ms. ms ++ m ∷ []) (sym (ap₂ (λ x y. held_in n lanes x y l) o.source o.destination ∙ ap (held_in n lanes s d) o.kind
-                ∙ held_here n lanes s d Request hs hd))
+            ∙ held_here n lanes s d Request hs hd))
             ∙ ap (λ t. held_in n lanes q u l ++ (if t then m ∷ [] else [])) (sym e)
         | inr e ↦
             ap (λ t. if t then full else held_in n lanes q u l) e ∙ sym (append-nil (held_in n lanes q u l))
@@ -120,11 +120,11 @@ module _ (p : Plan) (inputs : Inputs) (n : ℕ) (nodes : List NodeState) (lanes 
   inject_counted : AreCounted n told later starts marked (firing_mark told s firings) window
   inject_counted =
       subst (λ v. AreCounted n (gated later n window s d v) later starts marked (firing_mark (gated later n window s d v) s firings)
-          window) (set-get_or nodes s no_node)
+      window) (set-get_or nodes s no_node)
       (sent_counted n nodes lanes starts deliveries firings window k.counted k.parts.size s hs (node_at nodes s) refl refl
       (wide_gates p inputs n nodes lanes window spare k.parts) later s d hs hd
       (λ a b ha hb x. ap (λ (z : Plain). nat_lt (length z.messages) window)
-          (inject_apart a b Request ha hb (λ i. x (i.source, i.destination))))
+      (inject_apart a b Request ha hb (λ i. x (i.source, i.destination))))
       marked (mark_size n later window s d Request deliveries ∙ k.counted.wide_deliveries)
       (request_marked n lanes deliveries window later s d hs hd k.counted.wide_deliveries k.counted.of_deliveries inject_apart)
       refl)
@@ -137,8 +137,8 @@ module _ (p : Plan) (inputs : Inputs) (n : ℕ) (nodes : List NodeState) (lanes 
   more_there : (q u : ℕ) → u < n → ((q ≡ s) × (u ≡ d) → ⊥) → count_by is_stray (lane_at later (lane_place n q u Request)).messages
       ≤ count_by is_stray (lane_at lanes (lane_place n q u Request)).messages
   more_there q u hu x = let a = ap (λ (l : Plain). count_by is_stray l.messages)
-                              (set_other n lanes k.parts.wide s d Request hs hd full q u Request hu (λ o. x (o.source, o.destination))) in
-                              omega (arith, a)
+      (set_other n lanes k.parts.wide s d Request hs hd full q u Request hu (λ o. x (o.source, o.destination))) in
+      omega (arith, a)
 
   more_here : count_by is_stray (lane_at later (lane_place n s d Request)).messages ≤ count_by is_stray
       (lane_at lanes (lane_place n s d Request)).messages + 1
@@ -151,15 +151,15 @@ module _ (p : Plan) (inputs : Inputs) (n : ℕ) (nodes : List NodeState) (lanes 
   few_injected u hu = elim (cases_eq u d) [
     | inl i ↦
         let a = sum_moves (λ q. count_by is_stray (lane_at lanes (lane_place n q d Request)).messages)
-              (λ q. count_by is_stray (lane_at later (lane_place n q d Request)).messages) s 0 1 0 n (omega arith) (omega arith)
-              (λ q x low high. more_there q d hd (λ y. x y.0)) (let h = more_here in omega (arith, h)) in
+        (λ q. count_by is_stray (lane_at later (lane_place n q d Request)).messages) s 0 1 0 n (omega arith) (omega arith)
+        (λ q x low high. more_there q d hd (λ y. x y.0)) (let h = more_here in omega (arith, h)) in
         let b = k.stray.at_most d hd in
         let c = ap (strays_for n nodes later) i in
         omega (arith, a, b, c)
     | inr x ↦
         let a = sum_le (λ q. count_by is_stray (lane_at lanes (lane_place n q u Request)).messages)
-              (λ q. count_by is_stray (lane_at later (lane_place n q u Request)).messages) 0 n
-              (λ q low high. more_there q u hu (λ y. x y.1)) in
+        (λ q. count_by is_stray (lane_at later (lane_place n q u Request)).messages) 0 n
+        (λ q low high. more_there q u hu (λ y. x y.1)) in
         let b = k.stray.at_most u hu in
         omega (arith, a, b)
   ]
@@ -212,15 +212,15 @@ module _ (p : Plan) (inputs : Inputs) (n : ℕ) (nodes : List NodeState) (lanes 
             (next_stray p inputs slots z.world z.held (k.parts.moment slots g) (injected s d m z).world (injected s d m z).held
             (stray_step (system_of p inputs slots) z s d m (omega (arith, count)) (omega (arith, count)) used stray source target kept));
         room = λ q u lane hq hu. let e = k.parts.room q u lane hq hu in let f = set_capacity n lanes k.parts.wide s d Request hs hd full
-                                                                              (lane_place n q u lane) in omega (arith, e, f);
+            (lane_place n q u lane) in omega (arith, e, f);
         within = λ q u lane hq hu. at_set (λ (l : Plain). length (owned l.messages) ≤ window) lanes (lane_place n s d Request)
             (lane_place n q u lane) (plain full (lane_at lanes (lane_place n s d Request)).capacity) (plain [] 0)
             (inside n lanes k.parts.wide s d Request hs hd)
             (λ j. let e = owned_same (lane_at lanes (lane_place n s d Request)).messages m stray in let f =
-                                                                                                          k.parts.within s d Request hs hd
-                                                                                                          in omega (arith, e, f))
-                                                                                                          (λ j. k.parts.within q u lane hq
-                                                                                                          hu);
+            k.parts.within s d Request hs hd
+            in omega (arith, e, f))
+            (λ j. k.parts.within q u lane hq
+            hu);
       }
 
       pub inject_world : IsWorld p inputs n nexts later starts b c window (strays - 1) spare

@@ -59,7 +59,7 @@ module _ (n : ℕ) (lanes : List Plain) (deliveries : List ℕ) (window : ℕ) (
       mark_right n later window d s Answer (mark n later window d s Request (mark n later window s d Answer
       (mark n later window s d Request deliveries))) q u l hd hs hu e3
       (λ a. mark_right n later window d s Request (mark n later window s d Answer (mark n later window s d Request deliveries)) q u l hd
-          hs hu e2
+      hs hu e2
       (λ b. mark_right n later window s d Answer (mark n later window s d Request deliveries) q u l hs hd hu e1
       (λ c. mark_right n later window s d Request deliveries q u l hs hd hu wide
       (λ g. right q u l hq hu ∙ ap (λ t. if t then 1 else 0) (sym (may_same q u l hq hu (either s d l g c) (either d s l b a)))))))

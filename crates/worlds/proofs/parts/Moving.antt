@@ -1,6 +1,6 @@
 -- One rank's part of a step over the parts of a world: its node has a step more, and what that makes goes to the end of a lane.
-use Rattle.std.proofs.Common.{ℕ, Bool, true, false, cond, ◌+◌, ◌*◌, ◌<◌, ◌≤◌, ◌≡◌, ◌⊎◌, ◌==◌, ◌∙◌, List, [], ◌∷◌, ◌++◌, Option, Some, None,
-    length, count_by, sum_by, filter, if◌then◌else◌, refl, sym, ap, subst, inl, inr, arith, eq-eqb, length-append}
+use Rattle.std.proofs.Common.{ℕ, Bool, true, false, cond, ◌+◌, ◌*◌, ◌<◌, ◌≤◌, ◌≡◌, ◌⊎◌, ◌==◌, ◌∙◌, List, [], ◌∷◌, ◌++◌, Option, Some, None}
+use Rattle.std.proofs.Common.{length, count_by, sum_by, filter, if◌then◌else◌, refl, sym, ap, subst, inl, inr, arith, eq-eqb, length-append}
 use Rattle.std.proofs.Math.ListN.{set, length-set}
 use Rattle.std.proofs.lemmas.Bool.{cases_Bool, cases_eq, ne_eqb}
 use Rattle.std.proofs.lemmas.List.{get_or-set_same, get_or-set_other}
@@ -112,12 +112,12 @@ module _ (p : Plan) (inputs : Inputs) (n : ℕ) (nodes : List NodeState) (lanes 
   few_held slots z moment s d lane hs hd =
       let c = parts.count in
       held_few (system_of p inputs slots) z s d lane (lane_messages p s d lane) moment (omega arith) (omega arith)
-          (lane_few combined-starts p inputs parts.sound parts.fit slots z.world moment.cut s d lane (omega arith) (omega arith))
+      (lane_few combined-starts p inputs parts.sound parts.fit slots z.world moment.cut s d lane (omega arith) (omega arith))
 
   -- ---- rank r makes step e, when the lanes are these
   module _ (r : ℕ) (hr : r < n) (e : Local) (mid : List Plain) (taken : Taken lanes mid)
       (enabled : (slots : ℕ → Slots) → AgreeAll n slots nodes → IsEnabled (system_of p inputs slots) (scene_of n nodes lanes).world
-          (scene_of n nodes lanes).held r e) where
+      (scene_of n nodes lanes).held r e) where
     -- the moment after it
     abbrev behind : (ℕ → Slots) → Scene
     behind slots = record {
@@ -136,12 +136,12 @@ module _ (p : Plan) (inputs : Inputs) (n : ℕ) (nodes : List NodeState) (lanes 
           let step = listed_made k z (named r e) (enabled_listed k z r e (omega arith) (enabled slots a)) in
           subst (λ (v : Scene). IsMoment (system_of p inputs slots) v.world v.held) (is slots a)
           (next_local combined-starts p inputs parts.sound parts.fit (combined-swaps op_laws) slots z.world z.held (parts.moment slots a)
-              (step_made k (named r e) z).world (step_made k (named r e) z).held step)
+          (step_made k (named r e) z).world (step_made k (named r e) z).held step)
 
       -- what it makes
       module _ (o : Option Sent) (makes : o ≡ made_by (node_at nodes r).nic e) (goes : (m : Sent) → o ≡ Some m → m.header.target < n)
           (open_lane : (m : Sent) → o ≡ Some m → length (lane_at mid (lane_place n r m.header.target (lane_of m.header.kind))).messages
-              < window) where
+          < window) where
         makes_at : (slots : ℕ → Slots) → AgreeAll n slots nodes →
             made_by (state_at (system_of p inputs slots) (scene_of n nodes lanes).world r) e ≡ o
         makes_at slots a = sym (makes ∙ ap (λ v. made_by v e) (nic_is slots a r hr))
@@ -155,7 +155,7 @@ module _ (p : Plan) (inputs : Inputs) (n : ℕ) (nodes : List NodeState) (lanes 
             made-clean p inputs parts.sound (slots_now r) r (w r ++ e ∷ []) m
             (subst (λ ms. In m ms) (sym (made-append go first (w r) (e ∷ [])))
             (In-append_right m (made go first (w r)) (made go (state go first (w r)) (e ∷ []))
-                (subst (λ x. In m (and_then x [])) (sym (makes_at slots_now agree_now ∙ q)) (inl refl))))
+            (subst (λ x. In m (and_then x [])) (sym (makes_at slots_now agree_now ∙ q)) (inl refl))))
 
         mid_size : length mid ≡ 2 * (n * n)
         mid_size = taken.size ∙ parts.wide
@@ -180,7 +180,7 @@ module _ (p : Plan) (inputs : Inputs) (n : ℕ) (nodes : List NodeState) (lanes 
                 let hd : m.header.target < n = goes m q in
                 let i = lane_place n r m.header.target (lane_of m.header.kind) in
                 let full : (behind slots_now).held r m.header.target (lane_of m.header.kind)
-                      ≡ (lane_at mid (lane_place n r m.header.target (lane_of m.header.kind))).messages ++ m ∷ [] = holds m q hd in
+                ≡ (lane_at mid (lane_place n r m.header.target (lane_of m.header.kind))).messages ++ m ∷ [] = holds m q hd in
                 let at_most = few_on r d lane hr hd in
                 let less = taken.strays i in
                 let more = clean_more (lane_at mid i).messages m (clean m q) in
@@ -203,7 +203,7 @@ module _ (p : Plan) (inputs : Inputs) (n : ℕ) (nodes : List NodeState) (lanes 
                     ∙ ap (λ x. held_in n (out_with n r x mid) r m.header.target (lane_of m.header.kind)) q
                     ∙ held_here n (sent_out n r m mid) r m.header.target (lane_of m.header.kind) hr hd
                     ∙ set_here n mid mid_size r m.header.target (lane_of m.header.kind) hr hd
-                        ((lane_at mid (lane_place n r m.header.target (lane_of m.header.kind))).messages ++ m ∷ [])
+                    ((lane_at mid (lane_place n r m.header.target (lane_of m.header.kind))).messages ++ m ∷ [])
 
         -- ---- the lanes after it
         later_size : length later ≡ 2 * (n * n)
@@ -230,12 +230,12 @@ module _ (p : Plan) (inputs : Inputs) (n : ℕ) (nodes : List NodeState) (lanes 
             at None q = λ h. inl (taken.members i x h)
             at (Some m) q =
                 at_set (λ (l : Plain). In x l.messages → In x (lane_at lanes i).messages ⊎ (o ≡ Some x)) mid
-                    (lane_place n r m.header.target (lane_of m.header.kind)) i
+                (lane_place n r m.header.target (lane_of m.header.kind)) i
                 (plain ((lane_at mid (lane_place n r m.header.target (lane_of m.header.kind))).messages ++ m ∷ [])
-                    (lane_at mid (lane_place n r m.header.target (lane_of m.header.kind))).capacity) (plain [] 0)
+                (lane_at mid (lane_place n r m.header.target (lane_of m.header.kind))).capacity) (plain [] 0)
                 (inside n mid mid_size r m.header.target (lane_of m.header.kind) hr (goes m q))
                 (λ j h. elim (In-append_cases x (lane_at mid (lane_place n r m.header.target (lane_of m.header.kind))).messages (m ∷ [])
-                    h) [
+                h) [
                   | inl k ↦ inl (taken.members i x (subst (λ t. In x (lane_at mid t).messages) (sym j) k))
                   | inr (inl e) ↦ inr (q ∙ ap Some e)
                   | inr (inr e) ↦ absurd e
@@ -250,12 +250,12 @@ module _ (p : Plan) (inputs : Inputs) (n : ℕ) (nodes : List NodeState) (lanes 
             at None q = omega arith
             at (Some m) q =
                 at_set (λ (l : Plain). count_by is_stray l.messages ≤ count_by is_stray (lane_at mid i).messages) mid
-                    (lane_place n r m.header.target (lane_of m.header.kind)) i
+                (lane_place n r m.header.target (lane_of m.header.kind)) i
                 (plain ((lane_at mid (lane_place n r m.header.target (lane_of m.header.kind))).messages ++ m ∷ [])
-                    (lane_at mid (lane_place n r m.header.target (lane_of m.header.kind))).capacity) (plain [] 0)
+                (lane_at mid (lane_place n r m.header.target (lane_of m.header.kind))).capacity) (plain [] 0)
                 (inside n mid mid_size r m.header.target (lane_of m.header.kind) hr (goes m q))
                 (λ j. let a = clean_more (lane_at mid (lane_place n r m.header.target (lane_of m.header.kind))).messages m (clean m q) in
-                    let b = ap (λ t. count_by is_stray (lane_at mid t).messages) j in omega (arith, a, b))
+                let b = ap (λ t. count_by is_stray (lane_at mid t).messages) j in omega (arith, a, b))
                 (λ j. omega arith)
 
         later_within : (s d : ℕ) (lane : Lane) → s < n → d < n → length (owned (lane_at later (lane_place n s d lane)).messages) ≤ window
@@ -268,12 +268,12 @@ module _ (p : Plan) (inputs : Inputs) (n : ℕ) (nodes : List NodeState) (lanes 
             at None q = mid_within
             at (Some m) q =
                 at_set (λ (l : Plain). length (owned l.messages) ≤ window) mid (lane_place n r m.header.target (lane_of m.header.kind))
-                    (lane_place n s d lane)
+                (lane_place n s d lane)
                 (plain ((lane_at mid (lane_place n r m.header.target (lane_of m.header.kind))).messages ++ m ∷ [])
-                    (lane_at mid (lane_place n r m.header.target (lane_of m.header.kind))).capacity) (plain [] 0)
+                (lane_at mid (lane_place n r m.header.target (lane_of m.header.kind))).capacity) (plain [] 0)
                 (inside n mid mid_size r m.header.target (lane_of m.header.kind) hr (goes m q))
                 (λ j. let a = owned_more (lane_at mid (lane_place n r m.header.target (lane_of m.header.kind))).messages m in let b =
-                                                                                                                                    open_lane m q in omega (arith, a, b))
+                open_lane m q in omega (arith, a, b))
                 (λ j. mid_within)
 
         -- ---- the nodes after it
@@ -304,15 +304,15 @@ module _ (p : Plan) (inputs : Inputs) (n : ℕ) (nodes : List NodeState) (lanes 
           world_news q = at_set (λ (v : NodeState). v.diary.locals ≡ with_step r e (scene_of n nodes lanes).world q) nodes r q new no_node
               inside_nodes
               (λ i. moved.locals ∙ ap (λ t. (node_at nodes t).diary.locals ++ e ∷ []) (sym i)
-                  ∙ sym (ap (λ b. cond b ((node_at nodes q).diary.locals ++ e ∷ []) (node_at nodes q).diary.locals) (eq-eqb r q (sym i))))
+              ∙ sym (ap (λ b. cond b ((node_at nodes q).diary.locals ++ e ∷ []) (node_at nodes q).diary.locals) (eq-eqb r q (sym i))))
               (λ x. sym (ap (λ b. cond b ((node_at nodes q).diary.locals ++ e ∷ []) (node_at nodes q).diary.locals)
-                  (ne_eqb r q (λ h. x (sym h)))))
+              (ne_eqb r q (λ h. x (sym h)))))
 
           pub scene_news : (slots : ℕ → Slots) → AgreeAll n slots news → scene_of n news later ≡ step_made (system_of p inputs slots)
               (named r e) (scene_of n nodes lanes)
           scene_news slots a =
               scene_by (λ q. (node_at news q).diary.locals) (behind slots).world (held_in n later) (behind slots).held world_news
-                  (held_later slots (agree_back slots a))
+              (held_later slots (agree_back slots a))
               ∙ sym (is slots (agree_back slots a))
 
           pub parts_news : AreParts p inputs n news later window spare
@@ -326,7 +326,7 @@ module _ (p : Plan) (inputs : Inputs) (n : ℕ) (nodes : List NodeState) (lanes 
             wide = later_size;
             compiled = λ q h. at_set (λ (v : NodeState). IsCompiledFor p inputs q v.task) nodes r q new no_node inside_nodes
                 (λ i. subst (IsCompiledFor p inputs q) (sym (moved.task ∙ ap (λ t. (node_at nodes t).task) (sym i))) (parts.compiled q h))
-                    (λ x. parts.compiled q h);
+                (λ x. parts.compiled q h);
             node = λ q h. at_set IsNode nodes r q new no_node inside_nodes (λ i. moved.node) (λ x. parts.node q h);
             moment = λ slots a. subst (λ (v : Scene). IsMoment (system_of p inputs slots) v.world v.held)
                 (sym (is slots (agree_back slots a)) ∙ sym (scene_news slots a)) (moment_behind slots (agree_back slots a));
@@ -342,26 +342,26 @@ module _ (p : Plan) (inputs : Inputs) (n : ℕ) (nodes : List NodeState) (lanes 
             few_news : (d : ℕ) → d < n → strays_for n news later d ≤ strays_for n nodes lanes d
             few_news d hd =
                 let out = sum_le (λ s. count_by is_stray (lane_at mid (lane_place n s d Request)).messages)
-                      (λ s. count_by is_stray (lane_at later (lane_place n s d Request)).messages) 0 n
-                      (λ s low high. later_strays (lane_place n s d Request)) in
+                (λ s. count_by is_stray (lane_at later (lane_place n s d Request)).messages) 0 n
+                (λ s low high. later_strays (lane_place n s d Request)) in
                 elim (cases_eq d r) [
                   | inl i ↦
                       let got = ap (count_by is_received_stray) (ap (λ t. (node_at news t).diary.locals) i
-                            ∙ ap (λ (v : NodeState). v.diary.locals) new_here ∙ moved.locals)
-                            ∙ count-append is_received_stray (node_at nodes r).diary.locals (e ∷ []) in
+                      ∙ ap (λ (v : NodeState). v.diary.locals) new_here ∙ moved.locals)
+                      ∙ count-append is_received_stray (node_at nodes r).diary.locals (e ∷ []) in
                       let had = ap (λ t. count_by is_received_stray (node_at nodes t).diary.locals) i in
                       let less : sum_by (λ s. count_by is_stray (lane_at mid (lane_place n s d Request)).messages) (from_to 0 n)
-                            + count_by is_received_stray (e ∷ []) ≤ sum_by
-                            (λ s. count_by is_stray (lane_at lanes (lane_place n s d Request)).messages) (from_to 0 n) =
+                      + count_by is_received_stray (e ∷ []) ≤ sum_by
+                      (λ s. count_by is_stray (lane_at lanes (lane_place n s d Request)).messages) (from_to 0 n) =
                       subst (λ t. sum_by (λ s. count_by is_stray (lane_at mid (lane_place n s t Request)).messages) (from_to 0 n)
-                          + count_by is_received_stray (e ∷ []) ≤ sum_by
-                          (λ s. count_by is_stray (lane_at lanes (lane_place n s t Request)).messages) (from_to 0 n)) (sym i) fewer in
+                      + count_by is_received_stray (e ∷ []) ≤ sum_by
+                      (λ s. count_by is_stray (lane_at lanes (lane_place n s t Request)).messages) (from_to 0 n)) (sym i) fewer in
                       omega (arith, out, got, had, less)
                   | inr x ↦
                       let got = ap (λ (v : NodeState). count_by is_received_stray v.diary.locals) (news_other d x) in
                       let less = sum_le (λ s. count_by is_stray (lane_at lanes (lane_place n s d Request)).messages)
-                            (λ s. count_by is_stray (lane_at mid (lane_place n s d Request)).messages) 0 n
-                            (λ s low high. taken.strays (lane_place n s d Request)) in
+                      (λ s. count_by is_stray (lane_at mid (lane_place n s d Request)).messages) 0 n
+                      (λ s low high. taken.strays (lane_place n s d Request)) in
                       omega (arith, out, got, less)
                 ]
 
@@ -372,7 +372,7 @@ module _ (p : Plan) (inputs : Inputs) (n : ℕ) (nodes : List NodeState) (lanes 
               at_most = λ d h. let a = few_news d h in let b = room.at_most d h in omega (arith, a, b);
               received = λ q h. at_set (λ (v : NodeState). AreShort v.diary.locals) nodes r q new no_node inside_nodes
                   (λ i. subst AreShort (sym moved.locals) (short_more (node_at nodes r).diary.locals e (room.received r hr) short))
-                      (λ x. room.received q h);
+                  (λ x. room.received q h);
               held = λ s d lane m hs hd i stray. elim (later_members (lane_place n s d lane) m i) [
                 | inl j ↦ room.held s d lane m hs hd j stray
                 | inr q ↦ absurd (clash (clean m q) stray)

@@ -1,6 +1,6 @@
 -- The places of lanes.
-use Rattle.std.proofs.Common.{ℕ, zero, suc, Bool, true, false, ◌&&◌, ◌+◌, ◌*◌, ◌/◌, ◌%◌, ◌<◌, ◌≡◌, ◌==◌, ◌∙◌, refl, sym, ap, ap₂, inl, inr,
-    arith, if◌then◌else◌, eq-eqb, eqb-true}
+use Rattle.std.proofs.Common.{ℕ, zero, suc, Bool, true, false, ◌&&◌, ◌+◌, ◌*◌, ◌/◌, ◌%◌, ◌<◌, ◌≡◌, ◌==◌, ◌∙◌, refl, sym, ap, ap₂, inl, inr}
+use Rattle.std.proofs.Common.{arith, if◌then◌else◌, eq-eqb, eqb-true}
 use Rattle.std.proofs.lemmas.Bool.{cases_Bool, and_parts}
 use Rattle.std.proofs.lemmas.Nat.{div-add-mod', div_below, div-mul-add, mod-mul-add, mul-add-lt}
 use Rattle.ptl_types.specs.declared.headers.Lane.{Lane}
@@ -65,7 +65,7 @@ one_lane s d lane q u l e =
 pub is_one : (s d : ℕ) (lane : Lane) (q u : ℕ) (l : Lane) → OneLane q u l s d lane → is_lane_of s d lane q u l ≡ true
 is_one s d lane q u l o =
     ap₂ (λ a b. a && b) (eq-eqb q s o.source) (ap₂ (λ a b. a && b) (eq-eqb u d o.destination) (ap (λ x. same_lane x lane) o.kind
-        ∙ same_lane-true lane))
+    ∙ same_lane-true lane))
 
 pub not_one : (s d : ℕ) (lane : Lane) (q u : ℕ) (l : Lane) → is_lane_of s d lane q u l ≡ false → OneLane q u l s d lane → ⊥
 not_one s d lane q u l e o = both (is_one s d lane q u l o) e

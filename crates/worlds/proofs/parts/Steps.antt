@@ -1,6 +1,6 @@
 -- The kinds of step over the parts of a world.
-use Rattle.std.proofs.Common.{ℕ, Bool, true, false, not, cond, ◌<◌, ◌≡◌, ◌∙◌, List, [], ◌∷◌, ◌++◌, Option, Some, None, is_some, length,
-    count_by, nat_lt, if◌then◌else◌, refl, sym, ap, subst, arith}
+use Rattle.std.proofs.Common.{ℕ, Bool, true, false, not, cond, ◌<◌, ◌≡◌, ◌∙◌, List, [], ◌∷◌, ◌++◌, Option, Some, None, is_some, length}
+use Rattle.std.proofs.Common.{count_by, nat_lt, if◌then◌else◌, refl, sym, ap, subst, arith}
 use Rattle.std.proofs.Math.ListN.{set, length-set}
 use Rattle.std.proofs.lemmas.Bool.{and_parts, ltb-true}
 use Rattle.ptl_types.specs.Kinds.{lane_of}
@@ -35,14 +35,14 @@ use Rattle.rank_node.specs.Gates.{may_go, goes_out}
 use Rattle.rank_node.specs.Node.{IsNode, IsStarted, NodeState, fired_node}
 use Rattle.worlds.specs.parts.Keeps.{AgreeAll, AreCounted, AreParts, AreStrays, IsWorld}
 use Rattle.worlds.specs.parts.Layout.{held_in, lane_at, no_node, node_at, scene_of}
-use Rattle.worlds.specs.parts.Marks.{HasPlace, delivery_mark, firing_mark, gated, lane_has, out_with, receiver, sent_out, start_count,
-    start_mark}
+use Rattle.worlds.specs.parts.Marks.{HasPlace, delivery_mark, firing_mark, gated, lane_has, out_with, receiver, sent_out, start_count}
+use Rattle.worlds.specs.parts.Marks.{start_mark}
 use Rattle.worlds.specs.parts.Steps.{IsStepped}
 use Rattle.worlds.proofs.parts.Counted.{sent_counted, silent_counted, start_counted}
 use Rattle.worlds.proofs.parts.Held.{set_other}
 use Rattle.worlds.proofs.parts.Marked.{mark_size, request_marked}
-use Rattle.worlds.proofs.parts.Moving.{Moved, agree_back, agree_now, may_go_out, nic_is, none_taken, parts_news, scene_news, slots_now,
-    strays_news}
+use Rattle.worlds.proofs.parts.Moving.{Moved, agree_back, agree_now, may_go_out, nic_is, none_taken, parts_news, scene_news, slots_now}
+use Rattle.worlds.proofs.parts.Moving.{strays_news}
 use Rattle.worlds.proofs.parts.Placed.{OneLane}
 use Rattle.worlds.proofs.parts.Renewed.{IsRenewed, agree_next, as_is, as_told, renewed, renewed_by, scene_next}
 use Rattle.worlds.proofs.parts.Sets.{at_set}
@@ -78,8 +78,8 @@ pub wide_news : (p : Plan) (inputs : Inputs) (n : ℕ) (nodes : List NodeState) 
 wide_news p inputs n nodes lanes window spare parts r hr new same q hq =
     let size = parts.size in
     at_set (λ (v : NodeState). length v.closed ≡ n) nodes r q new no_node (omega (arith, size))
-        (λ i. ap length same ∙ wide_gates p inputs n nodes lanes window spare parts r hr)
-        (λ x. wide_gates p inputs n nodes lanes window spare parts q hq)
+    (λ i. ap length same ∙ wide_gates p inputs n nodes lanes window spare parts r hr)
+    (λ x. wide_gates p inputs n nodes lanes window spare parts q hq)
 
 -- a step that is no start leaves how often a rank started
 pub no_start : (locals : List Local) (e : Local) → is_start e ≡ false
@@ -101,7 +101,7 @@ module _ (p : Plan) (inputs : Inputs) (n : ℕ) (nodes : List NodeState) (lanes 
   pub finish : (x : Step) (news : List NodeState) (later : List Plain) → AreParts p inputs n news later window spare →
       AreStrays n news later strays spare
       → ((slots : ℕ → Slots) → AgreeAll n slots news → scene_of n news later ≡ step_made (system_of p inputs slots) x
-          (scene_of n nodes lanes))
+      (scene_of n nodes lanes))
       → ((slots : ℕ → Slots) → AgreeAll n slots news → AgreeAll n slots nodes)
       → (nexts : List NodeState) (a b c : List ℕ) → IsRenewed n window news later nexts a b c
       → IsDone p inputs n x nodes lanes nexts later a b c window strays spare
@@ -125,26 +125,35 @@ module _ (p : Plan) (inputs : Inputs) (n : ℕ) (nodes : List NodeState) (lanes 
         hr) fire_ready
 
     fire_is : (slots : ℕ → Slots) → AgreeAll n slots nodes → step_made (system_of p inputs slots) (Fire r t) (scene_of n nodes lanes)
-        ≡ (let z : Scene = record { world = with_step r (Fired t) (scene_of n nodes lanes).world; held =
-                 λ q u l. held_in n lanes q u l ++ sent_more (system_of p inputs slots) (scene_of n nodes lanes).world r (Fired t) q u l }
-                 in z)
+        ≡ (let z : Scene = record {
+          world = with_step r (Fired t) (scene_of n nodes lanes).world;
+          held =
+              λ q u l. held_in n lanes q u l ++ sent_more (system_of p inputs slots) (scene_of n nodes lanes).world r (Fired t) q u l;
+        }
+        in z)
     fire_is slots a = refl
 
     fire_moved : Moved (node_at nodes r) (fired_node t (node_at nodes r)) (Fired t)
-    fire_moved = record { task = refl; strays = refl; locals = refl; slots = λ q a. a; node =
-        fire-node (node_at nodes r) t fire_ready (k.parts.node r hr) }
+    fire_moved = record {
+      task = refl;
+      strays = refl;
+      locals = refl;
+      slots = λ q a. a;
+      node =
+          fire-node (node_at nodes r) t fire_ready (k.parts.node r hr);
+    }
 
     module _ (o : Option Sent) (makes : o ≡ (fired (node_at nodes r).nic t).message) where
       fire_to : (m : Sent) → o ≡ Some m → m.header.target < n
       fire_to m q =
           let c = k.parts.count in
           let e : (fired (state_at (system_of p inputs (slots_now p inputs n nodes lanes window strays spare k.parts k.stray))
-                (scene_of n nodes lanes).world r) t).message ≡ Some m =
+          (scene_of n nodes lanes).world r) t).message ≡ Some m =
           ap (λ v. (fired v t).message) (sym (nic_is p inputs n nodes lanes window strays spare k.parts k.stray
-              (slots_now p inputs n nodes lanes window strays spare k.parts k.stray)
-              (agree_now p inputs n nodes lanes window strays spare k.parts k.stray) r hr)) ∙ sym makes ∙ q in
+          (slots_now p inputs n nodes lanes window strays spare k.parts k.stray)
+          (agree_now p inputs n nodes lanes window strays spare k.parts k.stray) r hr)) ∙ sym makes ∙ q in
           let a = target_known p inputs k.parts.sound (slots_now p inputs n nodes lanes window strays spare k.parts k.stray)
-                (scene_of n nodes lanes).world r t m e in
+          (scene_of n nodes lanes).world r t m e in
           omega (arith, c, a)
 
       -- it is a request
@@ -152,7 +161,7 @@ module _ (p : Plan) (inputs : Inputs) (n : ℕ) (nodes : List NodeState) (lanes 
       fire_asks m q =
           let f = slots_now p inputs n nodes lanes window strays spare k.parts k.stray in
           ap (λ b. if b then Answer else Request) (from_link-request p (f r) r m
-              (fired_link p (f r) r t (node_at nodes r).nic m (subst (IsOf p (f r) r) (sym here) (of f)) (sym makes ∙ q)))
+          (fired_link p (f r) r t (node_at nodes r).nic m (subst (IsOf p (f r) r) (sym here) (of f)) (sym makes ∙ q)))
         where
           here : (node_at nodes r).nic ≡ state_at (system_of p inputs
               (slots_now p inputs n nodes lanes window strays spare k.parts k.stray)) (scene_of n nodes lanes).world r
@@ -196,7 +205,7 @@ module _ (p : Plan) (inputs : Inputs) (n : ℕ) (nodes : List NodeState) (lanes 
           → lane_at (sent_out n r m lanes) (lane_place n a b l) ≡ lane_at lanes (lane_place n a b l)
       fire_apart m q a b l ha hb x =
           set_other n lanes k.parts.wide r m.header.target (lane_of m.header.kind) hr (fire_to m q)
-              ((lane_at lanes (lane_place n r m.header.target (lane_of m.header.kind))).messages ++ m ∷ []) a b l hb
+          ((lane_at lanes (lane_place n r m.header.target (lane_of m.header.kind))).messages ++ m ∷ []) a b l hb
           (λ i. x (record { source = i.source; goal = i.destination; kind = i.kind ∙ fire_asks m q }))
 
       fire_renewed : (x : Option Sent) → o ≡ x → IsRenewed n window fire_news (out_with n r x lanes)
@@ -206,7 +215,7 @@ module _ (p : Plan) (inputs : Inputs) (n : ℕ) (nodes : List NodeState) (lanes 
       fire_renewed None q =
           as_is n window fire_news lanes starts deliveries (firing_mark fire_news r firings)
           (silent_counted n nodes lanes starts deliveries firings window k.counted k.parts.size r hr (fired_node t (node_at nodes r)) refl
-              fire_count)
+          fire_count)
       fire_renewed (Some m) q =
           let size = k.parts.size in
           let length_news = length-set nodes r (fired_node t (node_at nodes r)) in
@@ -214,14 +223,14 @@ module _ (p : Plan) (inputs : Inputs) (n : ℕ) (nodes : List NodeState) (lanes 
           (delivery_mark (sent_out n r m lanes) n window r m.header.target Request deliveries)
           (firing_mark (gated (sent_out n r m lanes) n window r m.header.target fire_news) r firings)
           (sent_counted n nodes lanes starts deliveries firings window k.counted k.parts.size r hr (fired_node t (node_at nodes r)) refl
-              fire_count
+          fire_count
           (wide_gates p inputs n nodes lanes window spare k.parts) (sent_out n r m lanes) r m.header.target hr (fire_to m q)
           (λ a b ha hb x. ap (λ (z : Plain). nat_lt (length z.messages) window)
-              (fire_apart m q a b Request ha hb (λ i. x (i.source, i.destination))))
+          (fire_apart m q a b Request ha hb (λ i. x (i.source, i.destination))))
           (delivery_mark (sent_out n r m lanes) n window r m.header.target Request deliveries)
           (mark_size n (sent_out n r m lanes) window r m.header.target Request deliveries ∙ k.counted.wide_deliveries)
           (request_marked n lanes deliveries window (sent_out n r m lanes) r m.header.target hr (fire_to m q) k.counted.wide_deliveries
-              k.counted.of_deliveries (fire_apart m q))
+          k.counted.of_deliveries (fire_apart m q))
           refl)
 
       pub fire_done : (nexts : List NodeState) (b c : List ℕ) → IsFired n window r (receiver r o) (is_some o) fire_news
@@ -229,13 +238,13 @@ module _ (p : Plan) (inputs : Inputs) (n : ℕ) (nodes : List NodeState) (lanes 
           → IsDone p inputs n (Fire r t) nodes lanes nexts (out_with n r o lanes) starts b c window strays spare
       fire_done nexts b c is = finish (Fire r t) fire_news (out_with n r o lanes)
           (parts_news p inputs n nodes lanes window strays spare k.parts k.stray r hr (Fired t) lanes (none_taken lanes) fire_enabled
-              fire_is o makes fire_to fire_open (fired_node t (node_at nodes r)) fire_moved)
+          fire_is o makes fire_to fire_open (fired_node t (node_at nodes r)) fire_moved)
           (strays_news p inputs n nodes lanes window strays spare k.parts k.stray r hr (Fired t) lanes (none_taken lanes) fire_enabled
-              fire_is o makes fire_to fire_open (fired_node t (node_at nodes r)) fire_moved tt (omega arith))
+          fire_is o makes fire_to fire_open (fired_node t (node_at nodes r)) fire_moved tt (omega arith))
           (scene_news p inputs n nodes lanes window strays spare k.parts k.stray r hr (Fired t) lanes (none_taken lanes) fire_enabled
-              fire_is o makes fire_to fire_open (fired_node t (node_at nodes r)) fire_moved)
+          fire_is o makes fire_to fire_open (fired_node t (node_at nodes r)) fire_moved)
           (agree_back p inputs n nodes lanes window strays spare k.parts k.stray r hr (Fired t) lanes (none_taken lanes) fire_enabled
-              fire_is o makes fire_to fire_open (fired_node t (node_at nodes r)) fire_moved)
+          fire_is o makes fire_to fire_open (fired_node t (node_at nodes r)) fire_moved)
           nexts starts b c
           (renewed_by n window fire_news (out_with n r o lanes)
           (if is_some o then gated (out_with n r o lanes) n window r (receiver r o) fire_news else fire_news) starts
@@ -246,7 +255,7 @@ module _ (p : Plan) (inputs : Inputs) (n : ℕ) (nodes : List NodeState) (lanes 
       pub fire_as : (sends : Bool) → sends ≡ is_some o → (d : ℕ) → d ≡ receiver r o → (later : List Plain) →
           later ≡ out_with n r o lanes → (news : List NodeState) → news ≡ set nodes r (fired_node t (node_at nodes r))
           → (nexts : List NodeState) (b c : List ℕ) → IsFired n window r d sends news later deliveries firings nexts b c →
-              IsDone p inputs n (Fire r t) nodes lanes nexts later starts b c window strays spare
+          IsDone p inputs n (Fire r t) nodes lanes nexts later starts b c window strays spare
       fire_as sends some d whom later out news made nexts b c is =
           subst (λ l. IsDone p inputs n (Fire r t) nodes lanes nexts l starts b c window strays spare) (sym out)
           (fire_done nexts b c
@@ -259,17 +268,26 @@ module _ (p : Plan) (inputs : Inputs) (n : ℕ) (nodes : List NodeState) (lanes 
   module _ (r : ℕ) (hr : r < n) (waits : count_by is_start (node_at nodes r).diary.locals ≡ 0) (new : NodeState)
       (st : IsStarted (node_at nodes r) new) (keeps : IsNode new) where
     start_moved : Moved (node_at nodes r) new Started
-    start_moved = record { task = st.task; strays = st.strays; locals = ap (λ (d : Diary). d.locals) st.diary; slots = st.slots; node =
-        keeps }
+    start_moved = record {
+      task = st.task;
+      strays = st.strays;
+      locals = ap (λ (d : Diary). d.locals) st.diary;
+      slots = st.slots;
+      node =
+          keeps;
+    }
 
     start_enabled : (slots : ℕ → Slots) → AgreeAll n slots nodes → IsEnabled (system_of p inputs slots) (scene_of n nodes lanes).world
         (scene_of n nodes lanes).held r Started
     start_enabled slots a = waits
 
     start_is : (slots : ℕ → Slots) → AgreeAll n slots nodes → step_made (system_of p inputs slots) (Start r) (scene_of n nodes lanes)
-        ≡ (let z : Scene = record { world = with_step r Started (scene_of n nodes lanes).world; held =
-                 λ q u l. held_in n lanes q u l ++ sent_more (system_of p inputs slots) (scene_of n nodes lanes).world r Started q u l }
-                 in z)
+        ≡ (let z : Scene = record {
+          world = with_step r Started (scene_of n nodes lanes).world;
+          held =
+              λ q u l. held_in n lanes q u l ++ sent_more (system_of p inputs slots) (scene_of n nodes lanes).world r Started q u l;
+        }
+        in z)
     start_is slots a = refl
 
     none_to : (m : Sent) → None ≡ Some m → m.header.target < n
@@ -283,13 +301,13 @@ module _ (p : Plan) (inputs : Inputs) (n : ℕ) (nodes : List NodeState) (lanes 
         → IsDone p inputs n (Start r) nodes lanes (set nodes r new) lanes a deliveries c window strays spare
     start_done a c of_starts of_firings = finish (Start r) (set nodes r new) lanes
         (parts_news p inputs n nodes lanes window strays spare k.parts k.stray r hr Started lanes (none_taken lanes) start_enabled
-            start_is None refl none_to none_open new start_moved)
+        start_is None refl none_to none_open new start_moved)
         (strays_news p inputs n nodes lanes window strays spare k.parts k.stray r hr Started lanes (none_taken lanes) start_enabled
-            start_is None refl none_to none_open new start_moved tt (omega arith))
+        start_is None refl none_to none_open new start_moved tt (omega arith))
         (scene_news p inputs n nodes lanes window strays spare k.parts k.stray r hr Started lanes (none_taken lanes) start_enabled
-            start_is None refl none_to none_open new start_moved)
+        start_is None refl none_to none_open new start_moved)
         (agree_back p inputs n nodes lanes window strays spare k.parts k.stray r hr Started lanes (none_taken lanes) start_enabled
-            start_is None refl none_to none_open new start_moved)
+        start_is None refl none_to none_open new start_moved)
         (set nodes r new) a deliveries c
         (as_is n window (set nodes r new) lanes a deliveries c
         (subst (λ u. AreCounted n (set nodes r new) lanes u deliveries c window) (sym of_starts)

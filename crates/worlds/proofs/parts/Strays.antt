@@ -1,6 +1,6 @@
 -- Strays in lists of messages and in histories.
-use Rattle.std.proofs.Common.{ℕ, suc, Bool, true, false, cond, not, ◌+◌, ◌≤◌, ◌≡◌, List, [], ◌∷◌, ◌++◌, length, count_by, refl, ap, inl,
-    inr, arith, length-append}
+use Rattle.std.proofs.Common.{ℕ, suc, Bool, true, false, cond, not, ◌+◌, ◌≤◌, ◌≡◌, List, [], ◌∷◌, ◌++◌, length, count_by, refl, ap, inl}
+use Rattle.std.proofs.Common.{inr, arith, length-append}
 use Rattle.ptl_types.specs.Messages.{Sent}
 use Rattle.plan_core.specs.Members.{In}
 use Rattle.plan_core.proofs.Lists.{count-append, count-cons}

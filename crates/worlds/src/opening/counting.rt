@@ -4,11 +4,11 @@ ghost use Rattle.std.specs.Prelude.{ℕ, ◌≡◌, ◌<◌, ◌≤◌, IfOk, le
 ghost use Rattle.worlds.specs.parts.Layout.{node_at};
 ghost use Rattle.worlds.specs.parts.Marks.{firing_count, start_count};
 
+use crate::parts::marks::{mark_firings, mark_start};
 use count_tree::CountTree;
 use ptl_types::NoMemory;
 use rank_node::Node;
 use std::alloc::Global;
-use crate::parts::marks::{mark_firings, mark_start};
 
 /// Counts the starts that are possible, by rank.
 pub(crate) fn fill_starts(starts: &mut CountTree, nodes: &[Node])

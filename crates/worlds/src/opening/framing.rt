@@ -13,13 +13,13 @@ ghost use Rattle.worlds.specs.opening.Frames.{AreSized, IsBare, IsSameButGates, 
 
 use crate::opening::counting::{fill_firings, fill_starts};
 use crate::opening::laying::{Room, lay_all};
+use crate::parts::marks::{gate, mark_delivery};
 use count_tree::CountTree;
 use pair_wires::PlainLane;
 use ptl_types::{Lane, NoMemory, Rank};
 use rank_node::Node;
 use schedule_compiler::Job;
 use std::alloc::Global;
-use crate::parts::marks::{gate, mark_delivery};
 
 /// How many messages a lane of a frame may hold.
 pub const FRAME_WINDOW: u32 = 4;
@@ -116,7 +116,8 @@ fn mark_pair(
     requires size { length lanes.now ≡ 2 * (ranks * ranks) }
     requires source { s < ranks }
     requires destination { d < ranks }
-    ensures { deliveries.new ≡ delivery_mark lanes.now ranks window s d Answer (delivery_mark lanes.now ranks window s d Request deliveries.old) }
+    ensures { deliveries.new ≡ delivery_mark lanes.now ranks window s d Answer
+        (delivery_mark lanes.now ranks window s d Request deliveries.old) }
 {
     mark_delivery(deliveries, lanes, ranks, window, s, d, Lane::Request);
     mark_delivery(deliveries, lanes, ranks, window, s, d, Lane::Answer);

@@ -10,13 +10,13 @@ ghost use Rattle.worlds.specs.opening.Laying.{FitLanes};
 use crate::opening::counting::{count_firings, count_starts};
 use crate::opening::installing::install_all;
 use crate::opening::laying::{Room, lay_all};
+use crate::parts::acts::Setting;
 use count_tree::CountTree;
 use pair_wires::PlainLane;
 use ptl_types::NoMemory;
 use rank_node::Node;
 use schedule_compiler::Job;
 use std::alloc::Global;
-use crate::parts::acts::Setting;
 
 /// The parts of a world.
 #[derive(Drop)]

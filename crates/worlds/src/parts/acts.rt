@@ -58,13 +58,17 @@ pub fn start(
     firings: &mut CountTree,
     r: Rank,
 )
-    requires world { IsSomeWorld setting.ranks nodes.old lanes.now starts.old deliveries.old firings.old setting.window setting.strays setting.spare }
+    requires world { IsSomeWorld setting.ranks nodes.old lanes.now starts.old deliveries.old firings.old setting.window setting.strays
+        setting.spare }
     requires rank { r < setting.ranks }
     requires waits { count_by is_start (node_at nodes.old r).diary.locals ≡ 0 }
-    ensures step { (p : Plan) (inputs : Inputs) → IsWorld p inputs setting.ranks nodes.old lanes.now starts.old deliveries.old firings.old setting.window setting.strays setting.spare →
+    ensures step { (p : Plan) (inputs : Inputs) → IsWorld p inputs setting.ranks nodes.old lanes.now starts.old deliveries.old firings.old
+        setting.window setting.strays setting.spare →
         IsStepped p inputs setting.ranks (Start r) nodes.old lanes.now nodes.new lanes.now }
-    ensures world { (p : Plan) (inputs : Inputs) → IsWorld p inputs setting.ranks nodes.old lanes.now starts.old deliveries.old firings.old setting.window setting.strays setting.spare →
-        IsWorld p inputs setting.ranks nodes.new lanes.now starts.new deliveries.new firings.new setting.window setting.strays setting.spare }
+    ensures world { (p : Plan) (inputs : Inputs) → IsWorld p inputs setting.ranks nodes.old lanes.now starts.old deliveries.old
+        firings.old setting.window setting.strays setting.spare →
+        IsWorld p inputs setting.ranks nodes.new lanes.now starts.new deliveries.new firings.new setting.window setting.strays
+        setting.spare }
 {
     start_node(&mut nodes[r as usize]);
     started(starts, firings, nodes, r);
@@ -81,13 +85,17 @@ pub fn fire(
     r: Rank,
     number: u32,
 )
-    requires world { IsSomeWorld setting.ranks nodes.old lanes.old starts.old deliveries.old firings.old setting.window setting.strays setting.spare }
+    requires world { IsSomeWorld setting.ranks nodes.old lanes.old starts.old deliveries.old firings.old setting.window setting.strays
+        setting.spare }
     requires rank { r < setting.ranks }
     requires may { may_go (node_at nodes.old r).closed (node_at nodes.old r).nic number ≡ true }
-    ensures step { (p : Plan) (inputs : Inputs) → IsWorld p inputs setting.ranks nodes.old lanes.old starts.old deliveries.old firings.old setting.window setting.strays setting.spare →
+    ensures step { (p : Plan) (inputs : Inputs) → IsWorld p inputs setting.ranks nodes.old lanes.old starts.old deliveries.old firings.old
+        setting.window setting.strays setting.spare →
         IsStepped p inputs setting.ranks (Fire r number) nodes.old lanes.old nodes.new lanes.new }
-    ensures world { (p : Plan) (inputs : Inputs) → IsWorld p inputs setting.ranks nodes.old lanes.old starts.old deliveries.old firings.old setting.window setting.strays setting.spare →
-        IsWorld p inputs setting.ranks nodes.new lanes.new starts.new deliveries.new firings.new setting.window setting.strays setting.spare }
+    ensures world { (p : Plan) (inputs : Inputs) → IsWorld p inputs setting.ranks nodes.old lanes.old starts.old deliveries.old
+        firings.old setting.window setting.strays setting.spare →
+        IsWorld p inputs setting.ranks nodes.new lanes.new starts.new deliveries.new firings.new setting.window setting.strays
+        setting.spare }
 {
     let made = nodes[r as usize].fire(number);
     let sends = made.is_some();
@@ -118,14 +126,18 @@ pub fn deliver(
     d: Rank,
     lane: Lane,
 )
-    requires world { IsSomeWorld setting.ranks nodes.old lanes.old starts.old deliveries.old firings.old setting.window setting.strays setting.spare }
+    requires world { IsSomeWorld setting.ranks nodes.old lanes.old starts.old deliveries.old firings.old setting.window setting.strays
+        setting.spare }
     requires source { s < setting.ranks }
     requires destination { d < setting.ranks }
     requires may { lane_may lanes.old setting.ranks setting.window s d lane ≡ true }
-    ensures step { (p : Plan) (inputs : Inputs) → IsWorld p inputs setting.ranks nodes.old lanes.old starts.old deliveries.old firings.old setting.window setting.strays setting.spare →
+    ensures step { (p : Plan) (inputs : Inputs) → IsWorld p inputs setting.ranks nodes.old lanes.old starts.old deliveries.old firings.old
+        setting.window setting.strays setting.spare →
         IsStepped p inputs setting.ranks (Deliver s d lane) nodes.old lanes.old nodes.new lanes.new }
-    ensures world { (p : Plan) (inputs : Inputs) → IsWorld p inputs setting.ranks nodes.old lanes.old starts.old deliveries.old firings.old setting.window setting.strays setting.spare →
-        IsWorld p inputs setting.ranks nodes.new lanes.new starts.new deliveries.new firings.new setting.window setting.strays setting.spare }
+    ensures world { (p : Plan) (inputs : Inputs) → IsWorld p inputs setting.ranks nodes.old lanes.old starts.old deliveries.old
+        firings.old setting.window setting.strays setting.spare →
+        IsWorld p inputs setting.ranks nodes.new lanes.new starts.new deliveries.new firings.new setting.window setting.strays
+        setting.spare }
 {
     let had = has_window(lanes, setting.ranks, setting.window, s, d, Lane::Request);
     let message = take(lanes, setting.ranks, s, d, lane);
@@ -151,8 +163,11 @@ fn put_request(lanes: &mut [PlainLane], ranks: u32, s: Rank, d: Rank, message: M
     requires size { length lanes.old ≡ 2 * (ranks * ranks) }
     requires source { s < ranks }
     requires destination { d < ranks }
-    requires room { length (lane_at lanes.old (lane_place ranks s d Request)).messages < (lane_at lanes.old (lane_place ranks s d Request)).capacity }
-    ensures put { lanes.new ≡ slice_set lanes.old (lane_place ranks s d Request) (plain ((lane_at lanes.old (lane_place ranks s d Request)).messages ++ message ∷ []) (lane_at lanes.old (lane_place ranks s d Request)).capacity) }
+    requires room { length (lane_at lanes.old (lane_place ranks s d Request)).messages
+        < (lane_at lanes.old (lane_place ranks s d Request)).capacity }
+    ensures put { lanes.new ≡ slice_set lanes.old (lane_place ranks s d Request)
+        (plain ((lane_at lanes.old (lane_place ranks s d Request)).messages ++ message ∷ [])
+        (lane_at lanes.old (lane_place ranks s d Request)).capacity) }
     ensures kept { IsKept message }
 {
     let _ = message.bytes();
@@ -172,7 +187,8 @@ pub fn inject(
     d: Rank,
     message: Message,
 )
-    requires world { IsSomeWorld setting.ranks nodes.old lanes.old starts.old deliveries.old firings.old setting.window setting.strays setting.spare }
+    requires world { IsSomeWorld setting.ranks nodes.old lanes.old starts.old deliveries.old firings.old setting.window setting.strays
+        setting.spare }
     requires left { 0 < setting.strays }
     requires from { s < setting.ranks }
     requires destination { d < setting.ranks }
@@ -181,9 +197,11 @@ pub fn inject(
     requires target { message.header.target ≡ d }
     requires short { length message.bytes ≤ stray_bytes }
     ensures step { IsInjected setting.ranks s d message nodes.old lanes.old nodes.new lanes.new }
-    ensures world { (p : Plan) (inputs : Inputs) → IsWorld p inputs setting.ranks nodes.old lanes.old starts.old deliveries.old firings.old setting.window setting.strays setting.spare →
+    ensures world { (p : Plan) (inputs : Inputs) → IsWorld p inputs setting.ranks nodes.old lanes.old starts.old deliveries.old
+        firings.old setting.window setting.strays setting.spare →
         is_used_lane p s d Request ≡ true →
-        IsWorld p inputs setting.ranks nodes.new lanes.new starts.new deliveries.new firings.new setting.window (setting.strays - 1) setting.spare }
+        IsWorld p inputs setting.ranks nodes.new lanes.new starts.new deliveries.new firings.new setting.window (setting.strays - 1)
+        setting.spare }
 {
     let had = has_window(lanes, setting.ranks, setting.window, s, d, Lane::Request);
     put_request(lanes, setting.ranks, s, d, message);

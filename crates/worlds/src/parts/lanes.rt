@@ -71,8 +71,11 @@ pub fn put(lanes: &mut [PlainLane], ranks: u32, r: Rank, d: Rank, lane: Lane, me
     requires size { length lanes.old ≡ 2 * (ranks * ranks) }
     requires source { r < ranks }
     requires destination { d < ranks }
-    requires room { length (lane_at lanes.old (lane_place ranks r d lane)).messages < (lane_at lanes.old (lane_place ranks r d lane)).capacity }
-    ensures { lanes.new ≡ slice_set lanes.old (lane_place ranks r d lane) (plain ((lane_at lanes.old (lane_place ranks r d lane)).messages ++ message ∷ []) (lane_at lanes.old (lane_place ranks r d lane)).capacity) }
+    requires room { length (lane_at lanes.old (lane_place ranks r d lane)).messages
+        < (lane_at lanes.old (lane_place ranks r d lane)).capacity }
+    ensures { lanes.new ≡ slice_set lanes.old (lane_place ranks r d lane)
+        (plain ((lane_at lanes.old (lane_place ranks r d lane)).messages ++ message ∷ [])
+        (lane_at lanes.old (lane_place ranks r d lane)).capacity) }
 {
     lanes[place(ranks, r, d, lane)].push_back(message);
 }
@@ -84,7 +87,8 @@ pub fn take(lanes: &mut [PlainLane], ranks: u32, s: Rank, d: Rank, lane: Lane) -
     requires source { s < ranks }
     requires destination { d < ranks }
     requires nonempty { 0 < length (lane_at lanes.old (lane_place ranks s d lane)).messages }
-    ensures front { (lane_at lanes.old (lane_place ranks s d lane)).messages ≡ result ∷ drop 1 (lane_at lanes.old (lane_place ranks s d lane)).messages }
+    ensures front { (lane_at lanes.old (lane_place ranks s d lane)).messages ≡ result ∷ drop 1
+        (lane_at lanes.old (lane_place ranks s d lane)).messages }
     ensures rest { lanes.new ≡ popped ranks s d lane lanes.old }
 {
     match lanes[place(ranks, s, d, lane)].pop_front() {
@@ -99,7 +103,8 @@ pub fn send(lanes: &mut [PlainLane], ranks: u32, r: Rank, message: Message)
     requires size { length lanes.old ≡ 2 * (ranks * ranks) }
     requires source { r < ranks }
     requires destination { message.header.target < ranks }
-    requires room { length (lane_at lanes.old (lane_place ranks r message.header.target (lane_of message.header.kind))).messages < (lane_at lanes.old (lane_place ranks r message.header.target (lane_of message.header.kind))).capacity }
+    requires room { length (lane_at lanes.old (lane_place ranks r message.header.target (lane_of message.header.kind))).messages
+        < (lane_at lanes.old (lane_place ranks r message.header.target (lane_of message.header.kind))).capacity }
     ensures { lanes.new ≡ sent_out ranks r message lanes.old }
 {
     let d = message.header().target;

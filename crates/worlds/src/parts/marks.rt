@@ -69,7 +69,9 @@ pub fn mark_lanes(
     requires size { length lanes.now ≡ 2 * (ranks * ranks) }
     requires source { s < ranks }
     requires destination { d < ranks }
-    ensures { deliveries.new ≡ delivery_mark lanes.now ranks window d s Answer (delivery_mark lanes.now ranks window d s Request (delivery_mark lanes.now ranks window s d Answer (delivery_mark lanes.now ranks window s d Request deliveries.old))) }
+    ensures { deliveries.new ≡ delivery_mark lanes.now ranks window d s Answer
+        (delivery_mark lanes.now ranks window d s Request (delivery_mark lanes.now ranks window s d Answer
+        (delivery_mark lanes.now ranks window s d Request deliveries.old))) }
 {
     mark_delivery(deliveries, lanes, ranks, window, s, d, Lane::Request);
     mark_delivery(deliveries, lanes, ranks, window, s, d, Lane::Answer);
@@ -125,7 +127,8 @@ pub fn fired(
     requires counted_deliveries { length deliveries.old ≡ 2 * (ranks * ranks) }
     requires counted_firings { length firings.old ≡ ranks }
     ensures gates { nodes.new ≡ (if sends then gated lanes.now ranks window r d nodes.old else nodes.old) }
-    ensures deliveries { deliveries.new ≡ (if sends then delivery_mark lanes.now ranks window r d Request deliveries.old else deliveries.old) }
+    ensures deliveries { deliveries.new ≡ (if sends then delivery_mark lanes.now ranks window r d Request deliveries.old else
+        deliveries.old) }
     ensures firings { firings.new ≡ firing_mark nodes.new r firings.old }
 {
     if sends {
@@ -201,7 +204,8 @@ pub fn delivered(
     requires told { slice_index_or (node_at nodes.old s).closed d false ≡ not had }
     requires right { slice_index_or (firing_mark nodes.old d firings.old) s 0 ≡ firing_count (node_at nodes.old s) }
     ensures gates { nodes.new ≡ gated lanes.now ranks window s d nodes.old }
-    ensures deliveries { deliveries.new ≡ delivery_mark lanes.now ranks window d s (lane_back lane) (delivery_mark lanes.now ranks window s d lane deliveries.old) }
+    ensures deliveries { deliveries.new ≡ delivery_mark lanes.now ranks window d s (lane_back lane)
+        (delivery_mark lanes.now ranks window s d lane deliveries.old) }
     ensures firings { firings.new ≡ firing_mark nodes.new s (firing_mark nodes.old d firings.old) }
 {
     mark_delivery(deliveries, lanes, ranks, window, s, d, lane);

@@ -13,7 +13,7 @@ of_blocks : (xs : List (List ℕ)) (i : ℕ) → i < length xs → ((q : ℕ) �
     flat_map (λ q. block (length xs) i (at xs q)) (from_to 0 (length xs)) ≡ exchanged xs i
 of_blocks xs i l even =
     flat_same (λ q. block (length xs) i (at xs q)) (λ q. part (i * (length (at xs i) / length xs)) (length (at xs i) / length xs)
-        (at xs q)) 0 (length xs)
+    (at xs q)) 0 (length xs)
     (λ q j. same_part i (length xs) (length (at xs q)) (length (at xs i)) (at xs q) (even q (omega arith) ∙ sym (even i l)))
 
 pub returns : goal.returns

@@ -10,7 +10,7 @@ loop-k-init c = subst (IsThere c.args.shape.now c.args.kept.now c.args.inputs.no
 pub take_step-requires : goal.take_step-requires
 take_step-requires c =
     let l : c.loop-k.k < length c.args.shape.now.steps = subst (λ v. c.loop-k.k < length v) c.steps-k-end.ensures.value c.loop-k-test.true
-          in
+    in
     record {
       step = l;
       at_most = few_there c.args.shape.now c.args.kept.now c.args.inputs.now c.loop-k.k c.loop-k.held c.keeps_form.ensures.shape l
@@ -22,11 +22,11 @@ take_step-requires c =
 pub loop-k-preserved : goal.loop-k-preserved
 loop-k-preserved c =
     let l : c.loop-k.k < length c.args.shape.now.steps = subst (λ v. c.loop-k.k < length v) c.steps-k-end.ensures.value c.loop-k-test.true
-          in
+    in
     let e : suc c.loop-k.k ≡ c.loop-k.k + 1 = omega arith in
     subst (λ v. IsThere c.args.shape.now c.args.kept.now c.args.inputs.now v c.take_step.new.held) e
     (there_next c.args.shape.now c.args.kept.now c.args.inputs.now c.loop-k.k c.keeps_form.ensures.shape c.requires l c.loop-k.held
-        c.loop-k.invariant c.take_step.new.held c.in_ok-take_step.ensures)
+    c.loop-k.invariant c.take_step.new.held c.in_ok-take_step.ensures)
 
 pub returns : goal.returns
 returns c =

@@ -11,6 +11,6 @@ returns-in-Ok c = record {
       let s = wf.shape in
       kept_there c.args.shape.now c.args.shape.now.prints c.args.inputs.now c.in-Ok.held wf
       (subst (λ v. IsThere c.args.shape.now v c.args.inputs.now (length c.args.shape.now.steps) c.in-Ok.held) c.prints.ensures.value
-          c.in-Ok.ensures)
+      c.in-Ok.ensures)
       (get_or c.args.shape.now.prints i 0) (s.printed i l) (member_in c.args.shape.now.prints i l);
 }

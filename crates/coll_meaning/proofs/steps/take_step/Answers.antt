@@ -18,13 +18,13 @@ same_made n n' g g' ty ty' step step' lists a b c d =
 pub returns : goal.returns
 returns c =
     is_made c.args.shape.now c.args.kept.now c.args.k c.in-Some.a c.args.held.now c.keep_if_needed.new.held c.push.new.self
-        c.in_ok-made.made
+    c.in_ok-made.made
     (ap source_of (sym c.step_at-step.ensures) ∙ sym c.in-Some.ensures)
     c.keep_if_needed.ensures.many
     (λ b need. c.keep_if_needed.ensures.others b (subst (λ v. is_needed c.args.kept.now v b ≡ true) (sym c.later-after.ensures) need))
     c.in_ok-push.ensures
     (λ need.
     c.in_ok-made.ensures (c.is_needed-needed.ensures ∙ ap (λ v. is_needed c.args.kept.now v c.count.result) c.later-after.ensures
-        ∙ ap (is_needed c.args.kept.now (later c.args.shape.now c.args.k)) c.count.ensures.value ∙ need)
+    ∙ ap (is_needed c.args.kept.now (later c.args.shape.now c.args.k)) c.count.ensures.value ∙ need)
     ∙ same_made _ _ _ _ _ _ _ _ (lists_of c.args.held.now c.in-Some.a) c.ranks-ranks.ensures.value c.group.ensures.value
     (c.type_read-ty.ensures ∙ ap (type_read c.args.shape.now) c.step_at-step.ensures) c.step_at-step.ensures)

@@ -8,7 +8,7 @@ pub returns-in-Some : goal.returns-in-Some
 returns-in-Some c =
     let found = sym c.find.ensures ∙ c.in-Some.is in
     let lt : c.in-Some.at < length c.args.bytes.now = (position-Some (λ b. b == c.args.separator) c.args.bytes.now c.in-Some.at 0 found).0
-          in
+    in
     record {
       parts = grind (arith, common_steps, cut_at (λ b. b == c.args.separator) c.args.bytes.now c.in-Some.at found);
       shorter = grind (arith, common_steps);

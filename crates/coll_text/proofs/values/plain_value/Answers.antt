@@ -30,7 +30,7 @@ returns-in-Some-eq32-default-clause-parts c =
     let space : b ≡ 32 = search rules in
     let next : back ≡ b ∷ rest = search rules in
     word_before c.args.line.now c.split_at.result.0.now back rest c.leading_digits-number.result.1 b c.split_at.ensures.front
-        c.split_at.ensures.back
+    c.split_at.ensures.back
     next space c.leading_digits-number.ensures.digits
 
 pub returns-in-Some-eq32-default-clause-value : goal.returns-in-Some-eq32-default-clause-value

@@ -11,8 +11,15 @@ returns-then-bytes-size c = record {
 
 pub returns : goal.returns
 returns c = record {
-  added = rw (c.in_ok-push-2.ensures.items, c.in_ok-push_spaced_values.ensures, c.in_ok-push_value_word.ensures,
-      c.read_pattern.ensures.value, c.split_at.ensures.front, c.split_at.ensures.back, c.size-size.ensures,
-      take-take (bytes_of c.args.ty) (bytes_of c.args.ty) c.args.bytes.now (omega arith))
+  added = rw (
+    c.in_ok-push-2.ensures.items,
+    c.in_ok-push_spaced_values.ensures,
+    c.in_ok-push_value_word.ensures,
+    c.read_pattern.ensures.value,
+    c.split_at.ensures.front,
+    c.split_at.ensures.back,
+    c.size-size.ensures,
+    take-take (bytes_of c.args.ty) (bytes_of c.args.ty) c.args.bytes.now (omega arith),
+  )
       (data_written c.args.ty c.args.out.now.items c.args.bytes.now (omega (arith, c.size-size.ensures)));
 }

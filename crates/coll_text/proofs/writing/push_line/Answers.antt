@@ -8,5 +8,7 @@ returns c =
     let first = c.in_ok-extend_from_slice.ensures.items in
     let others = c.in_ok-push_spaced.ensures in
     let last = c.in_ok-push-2.ensures.items in
-    record { added = rw (last, others, first, words) (line_written {W = Bor (List ℕ)} (λ w. w.now) c.args.out.now.items
-        c.in-Some.first.now c.in-Some.others.now) }
+    record {
+      added = rw (last, others, first, words) (line_written {W = Bor (List ℕ)} (λ w. w.now) c.args.out.now.items
+          c.in-Some.first.now c.in-Some.others.now);
+    }

@@ -31,8 +31,8 @@ none (m ∷ ms) n h e = absurd (omega arith)
 pub returns-clause-unused : goal.returns-clause-unused
 returns-clause-unused c = λ plan inputs slots r d history sound legal empty.
     none (sent (start_of plan slots r) (prepare plan inputs slots r) history d Request) (length (lane_links plan r d))
-        (few_messages plan slots r (start_of plan slots r) history false (prepare plan inputs slots r)
-        (prepared_of plan inputs sound slots r) legal d) empty
+    (few_messages plan slots r (start_of plan slots r) history false (prepare plan inputs slots r)
+    (prepared_of plan inputs sound slots r) legal d) empty
 
 pub returns-clause-answers : goal.returns-clause-answers
 returns-clause-answers c = λ plan inputs slots r d history sound legal. few_answers plan slots r (start_of plan slots r) history false
@@ -42,9 +42,9 @@ pub returns-clause-no_bytes : goal.returns-clause-no_bytes
 returns-clause-no_bytes c = λ plan inputs slots r d history m sound i.
     let q = In-filter_cases (is_for d Answer) m (made (start_of plan slots r) (prepare plan inputs slots r) history) i in
     answers-empty plan inputs sound slots r history m (prepared_of plan inputs sound slots r) q.0
-        (and_parts (m.header.target == d) (is_answer m.header.kind) q.1).1
+    (and_parts (m.header.target == d) (is_answer m.header.kind) q.1).1
 
 pub returns-clause-clean : goal.returns-clause-clean
 returns-clause-clean c = λ plan inputs slots r d history lane m sound i.
     made-clean plan inputs sound slots r history m (In-filter_cases (is_for d lane) m
-        (made (start_of plan slots r) (prepare plan inputs slots r) history) i).0
+    (made (start_of plan slots r) (prepare plan inputs slots r) history) i).0

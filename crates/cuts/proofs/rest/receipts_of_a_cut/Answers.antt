@@ -20,5 +20,5 @@ pub returns-clause-steps : goal.returns-clause-steps
 returns-clause-steps c = λ plan inputs slots world sound fit cut r h.
     let a = few_receipts combined-starts plan inputs sound fit slots world cut r h in
     let b = few_steps plan (slots r) r (start_of plan (slots r) r) (world r) (prepare plan inputs (slots r) r)
-          (prepared_of plan inputs sound (slots r) r) (cut.legal r h) in
+    (prepared_of plan inputs sound (slots r) r) (cut.legal r h) in
     omega (arith, a, b)

@@ -9,4 +9,4 @@ use Rattle.cuts.proofs.rest.starts_pass.Goals as goal
 pub returns : goal.returns
 returns c = λ plan inputs slots world sound fit cut r h.
     subst (λ v. StartsPass plan (slots r) r v (world r)) (sym (prepared plan inputs (slots r) r slots (length inputs) sound))
-        (simulation combined-starts plan inputs sound fit slots world cut r h).accepted
+    (simulation combined-starts plan inputs sound fit slots world cut r h).accepted

@@ -17,5 +17,5 @@ returns c = record {
       let k = system_of plan inputs slots in
       let s = listed_made k scene step (In-filter_cases (is_possible k window scene) step (enabled_steps k scene) i).0 in
       next_local combined-starts plan inputs sound fit (combined-swaps op_laws) slots scene.world scene.held moment
-          (step_made k step scene).world (step_made k step scene).held s;
+      (step_made k step scene).world (step_made k step scene).held s;
 }

@@ -11,11 +11,11 @@ pub returns : goal.returns
 returns c = record {
   rest = λ plan inputs slots window scene sound some moment none.
       still_rest plan inputs slots scene.world scene.held moment
-          (stuck_still plan inputs sound slots scene.world scene.held window some
-          (none_stuck (system_of plan inputs slots) window scene none));
+      (stuck_still plan inputs sound slots scene.world scene.held window some
+      (none_stuck (system_of plan inputs slots) window scene none));
   complete = λ plan inputs slots window scene sound fit some moment none r h.
       completes combined-starts plan inputs sound fit (combined-swaps op_laws) slots scene.world moment.cut
       (still_rest plan inputs slots scene.world scene.held moment
-          (stuck_still plan inputs sound slots scene.world scene.held window some
-          (none_stuck (system_of plan inputs slots) window scene none))) r h;
+      (stuck_still plan inputs sound slots scene.world scene.held window some
+      (none_stuck (system_of plan inputs slots) window scene none))) r h;
 }

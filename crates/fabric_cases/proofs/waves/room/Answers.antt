@@ -9,4 +9,4 @@ use Rattle.fabric_cases.proofs.waves.room.Goals as goal
 pub returns : goal.returns
 returns c = on_ok c.open.result
     (λ w h. subst (λ (o : Outline). IsFor (plan_of o) w) (c.schedule.ensures ∙ sym (ap (λ (j : JobOf). j.shape) c.requires)) h)
-        c.open.ensures.lanes
+    c.open.ensures.lanes

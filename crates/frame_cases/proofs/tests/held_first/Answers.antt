@@ -9,6 +9,6 @@ pub returns : goal.returns
 returns c =
     let job = c.args.job.now in
     let e : c.ranks.result ≡ job.shape.ranks = c.ranks.ensures.value
-          ∙ ap (λ (o : Outline). o.ranks) (c.shape.ensures.value ∙ c.schedule-schedule.ensures) in
+    ∙ ap (λ (o : Outline). o.ranks) (c.shape.ensures.value ∙ c.schedule-schedule.ensures) in
     let t = c.if-ranks-lt2.false in
     c.held.ensures.count ∙ laid_empty job c.in-Ok.frame c.in-Ok.ensures 0 1 Request (omega (arith, t, e)) (omega (arith, t, e))

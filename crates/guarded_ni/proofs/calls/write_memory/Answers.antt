@@ -3,8 +3,8 @@ use Rattle.std.proofs.Common.{◌+◌, ◌-◌, length, refl, arith, ap}
 use Rattle.guarded_ni.specs.declared.faults.Misuse.TheVariants.{OutsideRegion}
 use Rattle.guarded_ni.specs.Guarded.Tests.{Answered, Misused_by}
 use Rattle.guarded_ni.proofs.Testing.{past, within}
-use Rattle.guarded_ni.proofs.calls.write_memory.Goals.{then-start-size-via-then-start-size,
-    then-start-size-via-else-start-size+then-count-size}
+use Rattle.guarded_ni.proofs.calls.write_memory.Goals.{then-start-size-via-then-start-size}
+use Rattle.guarded_ni.proofs.calls.write_memory.Goals.{then-start-size-via-else-start-size+then-count-size}
 use Rattle.guarded_ni.proofs.calls.write_memory.Goals as goal
 
 pub returns-then-start-size : goal.returns-then-start-size
@@ -15,7 +15,7 @@ returns-then-start-size c =
           omega (arith, e, a))
       | then-start-size-via-else-start-size+then-count-size w ↦
           (let e = ap length c.memory.ensures.value in let a = w.if-start-size.false in let b = w.if-count-size.true in
-              omega (arith, e, a, b))
+          omega (arith, e, a, b))
     ])) refl
 
 pub returns : goal.returns

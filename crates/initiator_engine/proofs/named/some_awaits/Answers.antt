@@ -11,7 +11,7 @@ pub returns-then-bound-gt0 : goal.returns-then-bound-gt0
 returns-then-bound-gt0 c =
     let awaits : awaits_one c.in-Some.bound.now ≡ true = grind (arith, nat_tests) in
     sym (awaited-some c.args.mds.now.live ∙ slots-found awaits_one c.in-Some.field-0-0 c.in-Some.bound.now c.args.mds.now.live
-        c.in-Some.ensures.found.1 awaits)
+    c.in-Some.ensures.found.1 awaits)
 
 pub loop-slot-preserved : goal.loop-slot-preserved
 loop-slot-preserved c =
@@ -25,5 +25,5 @@ loop-slot-preserved c =
 pub returns : goal.returns
 returns c =
     let below : All (λ (x : Live Bound). x.handle.slot < c.loop-slot.slot) c.args.mds.now.live = λ i d lt. let all =
-                                                                                                                 c.slots-slot-end.ensures.below i d lt in omega arith in
+    c.slots-slot-end.ensures.below i d lt in omega arith in
     sym (awaited-some c.args.mds.now.live ∙ slots-end awaits_one c.loop-slot.slot c.args.mds.now.live c.loop-slot.invariant below)

@@ -10,6 +10,6 @@ loop-i-preserved g c =
     let n = length c.args.into.now / w in
     let lt : c.loop-i.i < length c.args.into.now / bytes_of g.E.Element.ty = rw (← c.size.ensures) c.loop-i-test.true in
     let fits : length c.args.into.now / bytes_of g.E.Element.ty * bytes_of g.E.Element.ty ≤ length c.loop-i.into =
-          omega (arith, div-add-mod' (length c.args.into.now) (bytes_of g.E.Element.ty), c.loop-i.auto.into) in
+    omega (arith, div-add-mod' (length c.args.into.now) (bytes_of g.E.Element.ty), c.loop-i.auto.into) in
     c.loop-i.invariant ∙ rw c.combine_at.ensures (combines (op g.C.Combine.operation g.E.Element.ty) (bytes_of g.E.Element.ty) c.loop-i.i
-        (length c.args.into.now / bytes_of g.E.Element.ty) c.loop-i.into c.args.with.now lt fits)
+    (length c.args.into.now / bytes_of g.E.Element.ty) c.loop-i.into c.args.with.now lt fits)

@@ -8,4 +8,4 @@ abbrev pub invariant-loop-i : goal.invariant-loop-i
 invariant-loop-i g l =
     repeated (bytes_of g.E.Element.ty) (length l.initial.into / bytes_of g.E.Element.ty) l.x
     ≡ take (l.i * bytes_of g.E.Element.ty) l.into ++ repeated (bytes_of g.E.Element.ty)
-        (length l.initial.into / bytes_of g.E.Element.ty - l.i) l.x
+    (length l.initial.into / bytes_of g.E.Element.ty - l.i) l.x

@@ -35,8 +35,13 @@ sync_link a b = record { source = a; source_offset = 0; length = 0; target = b; 
 
 -- go cells, entries, and one round
 abbrev two : Plan
-two = record { ranks = 2; remote = false; cells = on 0 1 ∷ on 1 1 ∷ on 0 1 ∷ on 1 1 ∷ on 0 2 ∷ on 1 2 ∷ []; links =
-    bump_link 0 2 ∷ bump_link 1 3 ∷ bump_link 2 4 ∷ sync_link 3 4 ∷ bump_link 3 5 ∷ sync_link 2 5 ∷ [] }
+two = record {
+  ranks = 2;
+  remote = false;
+  cells = on 0 1 ∷ on 1 1 ∷ on 0 1 ∷ on 1 1 ∷ on 0 2 ∷ on 1 2 ∷ [];
+  links =
+      bump_link 0 2 ∷ bump_link 1 3 ∷ bump_link 2 4 ∷ sync_link 3 4 ∷ bump_link 3 5 ∷ sync_link 2 5 ∷ [];
+}
 
 -- the go cell and the entry
 abbrev one : Plan
@@ -201,9 +206,15 @@ other_order_holds =
     record {
       moves = ran other (0 ∷ 0 ∷ 0 ∷ 0 ∷ []);
       taken = taken_by (of_plan one) (alone other) (0 ∷ 0 ∷ 0 ∷ 0 ∷ []) (z, (z, (z, (z, tt)))) other_stuck;
-      says = below1 (λ r. IsWhole (alone other) w r × Rests (of_plan one) w r)
-          (refl, record { started = lit< tt; idle = λ t. refl; empty =
-              λ s lane l. below1 (λ s. got (w 0) s lane ≡ sent_by (of_plan one) w s 0 lane) (other_empty lane) s l });
+      says = below1 (λ r. IsWhole (alone other) w r × Rests (of_plan one) w r) (
+        refl,
+        record {
+          started = lit< tt;
+          idle = λ t. refl;
+          empty =
+              λ s lane l. below1 (λ s. got (w 0) s lane ≡ sent_by (of_plan one) w s 0 lane) (other_empty lane) s l;
+        },
+      );
     }
 
 -- a second start

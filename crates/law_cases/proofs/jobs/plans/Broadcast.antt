@@ -43,8 +43,13 @@ put_link a b = record { source = a; source_offset = 0; length = 1; target = b; t
 
 -- the go cell, the input, the entry, the result
 abbrev pub plan : Plan
-plan = record { ranks = 1; remote = true; cells = plain 0 1 ∷ plain 1 1 ∷ plain 1 2 ∷ plain 1 1 ∷ []; links =
-    bump_link 0 1 ∷ bump_link 0 2 ∷ put_link 1 2 ∷ put_link 2 3 ∷ [] }
+plan = record {
+  ranks = 1;
+  remote = true;
+  cells = plain 0 1 ∷ plain 1 1 ∷ plain 1 2 ∷ plain 1 1 ∷ [];
+  links =
+      bump_link 0 1 ∷ bump_link 0 2 ∷ put_link 1 2 ∷ put_link 2 3 ∷ [];
+}
 
 abbrev pub inputs : Inputs
 inputs = ((7 ∷ []) ∷ []) ∷ []

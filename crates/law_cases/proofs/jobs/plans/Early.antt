@@ -1,6 +1,6 @@
 -- Two ranks, of which one starts after a message came to it: a sound plan with a cut at rest, so no premise is empty.
-use Rattle.std.proofs.Common.{ℕ, zero, suc, false, ◌+◌, ◌%◌, ◌≡◌, ◌<◌, ◌≤◌, [], ◌∷◌, ◌∙◌, append-nil, List, refl, length, map, arith, Some,
-    None, lit<, lit≤, ◌==◌, if◌then◌else◌, count_by}
+use Rattle.std.proofs.Common.{ℕ, zero, suc, false, ◌+◌, ◌%◌, ◌≡◌, ◌<◌, ◌≤◌, [], ◌∷◌, ◌∙◌, append-nil, List, refl, length, map, arith, Some}
+use Rattle.std.proofs.Common.{None, lit<, lit≤, ◌==◌, if◌then◌else◌, count_by}
 use Rattle.std.proofs.lemmas.Bool.{ne_eqb}
 use Rattle.ptl_types.specs.declared.elements.ElemType.TheVariants.{U8}
 use Rattle.ptl_types.specs.declared.headers.Lane.TheVariants.{Answer, Request}
@@ -131,17 +131,37 @@ below2 P a b (suc (suc l)) h = absurd (omega arith)
 bump_at : (l : ℕ) → (link plan_two l).kind ≡ Bump → (link plan_two l).source < (link plan_two l).target → (link plan_two l).target < 8 →
     (cell plan_two (link plan_two l).source).rank ≡ (cell plan_two (link plan_two l).target).rank → (link plan_two l).length ≡ 0
     → (link plan_two l).source_offset ≡ 0 → (link plan_two l).target_offset ≡ 0 → (cell plan_two (link plan_two l).target).op ≡ None →
-        SoundLink plan_two l
-bump_at l k up t same z so to none = record { rising = up; cells = t; within_source = omega (arith, z, so); within_target =
-    omega (arith, z, to); bump_stays = λ e. same; bump_empty = λ e. z; atomic_here = λ o e. cc; atomic_whole = λ e. cc; no_atomic =
-    λ e f. cc }
+    SoundLink plan_two l
+bump_at l k up t same z so to none = record {
+  rising = up;
+  cells = t;
+  within_source = omega (arith, z, so);
+  within_target =
+      omega (arith, z, to);
+  bump_stays = λ e. same;
+  bump_empty = λ e. z;
+  atomic_here = λ o e. cc;
+  atomic_whole = λ e. cc;
+  no_atomic =
+      λ e f. cc;
+}
 
 put_at : (l : ℕ) → (link plan_two l).kind ≡ Put → (link plan_two l).source < (link plan_two l).target → (link plan_two l).target < 8 →
     (link plan_two l).source_offset + (link plan_two l).length ≤ (cell plan_two (link plan_two l).source).length →
     (link plan_two l).target_offset + (link plan_two l).length ≤ (cell plan_two (link plan_two l).target).length
     → (cell plan_two (link plan_two l).target).op ≡ None → SoundLink plan_two l
-put_at l k up t ws wt none = record { rising = up; cells = t; within_source = ws; within_target = wt; bump_stays = λ e. cc; bump_empty =
-    λ e. cc; atomic_here = λ o e. cc; atomic_whole = λ e. cc; no_atomic = λ e f. cc }
+put_at l k up t ws wt none = record {
+  rising = up;
+  cells = t;
+  within_source = ws;
+  within_target = wt;
+  bump_stays = λ e. cc;
+  bump_empty =
+      λ e. cc;
+  atomic_here = λ o e. cc;
+  atomic_whole = λ e. cc;
+  no_atomic = λ e f. cc;
+}
 
 sound_link : (l : ℕ) → l < 8 → SoundLink plan_two l
 sound_link = below8 (SoundLink plan_two)
@@ -163,13 +183,13 @@ alone : (l m : ℕ) → l < 8 → m < 8 → Alone l m
 alone l m h i = below8 (λ l. Alone l m)
     (λ ne e f g. cc) (λ ne e f g. cc) (λ ne e f g. cc)
     (below8 (λ m. Alone 3 m) (λ ne e f g. cc) (λ ne e f g. cc) (λ ne e f g. cc) (λ ne e f g. absurd (ne refl)) (λ ne e f g. cc)
-        (λ ne e f g. absurd (omega arith)) (λ ne e f g. cc) (λ ne e f g. absurd (omega arith)) m i)
+    (λ ne e f g. absurd (omega arith)) (λ ne e f g. cc) (λ ne e f g. absurd (omega arith)) m i)
     (λ ne e f g. cc)
     (below8 (λ m. Alone 5 m) (λ ne e f g. cc) (λ ne e f g. cc) (λ ne e f g. cc) (λ ne e f g. absurd (omega arith)) (λ ne e f g. cc)
-        (λ ne e f g. absurd (ne refl)) (λ ne e f g. cc) (λ ne e f g. absurd (omega arith)) m i)
+    (λ ne e f g. absurd (ne refl)) (λ ne e f g. cc) (λ ne e f g. absurd (omega arith)) m i)
     (λ ne e f g. cc)
     (below8 (λ m. Alone 7 m) (λ ne e f g. cc) (λ ne e f g. cc) (λ ne e f g. cc) (λ ne e f g. absurd (omega arith)) (λ ne e f g. cc)
-        (λ ne e f g. absurd (omega arith)) (λ ne e f g. cc) (λ ne e f g. absurd (ne refl)) m i)
+    (λ ne e f g. absurd (omega arith)) (λ ne e f g. cc) (λ ne e f g. absurd (ne refl)) m i)
     l h
 
 sound_two : SoundPlan plan_two 1
@@ -211,9 +231,22 @@ LegalAt r = Legal (start_of plan_two slots1 r) false (prepare plan_two inputs_tw
 
 legal_two : (r : ℕ) → r < 2 → LegalAt r
 unfolding target request answered started fired call_made append cell_started bring
-legal_two = below2 LegalAt
-    (refl, (refl, (refl, (refl, ((refl, refl, refl, refl, tt),
-        (refl, ((refl, refl, refl, refl, tt), (refl, (refl, (refl, (refl, (refl, tt))))))))))))
+legal_two = below2 LegalAt (
+  refl,
+  (
+    refl,
+    (
+      refl,
+      (
+        refl,
+        (
+          (refl, refl, refl, refl, tt),
+          (refl, ((refl, refl, refl, refl, tt), (refl, (refl, (refl, (refl, (refl, tt))))))),
+        ),
+      ),
+    ),
+  ),
+)
     ((refl, refl, refl, refl, tt), (refl, (refl, (refl, (refl, (refl, (refl, (refl, (refl, tt)))))))))
 
 known_two : (r s : ℕ) (lane : Lane) → r < 2 → 2 ≤ s → got (world_two r) s lane ≡ []

@@ -40,14 +40,54 @@ below1 P a (suc l) h = absurd (omega arith)
 
 sound_link : (l : ℕ) → l < 4 → SoundLink plan l
 sound_link = below4 (SoundLink plan)
-    (record { rising = lit< tt; cells = lit< tt; within_source = lit≤ tt; within_target = lit≤ tt; bump_stays = λ e. refl; bump_empty =
-        λ e. refl; atomic_here = λ o e. cc; atomic_whole = λ e. cc; no_atomic = λ e f. cc })
-    (record { rising = lit< tt; cells = lit< tt; within_source = lit≤ tt; within_target = lit≤ tt; bump_stays = λ e. refl; bump_empty =
-        λ e. refl; atomic_here = λ o e. cc; atomic_whole = λ e. cc; no_atomic = λ e f. cc })
-    (record { rising = lit< tt; cells = lit< tt; within_source = lit≤ tt; within_target = lit≤ tt; bump_stays = λ e. refl; bump_empty =
-        λ e. cc; atomic_here = λ o e. cc; atomic_whole = λ e. cc; no_atomic = λ e f. cc })
-    (record { rising = lit< tt; cells = lit< tt; within_source = lit≤ tt; within_target = lit≤ tt; bump_stays = λ e. refl; bump_empty =
-        λ e. cc; atomic_here = λ o e. cc; atomic_whole = λ e. cc; no_atomic = λ e f. cc })
+    (record {
+      rising = lit< tt;
+      cells = lit< tt;
+      within_source = lit≤ tt;
+      within_target = lit≤ tt;
+      bump_stays = λ e. refl;
+      bump_empty =
+          λ e. refl;
+      atomic_here = λ o e. cc;
+      atomic_whole = λ e. cc;
+      no_atomic = λ e f. cc;
+    })
+    (record {
+      rising = lit< tt;
+      cells = lit< tt;
+      within_source = lit≤ tt;
+      within_target = lit≤ tt;
+      bump_stays = λ e. refl;
+      bump_empty =
+          λ e. refl;
+      atomic_here = λ o e. cc;
+      atomic_whole = λ e. cc;
+      no_atomic = λ e f. cc;
+    })
+    (record {
+      rising = lit< tt;
+      cells = lit< tt;
+      within_source = lit≤ tt;
+      within_target = lit≤ tt;
+      bump_stays = λ e. refl;
+      bump_empty =
+          λ e. cc;
+      atomic_here = λ o e. cc;
+      atomic_whole = λ e. cc;
+      no_atomic = λ e f. cc;
+    })
+    (record {
+      rising = lit< tt;
+      cells = lit< tt;
+      within_source = lit≤ tt;
+      within_target = lit≤ tt;
+      bump_stays = λ e. refl;
+      bump_empty =
+          λ e. cc;
+      atomic_here = λ o e. cc;
+      atomic_whole = λ e. cc;
+      no_atomic = λ e f. cc;
+    })
 
 apart1 : (l m : ℕ) → l < 4 → m < 4 → (l ≡ m → ⊥) → (link plan l).target ≡ (link plan m).target → (link plan l).kind ≡ Put →
     (link plan m).kind ≡ Put → AreApart plan l m
@@ -55,10 +95,10 @@ apart1 l m h i = below4 (λ l. (l ≡ m → ⊥) → (link plan l).target ≡ (l
     (link plan m).kind ≡ Put → AreApart plan l m)
     (λ ne e f g. cc) (λ ne e f g. cc)
     (below4 (λ m. (2 ≡ m → ⊥) → (link plan 2).target ≡ (link plan m).target → (link plan 2).kind ≡ Put → (link plan m).kind ≡ Put →
-        AreApart plan 2 m)
+    AreApart plan 2 m)
     (λ ne e f g. cc) (λ ne e f g. cc) (λ ne e f g. absurd (ne refl)) (λ ne e f g. absurd (omega arith)) m i)
     (below4 (λ m. (3 ≡ m → ⊥) → (link plan 3).target ≡ (link plan m).target → (link plan 3).kind ≡ Put → (link plan m).kind ≡ Put →
-        AreApart plan 3 m)
+    AreApart plan 3 m)
     (λ ne e f g. cc) (λ ne e f g. cc) (λ ne e f g. absurd (omega arith)) (λ ne e f g. absurd (ne refl)) m i)
     l h
 
@@ -96,10 +136,31 @@ system1 = system_of plan inputs all_slots
 
 legal1 : (r : ℕ) → r < 1 → Legal (start_of plan slots r) false (prepare plan inputs slots r) (world1 r)
 unfolding target request answered started fired call_made append cell_started bring
-legal1 = below1 (λ r. Legal (start_of plan slots r) false (prepare plan inputs slots r) (world1 r))
-    (refl, (refl, (refl, (refl, ((refl, refl, refl, refl, tt),
-        ((refl, refl, refl, refl, refl), (refl, ((refl, refl, refl, refl, tt),
-        ((refl, refl, refl, refl, refl), (refl, (refl, (refl, (refl, tt)))))))))))))
+legal1 = below1 (λ r. Legal (start_of plan slots r) false (prepare plan inputs slots r) (world1 r)) (
+  refl,
+  (
+    refl,
+    (
+      refl,
+      (
+        refl,
+        (
+          (refl, refl, refl, refl, tt),
+          (
+            (refl, refl, refl, refl, refl),
+            (
+              refl,
+              (
+                (refl, refl, refl, refl, tt),
+                ((refl, refl, refl, refl, refl), (refl, (refl, (refl, (refl, tt))))),
+              ),
+            ),
+          ),
+        ),
+      ),
+    ),
+  ),
+)
 
 known1 : (s : ℕ) (lane : Lane) → 1 ≤ s → got good s lane ≡ []
 known1 zero lane h = absurd (omega arith)

@@ -1,6 +1,6 @@
 -- Moments of the barrier of two ranks: one at rest in which a stray still waits, what is no moment, a wave of probes, and windows.
-use Rattle.std.proofs.Common.{ℕ, zero, suc, Bool, true, false, cond, ◌&&◌, ◌==◌, ◌≡◌, ◌<◌, ◌≤◌, ◌*◌, ◌^◌, List, Some, [], ◌∷◌, ◌++◌, refl,
-    length, inl, inr, arith, lit<, append-nil, subst, ◌∙◌, if◌then◌else◌}
+use Rattle.std.proofs.Common.{ℕ, zero, suc, Bool, true, false, cond, ◌&&◌, ◌==◌, ◌≡◌, ◌<◌, ◌≤◌, ◌*◌, ◌^◌, List, Some, [], ◌∷◌, ◌++◌, refl}
+use Rattle.std.proofs.Common.{length, inl, inr, arith, lit<, append-nil, subst, ◌∙◌, if◌then◌else◌}
 use Rattle.std.proofs.lemmas.Bool.{ne_eqb}
 use Rattle.ptl_types.specs.Messages.{Sent}
 use Rattle.ptl_types.specs.declared.headers.Lane.{Lane}

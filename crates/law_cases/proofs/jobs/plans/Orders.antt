@@ -41,8 +41,13 @@ sync_link a b = record { source = a; source_offset = 0; length = 0; target = b; 
 
 -- ---- two ranks: go cells, entries, and one round
 abbrev pub two : Plan
-two = record { ranks = 2; remote = false; cells = on 0 1 ∷ on 1 1 ∷ on 0 1 ∷ on 1 1 ∷ on 0 2 ∷ on 1 2 ∷ []; links =
-    bump_link 0 2 ∷ bump_link 1 3 ∷ bump_link 2 4 ∷ sync_link 3 4 ∷ bump_link 3 5 ∷ sync_link 2 5 ∷ [] }
+two = record {
+  ranks = 2;
+  remote = false;
+  cells = on 0 1 ∷ on 1 1 ∷ on 0 1 ∷ on 1 1 ∷ on 0 2 ∷ on 1 2 ∷ [];
+  links =
+      bump_link 0 2 ∷ bump_link 1 3 ∷ bump_link 2 4 ∷ sync_link 3 4 ∷ bump_link 3 5 ∷ sync_link 2 5 ∷ [];
+}
 
 abbrev begin : ℕ → State
 begin r = prepare two [] slots r

@@ -1,6 +1,6 @@
 -- A sum to rank 0 over three ranks: a cut at rest in which a part came before the start, and in which two strays were received.
-use Rattle.std.proofs.Common.{ℕ, zero, suc, false, ◌==◌, ◌≡◌, ◌<◌, ◌≤◌, ◌*◌, ◌^◌, List, [], ◌∷◌, Option, Some, None, refl, arith, lit<,
-    append-nil, ◌∙◌, if◌then◌else◌}
+use Rattle.std.proofs.Common.{ℕ, zero, suc, false, ◌==◌, ◌≡◌, ◌<◌, ◌≤◌, ◌*◌, ◌^◌, List, [], ◌∷◌, Option, Some, None, refl, arith, lit<}
+use Rattle.std.proofs.Common.{append-nil, ◌∙◌, if◌then◌else◌}
 use Rattle.std.proofs.lemmas.Bool.{ne_eqb}
 use Rattle.ptl_types.specs.Messages.{Sent}
 use Rattle.ptl_types.specs.declared.elements.AtomicOp.{AtomicOp}
@@ -46,7 +46,7 @@ plan = record {
   remote = false;
   cells = of_byte 0 0 None 1 ∷ of_byte 1 0 None 1 ∷ of_byte 2 0 None 1 ∷ of_byte 0 1 None 1 ∷ of_byte 1 1 None 1 ∷ of_byte 2 1 None 1
       ∷ of_byte 0 1 None 2 ∷ of_byte 1 1 None 2 ∷ of_byte 2 1 None 2 ∷ of_byte 2 1 (Some Sum) 1 ∷ of_byte 1 1 (Some Sum) 1 ∷ of_byte 0 1
-          (Some Sum) 3 ∷ [];
+      (Some Sum) 3 ∷ [];
   links = bump_link 0 3 ∷ bump_link 1 4 ∷ bump_link 2 5 ∷ bump_link 0 6 ∷ along Put 3 6 ∷ bump_link 1 7 ∷ along Put 4 7 ∷ bump_link 2 8
       ∷ along Put 5 8
       ∷ along Atomic 8 9 ∷ along Atomic 7 10 ∷ along Atomic 6 11 ∷ along Atomic 10 11 ∷ along Atomic 9 11 ∷ [];
@@ -70,9 +70,9 @@ stray = record { header = record (link_header plan slots 13) { match_bits = 2 * 
 abbrev order0 : List Local
 order0 =
     Receive 1 Request (carries 12 100) ∷ Receive 2 Request stray ∷ Start ∷ Fire 0 ∷ Fire 1 ∷ Fire 2 ∷ Receive 0 Request (carries 4 200)
-        ∷ Fire 3
+    ∷ Fire 3
     ∷ Receive 0 Request (carries 11 200) ∷ Receive 2 Request (carries 13 50) ∷ Fire 4 ∷ Fire 5 ∷ Fire 6 ∷ Fire 7 ∷ Receive 2 Request stray
-        ∷ []
+    ∷ []
 
 abbrev order1 : List Local
 order1 =
@@ -98,15 +98,67 @@ below3 P a b c (suc (suc (suc r))) h = absurd (omega arith)
 
 legal : (r : ℕ) → r < 3 → Legal (system.go r) false (system.first r) (world r)
 unfolding target request answered started fired append call_made cell_started bring
-legal = below3 (λ r. Legal (system.go r) false (system.first r) (world r))
-    ((refl, refl, refl, refl, tt), ((refl, refl, refl, refl, tt),
-        (refl, (refl, (refl, (refl, ((refl, refl, refl, refl, tt),
-        (refl, ((refl, refl, refl, refl, tt), ((refl, refl, refl, refl, tt),
-        (refl, (refl, (refl, (refl, ((refl, refl, refl, refl, tt), tt)))))))))))))))
-    (refl, (refl, (refl, (refl, ((refl, refl, refl, refl, tt),
-        (refl, ((refl, refl, refl, refl, tt), (refl, (refl, (refl, (refl, (refl, tt))))))))))))
-    (refl, (refl, (refl, (refl, ((refl, refl, refl, refl, tt),
-        (refl, ((refl, refl, refl, refl, tt), (refl, (refl, (refl, (refl, (refl, tt))))))))))))
+legal = below3 (λ r. Legal (system.go r) false (system.first r) (world r)) (
+  (refl, refl, refl, refl, tt),
+  (
+    (refl, refl, refl, refl, tt),
+    (
+      refl,
+      (
+        refl,
+        (
+          refl,
+          (
+            refl,
+            (
+              (refl, refl, refl, refl, tt),
+              (
+                refl,
+                (
+                  (refl, refl, refl, refl, tt),
+                  (
+                    (refl, refl, refl, refl, tt),
+                    (refl, (refl, (refl, (refl, ((refl, refl, refl, refl, tt), tt))))),
+                  ),
+                ),
+              ),
+            ),
+          ),
+        ),
+      ),
+    ),
+  ),
+) (
+  refl,
+  (
+    refl,
+    (
+      refl,
+      (
+        refl,
+        (
+          (refl, refl, refl, refl, tt),
+          (refl, ((refl, refl, refl, refl, tt), (refl, (refl, (refl, (refl, (refl, tt))))))),
+        ),
+      ),
+    ),
+  ),
+) (
+  refl,
+  (
+    refl,
+    (
+      refl,
+      (
+        refl,
+        (
+          (refl, refl, refl, refl, tt),
+          (refl, ((refl, refl, refl, refl, tt), (refl, (refl, (refl, (refl, (refl, tt))))))),
+        ),
+      ),
+    ),
+  ),
+)
 
 known : (r s : ℕ) (lane : Lane) → r < 3 → 3 ≤ s → got (world r) s lane ≡ []
 known r zero lane h k = absurd (omega arith)

@@ -21,8 +21,12 @@ loop-next-init g c =
     let told = c.requires.indexed.threaded c.args.thread (omega arith) in
     let at : place_in c.first-next.result ≡ first_or ys None = c.first-next.ensures ∙ ap first_place told ∙ first-places ys in
     let all : from_place (place_in c.first-next.result) ys ≡ ys = ap (λ o. from_place o ys) at ∙ place-first ys in
-    record { live = at ∙ ap (λ l. first_or l None) (sym all); first = ap (λ l. find (takes h) l) (sym all); steps =
-        omega (arith, ap length all) }
+    record {
+      live = at ∙ ap (λ l. first_or l None) (sym all);
+      first = ap (λ l. find (takes h) l) (sym all);
+      steps =
+          omega (arith, ap length all);
+    }
 
 pub visit-place-requires-clause-look : goal.visit-place-requires-clause-look
 visit-place-requires-clause-look g c =

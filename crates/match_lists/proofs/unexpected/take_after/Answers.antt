@@ -10,4 +10,4 @@ returns-clause-taken c = λ d. get_or_default c.args.unexpected.now (c.args.gone
 pub returns-clause-rest : goal.returns-clause-rest
 returns-clause-rest c =
     mid c.args.unexpected.now c.rotate_right.new.self c.args.gone c.args.at (c.args.gone + c.args.at + 1 - c.args.gone) c.requires
-        (omega arith) c.rotate_right.ensures.after
+    (omega arith) c.rotate_right.ensures.after

@@ -20,15 +20,19 @@ loop-next-init g c =
     let xs = c.args.chain.now.entries in
     let at = c.first_place-next.ensures in
     let all = ap (λ o. from_place o xs) at ∙ place-first xs in
-    record { live = at ∙ ap (λ l. first_or l None) (sym all); first = ap (λ l. entry_names_ct c.args.ct (values l)) (sym all); steps =
-        omega (arith, ap length all) }
+    record {
+      live = at ∙ ap (λ l. first_or l None) (sym all);
+      first = ap (λ l. entry_names_ct c.args.ct (values l)) (sym all);
+      steps =
+          omega (arith, ap length all);
+    }
 
 pub value-requires : goal.value-requires
 value-requires g c =
     let xs = c.args.chain.now.entries in
     let inv = c.loop-next.invariant in
     let a = here c.in-Some.place c.loop-next.next xs c.nodes-nodes.result.now.places c.nodes-nodes.ensures.apart
-          c.nodes-nodes.ensures.linked c.in-Some.is inv.live in
+    c.nodes-nodes.ensures.linked c.in-Some.is inv.live in
     ap is_some a.node_is
 
 pub links-after-requires : goal.links-after-requires
@@ -36,7 +40,7 @@ links-after-requires g c =
     let xs = c.args.chain.now.entries in
     let inv = c.loop-next.invariant in
     let a = here c.in-Some.place c.loop-next.next xs c.nodes-nodes.result.now.places c.nodes-nodes.ensures.apart
-          c.nodes-nodes.ensures.linked c.in-Some.is inv.live in
+    c.nodes-nodes.ensures.linked c.in-Some.is inv.live in
     ap is_some a.node_is
 
 pub returns-then-names-clause-value : goal.returns-then-names-clause-value
@@ -44,19 +48,19 @@ returns-then-names-clause-value g c =
     let xs = c.args.chain.now.entries in
     let inv = c.loop-next.invariant in
     let a = here c.in-Some.place c.loop-next.next xs c.nodes-nodes.result.now.places c.nodes-nodes.ensures.apart
-          c.nodes-nodes.ensures.linked c.in-Some.is inv.live in
+    c.nodes-nodes.ensures.linked c.in-Some.is inv.live in
     let rest : from_place c.loop-next.next xs ≡ a.entry ∷ a.behind = ap (λ o. from_place o xs) c.in-Some.is ∙ a.rest_is in
     let value = subst (λ o. IfSome o (λ n. c.value.result.now ≡ n.value)) a.node_is c.value.ensures.value in
     let same : a.entry.value ≡ c.value.result.now = sym value in
     sym (inv.first ∙ ap (λ l. entry_names_ct c.args.ct (values l)) rest ∙ hits a.entry.value (values a.behind) c.args.ct
-        (ap (λ (x : Linked). names x.entry.ct c.args.ct) same ∙ sym c.names.ensures ∙ c.if-names.true))
+    (ap (λ (x : Linked). names x.entry.ct c.args.ct) same ∙ sym c.names.ensures ∙ c.if-names.true))
 
 pub loop-next-preserved : goal.loop-next-preserved
 loop-next-preserved g c =
     let xs = c.args.chain.now.entries in
     let inv = c.loop-next.invariant in
     let a = here c.in-Some.place c.loop-next.next xs c.nodes-nodes.result.now.places c.nodes-nodes.ensures.apart
-          c.nodes-nodes.ensures.linked c.in-Some.is inv.live in
+    c.nodes-nodes.ensures.linked c.in-Some.is inv.live in
     let rest : from_place c.loop-next.next xs ≡ a.entry ∷ a.behind = ap (λ o. from_place o xs) c.in-Some.is ∙ a.rest_is in
     let value = subst (λ o. IfSome o (λ n. c.value.result.now ≡ n.value)) a.node_is c.value.ensures.value in
     let same : a.entry.value ≡ c.value.result.now = sym value in
@@ -76,7 +80,7 @@ loop-next-smaller g c =
     let xs = c.args.chain.now.entries in
     let inv = c.loop-next.invariant in
     let a = here c.in-Some.place c.loop-next.next xs c.nodes-nodes.result.now.places c.nodes-nodes.ensures.apart
-          c.nodes-nodes.ensures.linked c.in-Some.is inv.live in
+    c.nodes-nodes.ensures.linked c.in-Some.is inv.live in
     let rest : from_place c.loop-next.next xs ≡ a.entry ∷ a.behind = ap (λ o. from_place o xs) c.in-Some.is ∙ a.rest_is in
     let value = subst (λ o. IfSome o (λ n. c.value.result.now ≡ n.value)) a.node_is c.value.ensures.value in
     let same : a.entry.value ≡ c.value.result.now = sym value in
@@ -90,6 +94,6 @@ returns-then-names-clause-steps g c =
     let xs = c.args.chain.now.entries in
     let inv = c.loop-next.invariant in
     let a = here c.in-Some.place c.loop-next.next xs c.nodes-nodes.result.now.places c.nodes-nodes.ensures.apart
-          c.nodes-nodes.ensures.linked c.in-Some.is inv.live in
+    c.nodes-nodes.ensures.linked c.in-Some.is inv.live in
     let rest : from_place c.loop-next.next xs ≡ a.entry ∷ a.behind = ap (λ o. from_place o xs) c.in-Some.is ∙ a.rest_is in
     omega (arith, inv.steps, ap length rest, c.value.ensures.steps)

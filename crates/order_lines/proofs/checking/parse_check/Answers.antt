@@ -15,5 +15,5 @@ returns-in_err-description-clause-exact c =
     let p = err_from_is_err_and c.from_residual.result c.from_residual.ensures.1 in
     rw (p.1, p.2)
     (subst (Fails fault) (sym (parted bytes at next c.if-bytes-gt-LONGEST_CHECK.false c.first_end-at.ensures.bytes
-        c.first_end-at.ensures.line))
+    c.first_end-at.ensures.line))
     (fails_at fault (read (take at bytes)) next (lines (drop at bytes)) c.in_err-description.ensures.exact))

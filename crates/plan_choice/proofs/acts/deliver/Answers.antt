@@ -18,7 +18,7 @@ first_same x y xs ys e = cc
 pub receive-made-requires-clause-room : goal.receive-made-requires-clause-room
 receive-made-requires-clause-room c =
     let inside : c.args.d < length c.args.seats.now = let size = c.requires.seats in let h = c.requires.destination in
-          omega (arith, size, h) in
+    omega (arith, size, h) in
     let same = get_or_default c.args.seats.now c.args.d c.index-seats-d.result no_seated inside in
     let may = c.requires.may c.take-message.result
     (drop 1 (lane_at c.args.lanes.now (lane_place c.args.ranks c.args.s c.args.d c.args.lane)).messages) c.take-message.ensures.front in
@@ -27,7 +27,7 @@ receive-made-requires-clause-room c =
 pub receive-made-requires-clause-receipts : goal.receive-made-requires-clause-receipts
 receive-made-requires-clause-receipts c =
     let inside : c.args.d < length c.args.seats.now = let size = c.requires.seats in let h = c.requires.destination in
-          omega (arith, size, h) in
+    omega (arith, size, h) in
     let same = get_or_default c.args.seats.now c.args.d c.index-seats-d.result no_seated inside in
     let may = c.requires.may c.take-message.result
     (drop 1 (lane_at c.args.lanes.now (lane_place c.args.ranks c.args.s c.args.d c.args.lane)).messages) c.take-message.ensures.front in
@@ -36,7 +36,7 @@ receive-made-requires-clause-receipts c =
 pub receive-made-requires-clause-bytes : goal.receive-made-requires-clause-bytes
 receive-made-requires-clause-bytes c =
     let inside : c.args.d < length c.args.seats.now = let size = c.requires.seats in let h = c.requires.destination in
-          omega (arith, size, h) in
+    omega (arith, size, h) in
     let same = get_or_default c.args.seats.now c.args.d c.index-seats-d.result no_seated inside in
     let may = c.requires.may c.take-message.result
     (drop 1 (lane_at c.args.lanes.now (lane_place c.args.ranks c.args.s c.args.d c.args.lane)).messages) c.take-message.ensures.front in
@@ -45,7 +45,7 @@ receive-made-requires-clause-bytes c =
 pub receive-made-requires-clause-target : goal.receive-made-requires-clause-target
 receive-made-requires-clause-target c =
     let inside : c.args.d < length c.args.seats.now = let size = c.requires.seats in let h = c.requires.destination in
-          omega (arith, size, h) in
+    omega (arith, size, h) in
     let same = get_or_default c.args.seats.now c.args.d c.index-seats-d.result no_seated inside in
     let may = c.requires.may c.take-message.result
     (drop 1 (lane_at c.args.lanes.now (lane_place c.args.ranks c.args.s c.args.d c.args.lane)).messages) c.take-message.ensures.front in
@@ -54,7 +54,7 @@ receive-made-requires-clause-target c =
 pub send_out-requires-clause-goes : goal.send_out-requires-clause-goes
 send_out-requires-clause-goes c =
     let inside : c.args.d < length c.args.seats.now = let size = c.requires.seats in let h = c.requires.destination in
-          omega (arith, size, h) in
+    omega (arith, size, h) in
     let same = get_or_default c.args.seats.now c.args.d c.index-seats-d.result no_seated inside in
     let may = c.requires.may c.take-message.result
     (drop 1 (lane_at c.args.lanes.now (lane_place c.args.ranks c.args.s c.args.d c.args.lane)).messages) c.take-message.ensures.front in
@@ -66,7 +66,7 @@ send_out-requires-clause-goes c =
 pub returns : goal.returns
 returns c = λ m rest first.
     let inside : c.args.d < length c.args.seats.now = let size = c.requires.seats in let h = c.requires.destination in
-          omega (arith, size, h) in
+    omega (arith, size, h) in
     let same = get_or_default c.args.seats.now c.args.d c.index-seats-d.result no_seated inside in
     let answer = c.receive-made.ensures.answer
     ∙ ap (λ (s : ChoiceRankState). made_by s.nic (Received c.args.s c.args.lane c.take-message.result)) same in

@@ -11,5 +11,5 @@ use Rattle.plan_choice.proofs.laws.choices_by_words.Goals as goal
 pub returns : goal.returns
 returns g c = λ w words chooser answer after n last then is answers goes run none.
     ends_by_words (ranks_in w) top (possible_all w.ranks w.kinds (slots_at w) is.in_range is.few_steps) answer after chooser words answers
-        goes
+    goes
     n last then run (ap (filter (is_possible (ranks_in w) top last)) none)

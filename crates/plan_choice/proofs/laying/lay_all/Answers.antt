@@ -23,7 +23,7 @@ loop-pair-preserved c =
       laid = subst (λ (v : List Plain). (k : ℕ) → k < i + 1 → IsLaid f n v (plain [] 0) k) (sym news)
           (one-pair f n lanes (plain [] 0) a b i before.size before.laid
           (c.in_ok-request.ensures ∙ ap (plain []) c.room_for-requests.ensures) (c.in_ok-answer.ensures
-              ∙ ap (plain []) c.room_for-answers.ensures));
+          ∙ ap (plain []) c.room_for-answers.ensures));
     }
 
 pub returns : goal.returns

@@ -8,5 +8,5 @@ pub loop-place-preserved : goal.loop-place-preserved
 loop-place-preserved c =
     c.in_ok-push_holding.ensures
     ∙ ap (λ v. v ++ cond (is_in (get_or c.args.members.now c.loop-place.place 0) c.holders_of-holders.result.now)
-        (c.loop-place.place ∷ []) []) c.loop-place.invariant
+    (c.loop-place.place ∷ []) []) c.loop-place.invariant
     ∙ sym (filter-more (λ i. is_in (get_or c.args.members.now i 0) c.holders_of-holders.result.now) c.loop-place.place)

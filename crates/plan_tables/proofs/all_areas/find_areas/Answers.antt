@@ -20,7 +20,7 @@ tally-requires c =
     let p = c.args.plan.now in
     let e = ap (λ k. get_or c.loop-l.counts k 0) c.area_of-key.ensures in
     let f = counted-at_most (message_key p) c.loop-l.l (p.ranks * 81) (message_key p c.loop-l.l) c.loop-l.counts c.loop-l.invariant.counts
-          in
+    in
     let n = ap length c.links.ensures in
     let t = c.loop-l-test.true in
     let r = c.requires.few_together in
@@ -35,7 +35,7 @@ tally-requires-in-loop-l c =
     let e = ap (λ k. get_or c.loop-l.bytes k 0) c.area_of-key.ensures in
     let f = ap (λ (k : Link). k.length) c.link_at.ensures in
     let g = summed-at_most (message_key p) (link_length p) c.loop-l.l (p.ranks * 81) (length p.links) 18446744073709551616 c.loop-l.bytes
-          c.loop-l.invariant.bytes inside (at_most-link_bytes p c.requires) in
+    c.loop-l.invariant.bytes inside (at_most-link_bytes p c.requires) in
     omega (arith, e, f, g)
 
 pub loop-l-preserved : goal.loop-l-preserved
@@ -45,11 +45,11 @@ loop-l-preserved c =
       counts =
           c.tally.ensures
           ∙ ap (λ k. cond (nat_lt k (length c.loop-l.counts)) (set c.loop-l.counts k (get_or c.loop-l.counts k 0 + 1)) c.loop-l.counts)
-              c.area_of-key.ensures
+          c.area_of-key.ensures
           ∙ counted-more (message_key p) c.loop-l.l (p.ranks * 81) c.loop-l.counts c.loop-l.invariant.counts;
       bytes =
           c.tally-in-loop-l.ensures
           ∙ ap₂ (λ k b. cond (nat_lt k (length c.loop-l.bytes)) (set c.loop-l.bytes k (get_or c.loop-l.bytes k 0 + b)) c.loop-l.bytes)
-              c.area_of-key.ensures (ap (λ (k : Link). k.length) c.link_at.ensures)
+          c.area_of-key.ensures (ap (λ (k : Link). k.length) c.link_at.ensures)
           ∙ summed-more (message_key p) (link_length p) c.loop-l.l (p.ranks * 81) c.loop-l.bytes c.loop-l.invariant.bytes;
     }

@@ -1,6 +1,6 @@
 -- One class more in each turn.
-use Rattle.std.proofs.Common.{cond, nat_lt, ◌+◌, ◌-◌, ◌*◌, ◌^◌, ◌≡◌, [], ◌∷◌, ◌++◌, map, filter, get_or, ap, ap₂, sym, ◌∙◌, arith,
-    append_assoc}
+use Rattle.std.proofs.Common.{cond, nat_lt, ◌+◌, ◌-◌, ◌*◌, ◌^◌, ◌≡◌, [], ◌∷◌, ◌++◌, map, filter, get_or, ap, ap₂, sym, ◌∙◌, arith}
+use Rattle.std.proofs.Common.{append_assoc}
 use Rattle.ptl_types.specs.declared.steps.Call.TheVariants.{Overflow}
 use Rattle.plan_core.specs.Plan.{from_to}
 use Rattle.plan_calls.specs.Bits.{bits_above}
@@ -27,7 +27,7 @@ pub overflow_add-start : goal.overflow_add-start
 overflow_add-start c =
     let p = c.args.plan.now in
     let n = c.at-length.ensures ∙ ap (λ xs. get_or xs (c.args.r * 81 + c.loop-class.class) 0) c.requires.bytes
-          ∙ bytes-at p c.args.r c.loop-class.class c.requires.rank c.loop-class-test.true in
+    ∙ bytes-at p c.args.r c.loop-class.class c.requires.rank c.loop-class-test.true in
     let s = c.loop-class.invariant.start in
     let m = start-most p c.args.r c.loop-class.class c.loop-class-test.true in
     let f = at_most-region p c.args.r c.requires.tabled in
@@ -39,9 +39,9 @@ loop-class-preserved c =
     let r = c.args.r in
     let k = c.loop-class.class in
     let n = c.at-length.ensures ∙ ap (λ xs. get_or xs (r * 81 + k) 0) c.requires.bytes
-          ∙ bytes-at p r k c.requires.rank c.loop-class-test.true in
+    ∙ bytes-at p r k c.requires.rank c.loop-class-test.true in
     let q = c.at-count.ensures ∙ ap (λ xs. get_or xs (r * 81 + k) 0) c.requires.counts
-          ∙ count-at p r k c.requires.rank c.loop-class-test.true in
+    ∙ count-at p r k c.requires.rank c.loop-class-test.true in
     let s = c.loop-class.invariant.start in
     let before = c.args.calls.now.items ++ map (counted_call p r) (filter (present p r) (from_to 0 k)) in
     record {
@@ -49,16 +49,16 @@ loop-class-preserved c =
       calls =
           c.in_ok-push_area.ensures
           ∙ ap (λ v. v ++ cond (nat_lt 0 c.at-count.result) (Overflow c.loop-class.start c.at-length.result
-              (bits_above c.from.result 0 * 2 ^ 16) (2 ^ 40 - 1) ∷ []) []) c.loop-class.invariant.calls
+          (bits_above c.from.result 0 * 2 ^ 16) (2 ^ 40 - 1) ∷ []) []) c.loop-class.invariant.calls
           ∙ ap (λ v. before ++ v)
           (ap (λ v. cond (nat_lt 0 v) (Overflow c.loop-class.start c.at-length.result (bits_above c.from.result 0 * 2 ^ 16) (2 ^ 40 - 1)
-              ∷ []) []) q
+          ∷ []) []) q
           ∙ ap (λ v. cond (present p r k) (Overflow v c.at-length.result (bits_above c.from.result 0 * 2 ^ 16) (2 ^ 40 - 1) ∷ []) []) s
           ∙ ap (λ v. cond (present p r k) (Overflow (counted_start p r k) v (bits_above c.from.result 0 * 2 ^ 16) (2 ^ 40 - 1) ∷ []) []) n
           ∙ ap (λ v. cond (present p r k) (Overflow (counted_start p r k) (area_bytes p r k) (bits_above v 0 * 2 ^ 16) (2 ^ 40 - 1) ∷ [])
-              []) c.from.ensures)
+          []) c.from.ensures)
           ∙ append_assoc c.args.calls.now.items (map (counted_call p r) (filter (present p r) (from_to 0 k)))
-              (cond (present p r k) (counted_call p r k ∷ []) [])
+          (cond (present p r k) (counted_call p r k ∷ []) [])
           ∙ ap (λ v. c.args.calls.now.items ++ v) (sym (classes-next (counted_call p r) p r k));
     }
 
@@ -71,7 +71,7 @@ returns-clause-calls c =
     let e : c.loop-class.class ≡ 81 = omega (arith, t, u) in
     c.loop-class.invariant.calls
     ∙ ap (λ v. c.args.calls.now.items ++ v) (ap (λ n. map (counted_call p r) (filter (present p r) (from_to 0 n))) e
-        ∙ calls-same p r c.requires.rank)
+    ∙ calls-same p r c.requires.rank)
 
 pub returns-clause-end : goal.returns-clause-end
 returns-clause-end c =

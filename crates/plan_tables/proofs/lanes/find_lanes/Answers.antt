@@ -33,7 +33,7 @@ tally-requires-in-loop-l c =
     let e = ap (λ k. get_or c.loop-l.bytes k 0) c.lane_of-key.ensures in
     let f = ap (λ (k : Link). k.length) c.link_at.ensures in
     let g = summed-at_most (lane_key p) (link_length p) c.loop-l.l (p.ranks * p.ranks) (length p.links) 18446744073709551616
-          c.loop-l.bytes c.loop-l.invariant.bytes inside (at_most-link_bytes p c.requires) in
+    c.loop-l.bytes c.loop-l.invariant.bytes inside (at_most-link_bytes p c.requires) in
     omega (arith, e, f, g)
 
 pub loop-l-preserved : goal.loop-l-preserved
@@ -43,11 +43,11 @@ loop-l-preserved c =
       counts =
           c.tally.ensures
           ∙ ap (λ k. cond (nat_lt k (length c.loop-l.counts)) (set c.loop-l.counts k (get_or c.loop-l.counts k 0 + 1)) c.loop-l.counts)
-              c.lane_of-key.ensures
+          c.lane_of-key.ensures
           ∙ counted-more (lane_key p) c.loop-l.l (p.ranks * p.ranks) c.loop-l.counts c.loop-l.invariant.counts;
       bytes =
           c.tally-in-loop-l.ensures
           ∙ ap₂ (λ k b. cond (nat_lt k (length c.loop-l.bytes)) (set c.loop-l.bytes k (get_or c.loop-l.bytes k 0 + b)) c.loop-l.bytes)
-              c.lane_of-key.ensures (ap (λ (k : Link). k.length) c.link_at.ensures)
+          c.lane_of-key.ensures (ap (λ (k : Link). k.length) c.link_at.ensures)
           ∙ summed-more (lane_key p) (link_length p) c.loop-l.l (p.ranks * p.ranks) c.loop-l.bytes c.loop-l.invariant.bytes;
     }

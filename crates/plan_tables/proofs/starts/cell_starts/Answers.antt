@@ -12,8 +12,11 @@ use Rattle.plan_tables.proofs.Room.{at_most-cell_bytes}
 use Rattle.plan_tables.proofs.starts.cell_starts.Goals as goal
 
 pub loop-c-init : goal.loop-c-init
-loop-c-init c = record { starts = c.new-starts.ensures.items; lengths = c.in_ok-lengths.ensures
-    ∙ ap (λ n. map nothing (from_to 0 n)) c.ranks.ensures }
+loop-c-init c = record {
+  starts = c.new-starts.ensures.items;
+  lengths = c.in_ok-lengths.ensures
+      ∙ ap (λ n. map nothing (from_to 0 n)) c.ranks.ensures;
+}
 
 pub place-requires-clause-ranks : goal.place-requires-clause-ranks
 place-requires-clause-ranks c = length-table (λ r. sum_by (cell_length c.args.plan.now) (of_key (rank_of c.args.plan.now) c.loop-c.c r))
@@ -27,8 +30,8 @@ place-requires-clause-fits c =
     let inside : c.loop-c.c < length p.cells = omega (arith, n, t) in
     let P : ℕ → Type 0 = λ v. v + cell_length p c.loop-c.c < 2 ^ 64 in
     subst P (sym (ap (λ v. get_or v (rank_of p c.loop-c.c) 0) c.loop-c.invariant.lengths
-        ∙ get-row (λ r. sum_by (cell_length p) (of_key (rank_of p) c.loop-c.c r)) p.ranks (rank_of p c.loop-c.c) 0
-        (c.requires.ranks_known c.loop-c.c inside)))
+    ∙ get-row (λ r. sum_by (cell_length p) (of_key (rank_of p) c.loop-c.c r)) p.ranks (rank_of p c.loop-c.c) 0
+    (c.requires.ranks_known c.loop-c.c inside)))
     (at_most-bytes p c.loop-c.c (2 ^ 64) inside (at_most-cell_bytes p c.requires))
 
 pub loop-c-preserved : goal.loop-c-preserved
@@ -38,8 +41,8 @@ loop-c-preserved c =
     let t = c.loop-c-test.true in
     let inside : c.loop-c.c < length p.cells = omega (arith, n, t) in
     let g = ap (λ v. get_or v (rank_of p c.loop-c.c) 0) c.loop-c.invariant.lengths
-          ∙ get-row (λ r. sum_by (cell_length p) (of_key (rank_of p) c.loop-c.c r)) p.ranks (rank_of p c.loop-c.c) 0
-          (c.requires.ranks_known c.loop-c.c inside) in
+    ∙ get-row (λ r. sum_by (cell_length p) (of_key (rank_of p) c.loop-c.c r)) p.ranks (rank_of p c.loop-c.c) 0
+    (c.requires.ranks_known c.loop-c.c inside) in
     record {
       starts =
           c.in_ok-place.ensures.starts
@@ -50,7 +53,7 @@ loop-c-preserved c =
           ∙ ap (λ v. set v (rank_of p c.loop-c.c) (get_or v (rank_of p c.loop-c.c) 0 + cell_length p c.loop-c.c)) c.loop-c.invariant.lengths
           ∙ bytes-more p c.loop-c.c p.ranks _ (c.requires.ranks_known c.loop-c.c inside)
           (ap (λ v. v + cell_length p c.loop-c.c) (get-row (λ r. sum_by (cell_length p) (of_key (rank_of p) c.loop-c.c r)) p.ranks
-              (rank_of p c.loop-c.c) 0 (c.requires.ranks_known c.loop-c.c inside)));
+          (rank_of p c.loop-c.c) 0 (c.requires.ranks_known c.loop-c.c inside)));
     }
 
 pub returns-clause-lengths : goal.returns-clause-lengths
@@ -61,4 +64,4 @@ returns-clause-lengths c =
     let u = c.loop-c.auto in
     c.loop-c.invariant.lengths
     ∙ ap (λ n. map (λ r. sum_by (cell_length p) (of_key (rank_of p) n r)) (all_ranks p)) (let e : c.loop-c.c ≡ length p.cells =
-                                                                                                omega (arith, n, t, u) in e)
+    omega (arith, n, t, u) in e)

@@ -10,8 +10,8 @@ pub loop-i-preserved : goal.loop-i-preserved
 loop-i-preserved c =
     let f : ℕ → Bool = λ t. is_rank c.args.target (target_of (posted_at t (posted_all deed_in c.args.pending.now))) in
     let on : length (filter f (drop c.loop-i.i (due_numbers c.args.pending.now))) ≡ (if f c.ready_at.result then 1 else 0) + length
-          (filter f (drop (c.loop-i.i + 1) (due_numbers c.args.pending.now))) =
-          rw (add-one c.loop-i.i) (counted-on f (due_numbers c.args.pending.now) c.loop-i.i c.ready_at.result c.ready_at.ensures.value) in
+    (filter f (drop (c.loop-i.i + 1) (due_numbers c.args.pending.now))) =
+    rw (add-one c.loop-i.i) (counted-on f (due_numbers c.args.pending.now) c.loop-i.i c.ready_at.result c.ready_at.ensures.value) in
     let old = c.loop-i.invariant in
     elim c.if-goes_to.branch [
       | then-goes_to w ↦

@@ -6,9 +6,9 @@ use Rattle.portals_ni.proofs.triggers.some_names_md.Goals as goal
 pub returns-then-deed_names_md : goal.returns-then-deed_names_md
 returns-then-deed_names_md c =
     let names : deed_names_md c.args.md c.in-Some.packed.now.deed ≡ true = ap (deed_names_md c.args.md) (sym c.deed-deed.ensures)
-          ∙ sym c.deed_names_md.ensures ∙ c.if-deed_names_md.true in
+    ∙ sym c.deed_names_md.ensures ∙ c.if-deed_names_md.true in
     sym (md-named c.args.md c.args.pending.now.waiting ∙ walk-found (uses_md c.args.md) c.in-Some.number c.in-Some.packed.now
-        c.in-Some.field-0-2 c.in-Some.field-0-3 c.args.pending.now.waiting c.in-Some.ensures.found names)
+    c.in-Some.field-0-2 c.in-Some.field-0-3 c.args.pending.now.waiting c.in-Some.ensures.found names)
 
 pub returns : goal.returns
 returns c = sym (md-named c.args.md c.args.pending.now.waiting ∙ walk-end (uses_md c.args.md) c.loop-number.from

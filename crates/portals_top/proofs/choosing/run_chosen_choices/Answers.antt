@@ -29,7 +29,7 @@ returns c =
           c.enabled.ensures.kept (λ i m. refl) (λ i m. refl)
           (subst
           (λ (k : System). chosen_run k top chosen_number words_left run.0 (record { scene = first_scene; chooser = generator seed })
-              ≡ last)
+          ≡ last)
           (sym later.system)
           (seeded seed (ranks_in u) top run.0 (scene_in u) c.of-words.result last opened.first c.of-words.ensures run.1))
           c.run_chosen.ensures.none,

@@ -27,7 +27,7 @@ returns-in-Ok-eq0-clause-text g c =
     let zero_read : c.in-Ok-eq0.field-0 ≡ 0 = search rules in
     let nothing : GivesFront before.left (g.S.Source.inflow c.read_piece.new.source).left [] =
     subst (λ n. GivesFront before.left (g.S.Source.inflow c.read_piece.new.source).left (take n c.read_piece.new.piece)) zero_read
-        c.in-Ok-eq0.ensures.front in
+    c.in-Ok-eq0.ensures.front in
     record {
       front = rw c.in-Ok-eq0.ensures.added (GivesFront-then _ before.left _ _ _ c.loop-text.invariant.front c.in-Ok-eq0.ensures.front);
       short = rw (← c.read_piece.new.text.ok.0) (omega arith);

@@ -12,7 +12,7 @@ returns-clause-run c =
     let later = c.run_to_rest.ensures.later in
     run-of c.run_to_rest.new.self c.args.world.shape c.args.world.inputs later.shape later.inputs c.enabled.ensures.kept
     (later.spare ∙ c.requires) c.run_to_rest.ensures.none c.run_to_rest.ensures.rest c.run_to_rest.ensures.complete
-        c.run_to_rest.ensures.meant
+    c.run_to_rest.ensures.meant
 
 pub returns-clause-reached : goal.returns-clause-reached
 returns-clause-reached c = λ first slots agree.
@@ -21,4 +21,4 @@ returns-clause-reached c = λ first slots agree.
     let k = ranks_in w slots in
     subst (λ (x : System). Here x (scene_in v)) (sym (same-ranks w v slots c.run_to_rest.ensures.later))
     (travels-reached k w.window (scene_in w) (scene_in v) (subst (λ (z : Scene). Here k z) (sym first) Begun)
-        (c.run_to_rest.ensures.steps slots agree))
+    (c.run_to_rest.ensures.steps slots agree))

@@ -17,7 +17,7 @@ returns c =
     let opened = c.in_ok-world.ensures in (
       run-of w c.args.job.now.shape c.args.job.now.inputs (later.shape ∙ opened.shape) (later.inputs ∙ opened.inputs) c.enabled.ensures.kept
           (later.spare ∙ opened.spare) c.run_chosen.ensures.none c.run_chosen.ensures.rest c.run_chosen.ensures.complete
-              c.run_chosen.ensures.meant,
+          c.run_chosen.ensures.meant,
       (
         λ slots agree.
             let u = c.in_ok-world.world in

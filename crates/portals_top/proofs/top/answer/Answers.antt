@@ -10,7 +10,7 @@ returns-in-Ok g c = record { begun = rw c.in-Ok.ensures.read c.described.ensures
 pub returns-in-Err-Refused : goal.returns-in-Err-Refused
 returns-in-Err-Refused g c =
     let refused : read_as c.args.task.format c.args.text.items ≡ Err (c.in-Err-Refused.line, c.in-Err-Refused.name) =
-          rw c.in-Err-Refused.field-0-is at c.in-Err-Refused.ensures.read in
+    rw c.in-Err-Refused.field-0-is at c.in-Err-Refused.ensures.read in
     record {
       begun = (
         rw refused (rw c.in-Err-Refused.field-0-is at c.refuse.ensures),

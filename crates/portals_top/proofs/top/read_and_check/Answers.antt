@@ -10,8 +10,12 @@ returns-in-Ok g c =
     let read = c.in-Ok.ensures.text in
     let told = told-read LONGEST_CHECK source.left source'.left c.in-Ok.text.items read.front read.short read.whole in
     record {
-      checked = (told.bytes, told.told, checked-read c.in-Ok.text.items source source' _ _ _ told
-          (rw c.as_slice.ensures.value at c.judged_text.ensures.judged));
+      checked = (
+        told.bytes,
+        told.told,
+        checked-read c.in-Ok.text.items source source' _ _ _ told
+            (rw c.as_slice.ensures.value at c.judged_text.ensures.judged),
+      );
       told = c.judged_text.ensures.told;
     }
 

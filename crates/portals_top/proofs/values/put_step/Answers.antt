@@ -23,7 +23,7 @@ returns-in_err-value_line g c =
     let ranks : c.ranks-rank-end.result ≡ w.ranks = c.ranks-rank-end.ensures in
     let next = rows_from-next f n w.ranks (omega (arith, ranks)) in
     let name = name-is choices s c.index-steps-step.result c.steps.result.now c.name_of-name.result.now c.requires.step
-          c.steps.ensures.value
+    c.steps.ensures.value
     c.index-steps-step.is c.name_of-name.ensures in
     let line = ap₂ (λ a v. value_line a n v) name c.value.ensures in
     Puts-stops old new c.args.out.now c.value_line.new.out (rows 0 w.ranks) _ c.from_residual.ensures.0
@@ -46,7 +46,7 @@ loop-rank-preserved g c =
     let ranks : c.ranks-rank-end.result ≡ w.ranks = c.ranks-rank-end.ensures in
     let next = rows_from-next f n w.ranks (omega (arith, ranks)) in
     let name = name-is choices s c.index-steps-step.result c.steps.result.now c.name_of-name.result.now c.requires.step
-          c.steps.ensures.value
+    c.steps.ensures.value
     c.index-steps-step.is c.name_of-name.ensures in
     let line = ap₂ (λ a v. value_line a n v) name c.value.ensures in
     Takes-next old before new text c.loop-rank.out c.value_line.new.out (f n) (rows (n + 1) (w.ranks - (n + 1)))

@@ -8,4 +8,4 @@ abbrev pub invariant-loop-step : goal.invariant-loop-step
 invariant-loop-step g l =
     let lines = flat_map (step_lines l.choices l.world) in
     Takes (g.K.Sink.outflow l.fn.sink) (g.K.Sink.outflow l.sink) (l.fn.out ++ lines l.choices.prints)
-        (l.out ++ lines (drop l.step-index l.choices.prints))
+    (l.out ++ lines (drop l.step-index l.choices.prints))

@@ -23,7 +23,7 @@ returns-in_err-order_line g c =
     (Fails-next old before new text c.loop-rank.out (f n) (rows (n + 1) (count - (n + 1)))
     (subst (λ rest. Takes old before text (c.loop-rank.out ++ rest)) next c.loop-rank.invariant)
     (subst (λ xs. FailsWithin before new (c.loop-rank.out ++ xs)) (ap (λ v. order_line n v) c.steps_of.ensures)
-        c.in_err-order_line.ensures))
+    c.in_err-order_line.ensures))
 
 pub loop-rank-preserved : goal.loop-rank-preserved
 loop-rank-preserved g c =
@@ -42,4 +42,4 @@ loop-rank-preserved g c =
     Takes-next old before new text c.loop-rank.out c.order_line.new.out (f n) (rows (n + 1) (count - (n + 1)))
     (subst (λ rest. Takes old before text (c.loop-rank.out ++ rest)) next c.loop-rank.invariant)
     (subst (λ xs. Takes before new (c.loop-rank.out ++ xs) c.order_line.new.out) (ap (λ v. order_line n v) c.steps_of.ensures)
-        c.in_ok-order_line.ensures)
+    c.in_ok-order_line.ensures)

@@ -22,7 +22,7 @@ returns-in_err-put_result g c =
     let w = c.args.rested.now.0 in
     EndsWith-stops _ _ (result_text w.shape w.inputs ++ orders_of (Some w)) _ c.from_residual.ensures.0
     (Fails-more _ _ (result_text w.shape w.inputs) (orders_of (Some w))
-        (rw (c.requires.empty, c.shape_of-shape.ensures.value) at c.in_err-put_result.ensures))
+    (rw (c.requires.empty, c.shape_of-shape.ensures.value) at c.in_err-put_result.ensures))
 
 pub returns-in_err-put_orders : goal.returns-in_err-put_orders
 returns-in_err-put_orders g c =
@@ -30,7 +30,7 @@ returns-in_err-put_orders g c =
     EndsWith-stops _ _ (result_text w.shape w.inputs ++ orders_of (Some w)) _ c.from_residual-in_err-put_orders.ensures.0
     (Fails-then _ _ _ (result_text w.shape w.inputs ++ orders_of (Some w)) _
     (Takes-more _ _ (result_text w.shape w.inputs) _ (orders_of (Some w))
-        (rw (c.requires.empty, c.shape_of-shape.ensures.value) at c.in_ok-put_result.ensures))
+    (rw (c.requires.empty, c.shape_of-shape.ensures.value) at c.in_ok-put_result.ensures))
     c.in_err-put_orders.ensures)
 
 pub returns : goal.returns
@@ -39,5 +39,5 @@ returns g c =
     EndsWith-then _ _ _ (result_text w.shape w.inputs ++ orders_of (Some w)) _ _
     (Takes-then _ _ _ (result_text w.shape w.inputs ++ orders_of (Some w)) _ _
     (Takes-more _ _ (result_text w.shape w.inputs) _ (orders_of (Some w))
-        (rw (c.requires.empty, c.shape_of-shape.ensures.value) at c.in_ok-put_result.ensures))
+    (rw (c.requires.empty, c.shape_of-shape.ensures.value) at c.in_ok-put_result.ensures))
     c.in_ok-put_orders.ensures) c.end.ensures.ends

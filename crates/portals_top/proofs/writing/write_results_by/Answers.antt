@@ -25,5 +25,5 @@ pub returns : goal.returns
 returns g c =
     let w = c.args.rested.now.0 in
     subst (λ (o : Outline). EndsWith (g.K.Sink.outflow c.args.sink.now) (g.K.Sink.outflow c.write_result_by.new.sink)
-        (text_of o (meaning_of w.shape w.inputs)) c.write_result_by.result)
+    (text_of o (meaning_of w.shape w.inputs)) c.write_result_by.result)
     c.shape_of-shape.ensures.value c.write_result_by.ensures.ends

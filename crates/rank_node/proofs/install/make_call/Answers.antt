@@ -20,26 +20,26 @@ pub returns-in-MdBind : goal.returns-in-MdBind
 returns-in-MdBind c =
     let new = rw c.region_descriptor-md.ensures at c.make_descriptor.ensures in
     rw c.in-MdBind.is (on_ok_weaker c.make_descriptor.result (λ made. made-bound c.args.cells.now c.in-MdBind.length c.in-MdBind.remote
-        c.counter.result c.args.nic.now c.make_descriptor.new.nic c.args.kept.now c.make_descriptor.new.kept made c.counter.ensures.value
-        c.requires.all) new)
+    c.counter.result c.args.nic.now c.make_descriptor.new.nic c.args.kept.now c.make_descriptor.new.kept made c.counter.ensures.value
+    c.requires.all) new)
 
 pub returns-in-Overflow : goal.returns-in-Overflow
 returns-in-Overflow c =
     let new = rw c.entry_of_area-entry.ensures at c.make_entry.ensures in
     rw c.in-Overflow.is (on_ok_weaker c.make_entry.result (λ made. made-area c.args.cells.now c.in-Overflow.start c.in-Overflow.length
-        c.in-Overflow.match_bits c.in-Overflow.ignore_bits c.args.nic.now c.make_entry.new.nic c.args.kept.now c.make_entry.new.kept made
-        c.requires.all) new)
+    c.in-Overflow.match_bits c.in-Overflow.ignore_bits c.args.nic.now c.make_entry.new.nic c.args.kept.now c.make_entry.new.kept made
+    c.requires.all) new)
 
 pub returns-in-MeAppend : goal.returns-in-MeAppend
 returns-in-MeAppend c =
     let new = rw c.entry_of_cell-entry.ensures at c.make_entry-in-MeAppend.ensures in
     rw c.in-MeAppend.is (on_ok_weaker c.make_entry-in-MeAppend.result
-        (λ made. made-entry c.args.cells.now c.in-MeAppend.cell c.in-MeAppend.start c.in-MeAppend.length c.in-MeAppend.match_bits
-        c.in-MeAppend.ignore_bits c.counter_of-ct.result c.args.nic.now c.make_entry-in-MeAppend.new.nic c.args.kept.now
-        c.make_entry-in-MeAppend.new.kept made c.counter_of-ct.ensures c.requires.all) new)
+    (λ made. made-entry c.args.cells.now c.in-MeAppend.cell c.in-MeAppend.start c.in-MeAppend.length c.in-MeAppend.match_bits
+    c.in-MeAppend.ignore_bits c.counter_of-ct.result c.args.nic.now c.make_entry-in-MeAppend.new.nic c.args.kept.now
+    c.make_entry-in-MeAppend.new.kept made c.counter_of-ct.ensures c.requires.all) new)
 
 pub returns-in-Trigger : goal.returns-in-Trigger
 returns-in-Trigger c =
     rw c.in-Trigger.is (on_ok_weaker c.post.result (λ made. made-operation c.args.cells.now c.in-Trigger.cell c.in-Trigger.threshold
-        c.in-Trigger.act c.deed_of-deed.result c.counter_of-ct-in-Trigger.result c.args.nic.now c.post.new.nic c.args.kept.now made
-        c.counter_of-ct-in-Trigger.ensures c.deed_of-deed.ensures.does c.requires.all) c.post.ensures)
+    c.in-Trigger.act c.deed_of-deed.result c.counter_of-ct-in-Trigger.result c.args.nic.now c.post.new.nic c.args.kept.now made
+    c.counter_of-ct-in-Trigger.ensures c.deed_of-deed.ensures.does c.requires.all) c.post.ensures)

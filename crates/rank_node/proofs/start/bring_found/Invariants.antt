@@ -8,5 +8,5 @@ abbrev pub invariant-loop-i : goal.invariant-loop-i
 invariant-loop-i l =
     (l.nic ≡ record l.fn.nic { memory = l.nic.memory })
     × (bring_all l.longest l.cell (found_in 0 l.entry (drop l.i l.fn.nic.headers.unexpected)) l.nic.memory ≡ bring_all l.longest l.cell
-        (found_in 0 l.entry l.fn.nic.headers.unexpected) l.fn.nic.memory)
+    (found_in 0 l.entry l.fn.nic.headers.unexpected) l.fn.nic.memory)
     × (l.longest ≤ vec_capacity l.buffer)

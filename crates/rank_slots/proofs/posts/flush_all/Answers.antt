@@ -9,7 +9,7 @@ use Rattle.rank_slots.proofs.posts.flush_all.Goals as goal
 pub loop-at-preserved : goal.loop-at-preserved
 loop-at-preserved g c =
     let i = c.loop-at.invariant in let e = c.flush_one-free.ensures in let t = e.flushed in let p = t.0 in let q = t.1 in let at =
-                                                                                                                                c.loop-at.at in let outs = c.loop-at.outs.items in
+    c.loop-at.at in let outs = c.loop-at.outs.items in
     let new : c.flush_one-free.new.outs.items ≡ set outs at q = t.4 in record {
       many = ap (λ (l : List OutPort). length l) new ∙ length-set outs at q ∙ i.many;
       node = regated-after c.args.node.now c.loop-at.node c.flush_one-free.new.node i.node e.node;
@@ -26,9 +26,9 @@ pub returns-clause-flushed : goal.returns-clause-flushed
 returns-clause-flushed g c = let i = c.loop-at.invariant in record {
   many = i.many;
   each = λ j x y a b. i.tried j x y (let k = within c.args.outs.now.items j x a in let n = c.len-count.ensures in let t =
-                                                                                                                        c.loop-at-test.false in omega (arith, k, n, t)) a b;
+      c.loop-at-test.false in omega (arith, k, n, t)) a b;
 }
 
 pub returns-clause-free : goal.returns-clause-free
 returns-clause-free g c = λ f j y b. c.loop-at.invariant.free f j y (let k = within c.loop-at.outs.items j y b in let m =
-                                                                                                                        c.loop-at.invariant.many in let n = c.len-count.ensures in let t = c.loop-at-test.false in omega (arith, k, m, n, t)) b
+    c.loop-at.invariant.many in let n = c.len-count.ensures in let t = c.loop-at-test.false in omega (arith, k, m, n, t)) b

@@ -4,8 +4,10 @@ use Rattle.atomic_table.proofs.Lists.{at_index}
 use Rattle.rank_slots.proofs.posts.flush_at.Goals as goal
 
 pub flush-requires : goal.flush-requires
-flush-requires g c = record { wire = c.requires.is c.index-wires-port.result
-    (at_index c.args.wires.now c.args.port.now.wire c.index-wires-port.result c.requires.inside c.index-wires-port.is) }
+flush-requires g c = record {
+  wire = c.requires.is c.index-wires-port.result
+      (at_index c.args.wires.now c.args.port.now.wire c.index-wires-port.result c.requires.inside c.index-wires-port.is);
+}
 
 -- what still waits was not flushed
 not-flushed : {P : Type 0} (answer waits : Bool) → (IsTrue answer → waits ≡ false) → (IsFalse answer → P) → waits ≡ true → P
@@ -15,7 +17,7 @@ not-flushed false waits done other w = other refl
 pub returns-clause-flushed : goal.returns-clause-flushed
 returns-clause-flushed g c =
     let was = c.requires.is c.index-wires-port.result (at_index c.args.wires.now c.args.port.now.wire c.index-wires-port.result
-          c.requires.inside c.index-wires-port.is) in
+    c.requires.inside c.index-wires-port.is) in
     let f = c.flush.ensures in record {
       same = record { target = refl; lane = refl; number = refl; wire = f.wire.0 ∙ sym was.0; bounds = f.wire.1 ∙ sym was.1 };
       sent = f.sent;

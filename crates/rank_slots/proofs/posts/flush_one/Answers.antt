@@ -31,12 +31,17 @@ returns-clause-ends g c =
     let is = c.index-2.ensures ∙ get_or-set_same c.args.outs.now.items c.args.at q c.index-2.result.now c.requires.at in
     subst (λ (closed : List Bool). AreEnds c.args.wires.now closed (set c.args.outs.now.items c.args.at q))
     (sym (ap (λ (n : NodeState). n.closed) c.note_post.ensures
-        ∙ ap (λ (z : OutPort). gate_after z.lane z.target z.end.waits c.args.node.now.closed) is))
+    ∙ ap (λ (z : OutPort). gate_after z.lane z.target z.end.waits c.args.node.now.closed) is))
     (ends-set c.args.wires.now c.args.node.now.closed c.args.outs.now.items c.args.at p q there c.flush_at-free.ensures.flushed.same
-        c.requires.ends)
+    c.requires.ends)
 
 pub returns-clause-flushed : goal.returns-clause-flushed
 returns-clause-flushed g c =
-    let p = c.index_mut.result.now in let q = c.flush_at-free.new.port in
-    (p, q, at_index c.args.outs.now.items c.args.at p c.requires.at c.index_mut.ensures.value, c.flush_at-free.ensures.flushed, refl,
-        c.flush_at-free.ensures.free)
+    let p = c.index_mut.result.now in let q = c.flush_at-free.new.port in (
+      p,
+      q,
+      at_index c.args.outs.now.items c.args.at p c.requires.at c.index_mut.ensures.value,
+      c.flush_at-free.ensures.flushed,
+      refl,
+      c.flush_at-free.ensures.free,
+    )

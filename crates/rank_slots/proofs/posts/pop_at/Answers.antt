@@ -13,7 +13,7 @@ pop-requires g c = c.requires.is c.index-wires-port.result (at_index c.args.wire
 pub returns-clause-same : goal.returns-clause-same
 returns-clause-same g c =
     let was = c.requires.is c.index-wires-port.result (at_index c.args.wires.now c.args.port.now.wire c.index-wires-port.result
-          c.requires.inside c.index-wires-port.is) in
+    c.requires.inside c.index-wires-port.is) in
     let now = c.pop.ensures.wire in
     record { source = refl; lane = refl; number = refl; wire = now.0 ∙ sym was.0; bounds = now.1 ∙ sym was.1 }
 
@@ -25,6 +25,6 @@ of_wire (Some m) b c old new e is h k = (h.0, subst (λ x. KeepsBounds x new) is
 pub returns-clause-some : goal.returns-clause-some
 returns-clause-some g c =
     let was = c.requires.is c.index-wires-port.result (at_index c.args.wires.now c.args.port.now.wire c.index-wires-port.result
-          c.requires.inside c.index-wires-port.is) in
+    c.requires.inside c.index-wires-port.is) in
     of_wire c.pop.result c.index-wires-port.result.bounds c.args.port.now.end.bounds c.args.port.now.end.received c.pop.new.end.received _
-        (sym was.1) c.pop.ensures.popped c.pop.ensures.bounds
+    (sym was.1) c.pop.ensures.popped c.pop.ensures.bounds

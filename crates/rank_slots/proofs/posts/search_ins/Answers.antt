@@ -20,6 +20,6 @@ loop-at-preserved c = let p = c.index-ins-at.result in let e = c.if-is_from.ensu
 
 pub returns-clause-none : goal.returns-clause-none
 returns-clause-none c = λ i p at goes lane. c.loop-at.invariant i p (let k = within c.args.ins.now i p at in let f =
-                                                                                                                   c.loop-at-test.false in
-                                                                                                                   omega (arith, k, f)) at
-                                                                                                                   goes lane
+    c.loop-at-test.false in
+    omega (arith, k, f)) at
+    goes lane

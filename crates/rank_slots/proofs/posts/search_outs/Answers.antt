@@ -20,5 +20,5 @@ loop-at-preserved c = let p = c.index-outs-at.result in let e = c.if-is_to.ensur
 
 pub returns-clause-none : goal.returns-clause-none
 returns-clause-none c = λ i p at goes lane. c.loop-at.invariant i p (let k = within c.args.outs.now i p at in let f =
-                                                                                                                    c.loop-at-test.false
-                                                                                                                    in omega (arith, k, f)) at goes lane
+    c.loop-at-test.false
+    in omega (arith, k, f)) at goes lane

@@ -28,7 +28,7 @@ returns c =
     let node = c.in_ok-node.node in
     let ranks : p.ranks ≡ o.ranks = subst (λ (s : Outline). (plan_of s).ranks ≡ s.ranks) c.schedule.ensures c.plan.ensures.ranks in
     let for_rank : IsCompiledFor p inputs r node.task = subst (IsCompiledFor p inputs r) (sym c.in_ok-node.ensures.task)
-          c.in_ok-compiled.ensures in
+    c.in_ok-compiled.ensures in
     let is : IsNode node = c.history.ensures.kept in
     let none = c.in_ok-node.ensures.history in
     record {

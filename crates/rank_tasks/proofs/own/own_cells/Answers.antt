@@ -26,7 +26,7 @@ loop-call-preserved c =
     ap (λ v. get_or v i PtAlloc) c.requires.late ∙ get_or-map (append_call p r) xs i 0 PtAlloc lt in
     let read : c.own_cell.result ≡ Some (own_cell p r x) =
     c.own_cell.ensures r x (subst (λ (v : Plan). x < length v.cells) (sym same) here)
-        (is_entry ∙ ap (λ (v : Plan). append_call v r x) (sym same))
+    (is_entry ∙ ap (λ (v : Plan). append_call v r x) (sym same))
     ∙ ap (λ (v : Plan). Some (own_cell v r x)) same in
     let next : map (own_cell p r) (take (i + 1) xs) ≡ map (own_cell p r) (take i xs) ++ own_cell p r x ∷ [] =
     ap (map (own_cell p r)) (take_more xs i 0 lt) ∙ map-append (own_cell p r) (take i xs) (x ∷ []) in

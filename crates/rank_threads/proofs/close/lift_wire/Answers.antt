@@ -73,7 +73,7 @@ drain-requires-clause-room g c =
 pub returns-clause-nodes : goal.returns-clause-nodes
 returns-clause-nodes g c = let o = c.pull_out-out in let i = c.pull_in-into in
     chain c.args.slots.now o.new.slots i.new.slots (less_out c.bounds-bounds.result.source o.result c.args.slots.now o.new.slots
-        o.ensures.pulled)
+    o.ensures.pulled)
     (less_in c.bounds-bounds.result.target i.result o.new.slots i.new.slots i.ensures.pulled)
 
 pub returns-clause-laid : goal.returns-clause-laid
@@ -84,7 +84,7 @@ returns-clause-laid g c = let b = c.bounds-bounds.ensures in let o = c.pull_out-
 
 pub returns-clause-lifted : goal.returns-clause-lifted
 returns-clause-lifted g c = let b = c.bounds-bounds.ensures in let o = c.pull_out-out in let i = c.pull_in-into in let f =
-                                                                                                                         c.args.frame.now in
+    c.args.frame.now in
     let is = c.lane-lane.ensures.value ∙ (ap (λ (z : Bounds). lane_in f z.source z.target z.lane) b ∙ c.requires.empty) in
     let w = wire_ends c.requires.laid.0 c.args.wire.now o.result i.result c.args.slots.now o.new.slots i.new.slots c.requires.laid.1
     c.requires.between o.ensures.count i.ensures.count

@@ -115,7 +115,7 @@ pub returns-clause-lifted : goal.returns-clause-lifted
 returns-clause-lifted g c = λ k w at. let i = c.loop-wire.invariant in let f = c.args.frame.now in
     let none : length c.loop-wire.wires.now ≤ k = search (rules, arith, c.split_last.ensures, c.in_default.ensures) in
     subst (λ (o : Outline). IsLifted w.bounds c.args.slots.now
-        (lane_at c.loop-wire.frame.lanes (lane_place o.ranks w.bounds.source w.bounds.target w.bounds.lane))) (sym i.shape)
+    (lane_at c.loop-wire.frame.lanes (lane_place o.ranks w.bounds.source w.bounds.target w.bounds.lane))) (sym i.shape)
     (i.lifted.done k w none at)
 
 pub returns-clause-unused : goal.returns-clause-unused

@@ -13,14 +13,14 @@ pub run_all-requires-clause-leader : goal.run_all-requires-clause-leader
 run_all-requires-clause-leader g c =
     let free = λ (h : HandState TurnRank). IsFree c.args.fabric.now.turns h in let whole = c.in-Some.ensures.cases.0 in
     let h : IsFree c.args.fabric.now.turns c.in-Some.leader.now = all-first free c.in-Some.leader.now c.in-Some.others.now
-          (subst (λ (l : List (HandState TurnRank)). All free l) whole c.requires.hands) in
+    (subst (λ (l : List (HandState TurnRank)). All free l) whole c.requires.hands) in
     search (rules, h)
 
 pub run_all-requires-clause-others : goal.run_all-requires-clause-others
 run_all-requires-clause-others g c =
     let free = λ (h : HandState TurnRank). IsFree c.args.fabric.now.turns h in let whole = c.in-Some.ensures.cases.0 in
     let h : All free c.in-Some.others.now = all-rest free c.in-Some.leader.now c.in-Some.others.now
-          (subst (λ (l : List (HandState TurnRank)). All free l) whole c.requires.hands) in
+    (subst (λ (l : List (HandState TurnRank)). All free l) whole c.requires.hands) in
     search (rules, h)
 
 pub run_all-requires-clause-at_most : goal.run_all-requires-clause-at_most
@@ -33,7 +33,7 @@ returns-clause-hands g c = let e = c.run_all.ensures in
 pub returns-clause-parts : goal.returns-clause-parts
 returns-clause-parts g c = let e = c.run_all.ensures in let whole = c.in-Some.ensures.cases.0 in
     sum-cons (λ (h : HandState TurnRank). h.knows.parts) c.in-Some.leader.now c.run_all.new.leader c.in-Some.others.now
-        c.run_all.new.others e.part e.parts
+    c.run_all.new.others e.part e.parts
     ∙ sym (ap (λ (l : List (HandState TurnRank)). parts_of l) whole)
 
 pub returns-clause-noted : goal.returns-clause-noted

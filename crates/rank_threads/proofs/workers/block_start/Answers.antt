@@ -10,7 +10,7 @@ part-le worker workers ranks h = div-le_of_le-mul workers {m = worker * ranks} {
 
 pub overflow_mul-result : goal.overflow_mul-result
 overflow_mul-result c = let h : c.args.worker * c.from.result < 2 ^ 32 * 2 ^ 32 = mul-lt c.args.worker c.from.result (2 ^ 32) (2 ^ 32)
-                              (omega arith) (omega arith) in omega (arith, h)
+    (omega arith) (omega arith) in omega (arith, h)
 
 pub overflow_cast-result : goal.overflow_cast-result
 overflow_cast-result c = let h = part-le c.args.worker c.args.workers c.from.result c.requires.worker in omega (arith, h)

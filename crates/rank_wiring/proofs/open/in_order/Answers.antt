@@ -12,7 +12,7 @@ pub made_or_make-requires-clause-rank : goal.made_or_make-requires-clause-rank
 made_or_make-requires-clause-rank c =
     let short = ap (λ m. length m) c.in-Some.ensures.steps.0 in let all = c.loop-place.invariant.slots in
     let many = c.requires.count in let ranks = c.requires.ranks in let here = c.len-rank.ensures in
-        omega (arith, short, all, many, ranks, here)
+    omega (arith, short, all, many, ranks, here)
 
 pub made_or_make-requires-clause-place : goal.made_or_make-requires-clause-place
 made_or_make-requires-clause-place c =

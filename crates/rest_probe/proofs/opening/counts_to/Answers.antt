@@ -13,14 +13,14 @@ loop-s-preserved c = let f : ℕ → List LaneCount = (λ s. pair_lanes (plan_of
 
 pub of-requires : goal.of-requires
 of-requires c = let n = c.loop-s.s in let e = ap (λ (v : List LaneCount). length v) c.loop-s.invariant in let h =
-                                                                                                                to-short (plan_of c.args.schedule.now) c.args.r n in
+    to-short (plan_of c.args.schedule.now) c.args.r n in
     let told = c.ranks-ranks.ensures.value ∙ ap (λ (o : Outline). o.ranks) c.shape.ensures.value in let same = c.plan.ensures.ranks in
-        let at_most = c.plan.ensures.sound.few_ranks in
+    let at_most = c.plan.ensures.sound.few_ranks in
     let end = c.loop-s.auto.s-end in omega (arith, e, h, told, same, at_most, end)
 
 pub returns : goal.returns
 returns c = let told = c.ranks-ranks.ensures.value ∙ ap (λ (o : Outline). o.ranks) c.shape.ensures.value in let same =
-                                                                                                                  c.plan.ensures.ranks in
+    c.plan.ensures.ranks in
     let test = c.loop-s-test.false in let end = c.loop-s.auto.s-end in
     let all : c.loop-s.s ≡ (plan_of c.args.schedule.now).ranks = omega (arith, told, same, test, end) in
     c.of.ensures ∙ (c.loop-s.invariant ∙ ap (λ n. flat_map (λ s. pair_lanes (plan_of c.args.schedule.now) s c.args.r s) (from_to 0 n)) all)

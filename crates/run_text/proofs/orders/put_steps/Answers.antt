@@ -16,7 +16,7 @@ returns-in_err-put_step g c =
     let split = flat_map-drop f c.args.steps.now c.loop-step.step-index Start (omega arith) in
     Puts-stops _ _ c.args.out.now c.put_step.new.out (flat_map f c.args.steps.now) _ c.from_residual.ensures.0
     (Fails-next old before _ text c.loop-step.out _ _ (subst (λ rest. Takes old before text (c.loop-step.out ++ rest)) split
-        c.loop-step.invariant) c.in_err-put_step.ensures)
+    c.loop-step.invariant) c.in_err-put_step.ensures)
 
 pub loop-step-preserved : goal.loop-step-preserved
 loop-step-preserved g c =
@@ -26,4 +26,4 @@ loop-step-preserved g c =
     let text = c.args.out.now ++ flat_map f c.args.steps.now in
     let split = flat_map-drop f c.args.steps.now c.loop-step.step-index Start (omega arith) in
     Takes-next old before _ text c.loop-step.out _ _ _ (subst (λ rest. Takes old before text (c.loop-step.out ++ rest)) split
-        c.loop-step.invariant) c.in_ok-put_step.ensures
+    c.loop-step.invariant) c.in_ok-put_step.ensures

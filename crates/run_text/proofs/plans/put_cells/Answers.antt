@@ -23,7 +23,7 @@ returns-in_err-cell_line g c =
     (Fails-next old before new text c.loop-number.out (cell_line_of p n) (rows (n + 1) (length p.cells - (n + 1)))
     (subst (λ rest. Takes old before text (c.loop-number.out ++ rest)) next c.loop-number.invariant)
     (subst (λ xs. FailsWithin before new (c.loop-number.out ++ xs)) (ap (λ v. plan_line (CellLine n (get_or v n no_cell))) told)
-        c.in_err-cell_line.ensures))
+    c.in_err-cell_line.ensures))
 
 pub loop-number-preserved : goal.loop-number-preserved
 loop-number-preserved g c =
@@ -40,4 +40,4 @@ loop-number-preserved g c =
     Takes-next old before new text c.loop-number.out c.cell_line.new.out (cell_line_of p n) (rows (n + 1) (length p.cells - (n + 1)))
     (subst (λ rest. Takes old before text (c.loop-number.out ++ rest)) next c.loop-number.invariant)
     (subst (λ xs. Takes before new (c.loop-number.out ++ xs) c.cell_line.new.out)
-        (ap (λ v. plan_line (CellLine n (get_or v n no_cell))) told) c.in_ok-cell_line.ensures)
+    (ap (λ v. plan_line (CellLine n (get_or v n no_cell))) told) c.in_ok-cell_line.ensures)

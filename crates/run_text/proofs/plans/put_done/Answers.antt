@@ -23,7 +23,7 @@ returns-in_err-plan_line g c =
     (Fails-next old before new text c.loop-rank.out (done_line_of p n) (rows (n + 1) (p.ranks - (n + 1)))
     (subst (λ rest. Takes old before text (c.loop-rank.out ++ rest)) next c.loop-rank.invariant)
     (subst (λ xs. FailsWithin before new (c.loop-rank.out ++ xs)) (ap (λ v. plan_line (DoneLine n v)) c.done-threshold.ensures)
-        c.in_err-plan_line.ensures))
+    c.in_err-plan_line.ensures))
 
 pub loop-rank-preserved : goal.loop-rank-preserved
 loop-rank-preserved g c =
@@ -40,4 +40,4 @@ loop-rank-preserved g c =
     Takes-next old before new text c.loop-rank.out c.plan_line.new.out (done_line_of p n) (rows (n + 1) (p.ranks - (n + 1)))
     (subst (λ rest. Takes old before text (c.loop-rank.out ++ rest)) next c.loop-rank.invariant)
     (subst (λ xs. Takes before new (c.loop-rank.out ++ xs) c.plan_line.new.out)
-        (ap (λ v. plan_line (DoneLine n v)) c.done-threshold.ensures) c.in_ok-plan_line.ensures)
+    (ap (λ v. plan_line (DoneLine n v)) c.done-threshold.ensures) c.in_ok-plan_line.ensures)

@@ -29,7 +29,7 @@ returns-in_err-link_line g c =
     (Fails-next old before new text c.loop-number.out (link_line_of p n) (rows (n + 1) (length p.links - (n + 1)))
     (subst (λ rest. Takes old before text (c.loop-number.out ++ rest)) next c.loop-number.invariant)
     (subst (λ xs. FailsWithin before new (c.loop-number.out ++ xs)) (ap (λ v. plan_line (LinkLine n (get_or v n first_link))) told
-        ∙ ap (λ v. plan_line (LinkLine n v)) (get_or_default p.links n first_link no_link lt)) c.in_err-link_line.ensures))
+    ∙ ap (λ v. plan_line (LinkLine n v)) (get_or_default p.links n first_link no_link lt)) c.in_err-link_line.ensures))
 
 pub loop-number-preserved : goal.loop-number-preserved
 loop-number-preserved g c =
@@ -46,5 +46,5 @@ loop-number-preserved g c =
     Takes-next old before new text c.loop-number.out c.link_line.new.out (link_line_of p n) (rows (n + 1) (length p.links - (n + 1)))
     (subst (λ rest. Takes old before text (c.loop-number.out ++ rest)) next c.loop-number.invariant)
     (subst (λ xs. Takes before new (c.loop-number.out ++ xs) c.link_line.new.out)
-        (ap (λ v. plan_line (LinkLine n (get_or v n first_link))) told
-        ∙ ap (λ v. plan_line (LinkLine n v)) (get_or_default p.links n first_link no_link lt)) c.in_ok-link_line.ensures)
+    (ap (λ v. plan_line (LinkLine n (get_or v n first_link))) told
+    ∙ ap (λ v. plan_line (LinkLine n v)) (get_or_default p.links n first_link no_link lt)) c.in_ok-link_line.ensures)

@@ -8,4 +8,4 @@ abbrev pub invariant-loop-number : goal.invariant-loop-number
 invariant-loop-number g l =
     let rows = rows_from (link_line_of l.plan) in
     Takes (g.K.Sink.outflow l.fn.sink) (g.K.Sink.outflow l.sink) (l.fn.out ++ rows 0 (length l.plan.links))
-        (l.out ++ rows l.number ((length l.plan.links) - l.number))
+    (l.out ++ rows l.number ((length l.plan.links) - l.number))

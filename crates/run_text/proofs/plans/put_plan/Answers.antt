@@ -21,4 +21,4 @@ returns g c =
     let p = g.T.PlanTables.drawn c.args.tables.now in
     Puts-then _ _ _ _ _ _ (drawn_text p) _ _ (rw c.plan-plan.ensures.value at c.in_ok-put_drawn.ensures)
     (Puts-then _ _ _ _ _ _ (flat_map (done_line_of p) (from_to 0 p.ranks)) (plan_line EndLine) _ c.in_ok-put_done.ensures
-        c.plan_line.ensures)
+    c.plan_line.ensures)

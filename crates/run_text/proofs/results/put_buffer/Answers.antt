@@ -35,6 +35,6 @@ loop-rank-preserved g c =
     let ranks : c.ranks-rank-end.result ≡ o.ranks = c.ranks-rank-end.ensures.value in
     let next = lines_from-next o lists b rank o.ranks (omega arith) in
     Takes-next old before new text c.loop-rank.out c.put_line_at.new.out (line_at o lists b rank)
-        (lines_from o lists b (rank + 1) (o.ranks - (rank + 1)))
+    (lines_from o lists b (rank + 1) (o.ranks - (rank + 1)))
     (subst (λ rest. Takes old before text (c.loop-rank.out ++ rest)) next c.loop-rank.invariant)
     c.in_ok-put_line_at.ensures

@@ -7,4 +7,4 @@ abbrev pub invariant-loop-rank : goal.invariant-loop-rank
 invariant-loop-rank g l =
     let lists = g.H.ResultLists.lists l.held in
     Takes (g.K.Sink.outflow l.fn.sink) (g.K.Sink.outflow l.sink) (l.fn.out ++ lines_from l.shape lists l.buffer 0 l.shape.ranks)
-        (l.out ++ lines_from l.shape lists l.buffer l.rank (l.shape.ranks - l.rank))
+    (l.out ++ lines_from l.shape lists l.buffer l.rank (l.shape.ranks - l.rank))

@@ -30,7 +30,7 @@ returns-in_err-put_buffer g c =
     Puts-stops old new c.args.out.now c.put_buffer.new.out (flat_map lines prints) _ c.from_residual.ensures.0
     (Fails-next old before new text c.loop-buffer.out (lines (get_or prints n 0)) (flat_map lines (drop (n + 1) prints))
     (subst (λ rest. Takes old before text (c.loop-buffer.out ++ rest)) (flat_map-drop lines prints n 0 in_range)
-        c.loop-buffer.invariant.taken)
+    c.loop-buffer.invariant.taken)
     (subst (λ xs. FailsWithin before new (c.loop-buffer.out ++ lines (get_or xs n 0))) same c.in_err-put_buffer.ensures))
 
 pub loop-buffer-preserved : goal.loop-buffer-preserved
@@ -50,9 +50,9 @@ loop-buffer-preserved g c =
       taken = Takes-next old before new text c.loop-buffer.out c.put_buffer.new.out (lines (get_or prints n 0))
           (flat_map lines (drop (n + 1) prints))
           (subst (λ rest. Takes old before text (c.loop-buffer.out ++ rest)) (flat_map-drop lines prints n 0 in_range)
-              c.loop-buffer.invariant.taken)
+          c.loop-buffer.invariant.taken)
           (subst (λ xs. Takes before new (c.loop-buffer.out ++ lines (get_or xs n 0)) c.put_buffer.new.out) same
-              c.in_ok-put_buffer.ensures);
+          c.in_ok-put_buffer.ensures);
       place = omega (arith, c.loop-buffer.invariant.place, ranks);
       at_most = omega (arith, ranks, at_most, c.loop-buffer.invariant.at_most);
     }

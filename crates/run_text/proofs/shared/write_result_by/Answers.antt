@@ -24,7 +24,7 @@ returns-in_err-rest_line g c =
     record {
       ends = EndsWith-stops _ _ _ _ c.from_residual-in_err-rest_line.ensures.0
           (Fails-then old before new (lines ++ rest_line) (held ++ rest_line) (Takes-more old before lines held rest_line takes)
-              c.in_err-rest_line.ensures);
+          c.in_err-rest_line.ensures);
     }
 
 pub returns : goal.returns
@@ -37,5 +37,5 @@ returns g c =
     let takes : Takes old before lines held = rw c.requires.empty at c.in_ok-put_prints.ensures in
     let all : Takes old after (lines ++ rest_line) c.rest_line.new.out =
     Takes-then old before after (lines ++ rest_line) (held ++ rest_line) c.rest_line.new.out
-        (Takes-more old before lines held rest_line takes) c.in_ok-rest_line.ensures in
+    (Takes-more old before lines held rest_line takes) c.in_ok-rest_line.ensures in
     record { ends = EndsWith-then _ _ _ _ _ _ all c.end.ensures.ends }

@@ -18,13 +18,13 @@ loop-rank-preserved g c =
     let all = sum_from at_rank 0 o.ranks in
     let ranks : c.ranks-rank-end.result ≡ o.ranks = c.ranks-rank-end.ensures.value in
     let about = buffer-is o b c.index-buffers-buffer.result c.buffers.result.now c.requires.buffer c.buffers.ensures.value
-          c.index-buffers-buffer.is in
+    c.index-buffers-buffer.is in
     let part : c.list_sum-total.result ≡ at_rank rank % 2 ^ 64 =
     (rw (← c.index-buffers-buffer.is, c.list.ensures) at c.list_sum-total.ensures)
     ∙ ap (λ (y : Buffer). sum (elements y.ty (at (lists_of lists b) rank)) % 2 ^ 64) about in
     added-part c.loop-rank.total (at_rank rank) c.list_sum-total.result (sum_from at_rank (rank + 1) (o.ranks - (rank + 1))) all _ part refl
     (subst (λ n. (c.loop-rank.total + n) % 2 ^ 64 ≡ all % 2 ^ 64) (sum_from-next at_rank rank o.ranks (omega (arith, ranks)))
-        c.loop-rank.invariant)
+    c.loop-rank.invariant)
 
 pub returns : goal.returns
 returns g c =

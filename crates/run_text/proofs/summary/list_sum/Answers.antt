@@ -9,7 +9,7 @@ pub loop-rest-preserved : goal.loop-rest-preserved
 loop-rest-preserved c =
     let all = sum (elements c.args.ty c.args.bytes.now) in
     let next = sum-next c.args.ty c.loop-rest.rest.now c.split_at.result.0.now c.split_at.result.1.now c.size-size.result
-          c.read_pattern-total.result c.loop-rest.invariant.is_size (omega arith)
+    c.read_pattern-total.result c.loop-rest.invariant.is_size (omega arith)
     c.split_at.ensures.front c.split_at.ensures.back c.read_pattern-total.ensures.value in
     record {
       left = added c.loop-rest.total c.read_pattern-total.result (sum (elements c.args.ty c.split_at.result.1.now)) all _ refl

@@ -8,4 +8,4 @@ abbrev pub invariant-loop-buffer : goal.invariant-loop-buffer
 invariant-loop-buffer g l =
     let lines = flat_map (sum_line_at l.shape (g.H.ResultLists.lists l.held)) in
     Takes (g.K.Sink.outflow l.fn.sink) (g.K.Sink.outflow l.sink) (l.fn.out ++ lines l.shape.prints)
-        (l.out ++ lines (drop l.buffer-index l.shape.prints))
+    (l.out ++ lines (drop l.buffer-index l.shape.prints))

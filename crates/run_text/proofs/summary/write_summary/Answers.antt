@@ -2,8 +2,10 @@ use Rattle.run_text.proofs.Taking.{EndsWith-then, EndsWith-stops}
 use Rattle.run_text.proofs.summary.write_summary.Goals as goal
 
 pub returns-in_err-put_summary : goal.returns-in_err-put_summary
-returns-in_err-put_summary g c = record { ends = EndsWith-stops _ _ _ _ c.from_residual.ensures.0
-    (rw c.requires.empty at c.in_err-put_summary.ensures) }
+returns-in_err-put_summary g c = record {
+  ends = EndsWith-stops _ _ _ _ c.from_residual.ensures.0
+      (rw c.requires.empty at c.in_err-put_summary.ensures);
+}
 
 pub returns : goal.returns
 returns g c = record { ends = EndsWith-then _ _ _ _ _ _ (rw c.requires.empty at c.in_ok-put_summary.ensures) c.end.ensures.ends }

@@ -52,4 +52,4 @@ returns g c =
     let short : length c.loop-rest.rest.now < bytes_of c.args.ty = let s = c.loop-rest.invariant.is_size in omega (arith, s) in
     subst (λ rest. Takes old before text rest)
     (ap (λ v. c.loop-rest.out ++ v) (spaced-none c.args.ty c.loop-rest.rest.now short) ∙ append-nil c.loop-rest.out)
-        c.loop-rest.invariant.taken
+    c.loop-rest.invariant.taken

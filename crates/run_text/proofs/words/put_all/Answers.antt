@@ -16,7 +16,7 @@ returns-in_err-put_one g c =
     let split = flat_map-drop f c.args.words.now c.loop-word.word-index (Number 0) (omega arith) in
     Puts-stops _ _ c.args.out.now c.put_one.new.out (flat_map f c.args.words.now) _ c.from_residual.ensures.0
     (Fails-next old before _ text c.loop-word.out _ _ (subst (λ rest. Takes old before text (c.loop-word.out ++ rest)) split
-        c.loop-word.invariant) c.in_err-put_one.ensures)
+    c.loop-word.invariant) c.in_err-put_one.ensures)
 
 pub loop-word-preserved : goal.loop-word-preserved
 loop-word-preserved g c =
@@ -26,4 +26,4 @@ loop-word-preserved g c =
     let text = c.args.out.now ++ flat_map f c.args.words.now in
     let split = flat_map-drop f c.args.words.now c.loop-word.word-index (Number 0) (omega arith) in
     Takes-next old before _ text c.loop-word.out _ _ _ (subst (λ rest. Takes old before text (c.loop-word.out ++ rest)) split
-        c.loop-word.invariant) c.in_ok-put_one.ensures
+    c.loop-word.invariant) c.in_ok-put_one.ensures

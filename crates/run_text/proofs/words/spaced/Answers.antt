@@ -27,5 +27,5 @@ returns-clause-written c =
     let e = c.requires in
     let a = c.write_digits-start.auto.buf in
     spaced-digits c.args.number c.write_digits-start.result c.args.buffer.now c.write_digits-start.new.buf c.ranges.number.fits
-        c.write_digits-start.ensures.start
+    c.write_digits-start.ensures.start
     e (omega (arith, a, e)) c.write_digits-start.ensures.written (drop_of_length-le c.args.buffer.now {i = 21} (omega (arith, e)))

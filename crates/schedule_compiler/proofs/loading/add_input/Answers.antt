@@ -9,7 +9,7 @@ list-requires-clause-input c = input-in c.args.i c.args.ranks (length c.args.inp
 pub list-requires-clause-rank : goal.list-requires-clause-rank
 list-requires-clause-rank c =
     let e = c.requires.lists (c.args.i / c.args.ranks) (input-in c.args.i c.args.ranks (length c.args.inputs.now) c.requires.nonempty
-          c.requires.input) in
+    c.requires.input) in
     let s = c.requires.nonempty in
     let m : c.args.i % c.args.ranks < c.args.ranks = mod-lt c.args.i (let z : 0 < c.args.ranks = omega (arith, s) in z) in
     omega (arith, e, m)

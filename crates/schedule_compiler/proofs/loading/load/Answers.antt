@@ -33,5 +33,5 @@ returns c =
     ap (λ (f : Filled). f.list) c.from_vec.ensures
     ∙ c.in_ok-add_areas.ensures
     ∙ ap (λ v. v ++ blank_areas p r) (c.in_ok-add_cells.ensures ∙ ap₂ (λ v w. v ++ flat_map (initial p ins) w) c.in_ok-bytes.ensures.items
-        o)
+    o)
     ∙ ap (λ (q : Plan). flat_map (initial q ins) (own (plan_of c.args.schedule.now) r) ++ blank_areas q r) c.plan-plan.ensures.value

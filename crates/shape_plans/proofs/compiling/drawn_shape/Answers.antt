@@ -18,8 +18,10 @@ draw-requires-clause-most c =
     omega (arith, f, e)
 
 pub returns-in-Ok-draw : goal.returns-in-Ok-draw
-returns-in-Ok-draw c = (refusal-found c.args.shape.now (are-steps c.args.shape.now c.keeps_form.ensures.shape) ∙ c.in-Ok.ensures.0,
-    (c.in-Ok-draw.ensures.plan, c.in-Ok-draw.ensures.held))
+returns-in-Ok-draw c = (
+  refusal-found c.args.shape.now (are-steps c.args.shape.now c.keeps_form.ensures.shape) ∙ c.in-Ok.ensures.0,
+  (c.in-Ok-draw.ensures.plan, c.in-Ok-draw.ensures.held),
+)
 
 pub returns-in-Err-draw : goal.returns-in-Err-draw
 returns-in-Err-draw c = refusal-found c.args.shape.now (are-steps c.args.shape.now c.keeps_form.ensures.shape) ∙ c.in-Ok.ensures.0

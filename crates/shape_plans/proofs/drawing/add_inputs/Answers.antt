@@ -29,9 +29,9 @@ draw_inputs-requires-clause-room c =
     let P : Plan → Buffer → ℕ → Type 0 = λ p x r. HasRoom p (map (input_cell x) (from_to 0 r)) in
     let room = room-input o c.keeps_form.ensures.shape.shape c.loop-b.b (let z : c.loop-b.b ≤ o.inputs = omega (arith, n, t) in z) in
     let x : buffer_at o c.loop-b.b ≡ c.index-buffers-b.result = the-buffer o c.loop-b.b c.buffers.result.now c.index-buffers-b.result
-          c.buffers.ensures.value (let i = c.keeps_form.ensures.shape.shape.few_inputs in let z : c.loop-b.b < length o.buffers =
-                                                                                                omega (arith, n, t, i) in z)
-                                                                                                c.index-buffers-b.is in
+    c.buffers.ensures.value (let i = c.keeps_form.ensures.shape.shape.few_inputs in let z : c.loop-b.b < length o.buffers =
+    omega (arith, n, t, i) in z)
+    c.index-buffers-b.is in
     subst (λ p. P p c.index-buffers-b.result c.ranks-ranks.result) (sym (ap (λ (d : Drawing). d.plan) c.loop-b.invariant))
     (subst (λ v. P (drawn_inputs o c.loop-b.b).plan v c.ranks-ranks.result) x
     (subst (λ v. P (drawn_inputs o c.loop-b.b).plan (buffer_at o c.loop-b.b) v) (sym c.ranks-ranks.ensures.value) room))

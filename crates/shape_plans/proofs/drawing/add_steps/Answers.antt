@@ -21,7 +21,7 @@ add_step-requires-clause-begun c =
     ap (λ xs. get_or xs k Barrier) (sym c.steps-in-loop-k.ensures.value) in
     as-drawn (λ d s g. IsBegun o d s g) (sym c.loop-k.invariant) t (sym c.group.ensures.value)
     (begun-step o c.keeps_form.ensures.shape.shape c.requires.steps c.requires.at_most k (let z : k < length o.steps =
-                                                                                                omega (arith, n, l) in z))
+    omega (arith, n, l) in z))
 
 pub add_step-requires-clause-room : goal.add_step-requires-clause-room
 add_step-requires-clause-room c =
@@ -33,7 +33,7 @@ add_step-requires-clause-room c =
     ap (λ xs. get_or xs k Barrier) (sym c.steps-in-loop-k.ensures.value) in
     as-drawn (λ d s g. HasRoom d.plan (cells_of (site o d s g) s)) (sym c.loop-k.invariant) t (sym c.group.ensures.value)
     (room-step o c.keeps_form.ensures.shape.shape c.requires.steps c.requires.at_most k (let z : k < length o.steps =
-                                                                                               omega (arith, n, l) in z))
+    omega (arith, n, l) in z))
 
 pub loop-k-preserved : goal.loop-k-preserved
 loop-k-preserved c =

@@ -13,7 +13,7 @@ pub draw_input-requires-clause-room : goal.draw_input-requires-clause-room
 draw_input-requires-clause-room c =
     let P : Plan → Type 0 = λ p. HasRoom p (input_cell c.args.buffer.now c.loop-r.r ∷ []) in
     subst P (sym c.loop-r.invariant) (room-at c.args.plan.now (input_cell c.args.buffer.now) c.args.ranks c.loop-r.r c.requires.room
-        c.loop-r-test.true)
+    c.loop-r-test.true)
 
 pub loop-r-preserved : goal.loop-r-preserved
 loop-r-preserved c =

@@ -12,4 +12,4 @@ pub returns-then-at-indices-clause-kept : goal.returns-then-at-indices-clause-ke
 returns-then-at-indices-clause-kept c =
     λ most records given all.
     set-portal_entry c.args.indices.now c.args.pt c.index-indices-at.result c.free.new.self most records given given (omega arith)
-        c.if-at-indices.true (c.free.ensures.kept most records given) all
+    c.if-at-indices.true (c.free.ensures.kept most records given) all

@@ -11,4 +11,4 @@ pub returns-then-at-indices-clause-kept : goal.returns-then-at-indices-clause-ke
 returns-then-at-indices-clause-kept c =
     λ most records given all.
     set-portal_entry c.args.indices.now c.args.pt c.index-indices-at.result c.link.new.self most records given (given + 1) (omega arith)
-        c.if-at-indices.true (c.link.ensures.kept most records given) all
+    c.if-at-indices.true (c.link.ensures.kept most records given) all

@@ -11,4 +11,4 @@ pub returns-then-at-indices-clause-kept : goal.returns-then-at-indices-clause-ke
 returns-then-at-indices-clause-kept c =
     λ most records given all.
     set-portal_entry c.args.indices.now c.args.header.now.pt c.index-indices-at.result c.settle.new.self most records given given
-        (omega arith) c.if-at-indices.true (c.settle.ensures.kept most records given) all
+    (omega arith) c.if-at-indices.true (c.settle.ensures.kept most records given) all

@@ -5,8 +5,8 @@ use Rattle.target_engine.proofs.Counted.{counted-same, counted-gone, long-taken}
 use Rattle.target_engine.proofs.Headers.{unexpected-parts}
 use Rattle.target_engine.proofs.Recorded.{recorded-unexpected}
 use Rattle.target_engine.proofs.Records.{given-by, limit-by}
-use Rattle.target_engine.proofs.Taking.{one-between, taken-told, taken-recorded, step-found, step-later, step-rose, step-same, step-gone,
-    step-kept}
+use Rattle.target_engine.proofs.Taking.{one-between, taken-told, taken-recorded, step-found, step-later, step-rose, step-same, step-gone}
+use Rattle.target_engine.proofs.Taking.{step-kept}
 use Rattle.target_engine.proofs.takes.take_found.Goals as goal
 use Rattle.target_engine.proofs.takes.take_found.Goals.{then-finds, else-finds}
 

@@ -15,7 +15,7 @@ invariant-loop-at l =
       room : l.headers.limit ≡ l.fn.headers.limit;
       events :
           each_gone (side 0 0 (seen_in l.indices) 0 (unexpected_list [] 0)) (left_in l.pt l.entry xs)
-              (found_in l.pt l.entry (drop l.at xs)) l.eqs
+          (found_in l.pt l.entry (drop l.at xs)) l.eqs
           ≡ each_gone (side 0 0 (seen_in l.indices) 0 (unexpected_list [] 0)) (left_in l.pt l.entry xs) (found_in l.pt l.entry xs) l.fn.eqs;
       counts :
           each_counted (overflow_counter l.entry) (found_in l.pt l.entry (drop l.at xs)) l.cts

@@ -19,13 +19,13 @@ invariant_of-self g c =
     let rest = ap length e.rest in
     let le = length-filter_le (λ p. not (waits_on c.args.ct p)) (operations_in i.spots.spots) in
     laid-same i.spots c.drop_all.new.spots i.threads c.drop_all.new.threads i.stamps.items i.given i.limit c.self.invariant e.same
-        (rw c.deref.ensures.value at e.hung) e.places (omega (arith, rest, le))
+    (rw c.deref.ensures.value at e.hung) e.places (omega (arith, rest, le))
 
 pub returns-clause-number : goal.returns-clause-number
 returns-clause-number g c =
     let rest = ap length c.drop_all.ensures.rest in
     let both = length-filter_both (waits_on c.args.ct) (λ p. not (waits_on c.args.ct p)) (λ _. refl)
-          (operations_in c.self.inside.spots.spots) in
+    (operations_in c.self.inside.spots.spots) in
     rw (← c.self.view_is) (omega (arith, rest, both, c.waiting-before.ensures, c.waiting.ensures))
 
 pub returns-clause-rest : goal.returns-clause-rest

@@ -8,7 +8,7 @@ invariant_of-result g c =
     let stamps = c.in-Ok.ensures.items_if_clones_equal (λ y q. q) in
     let long = ap length stamps ∙ length-replicate c.args.events 0 in
     laid-none c.in_ok-spots.spots c.in_ok-threads.threads c.in-Ok.stamps.items c.args.events c.args.limit c.in_ok-spots.ensures
-        c.in_ok-threads.ensures long (omega arith) (omega arith)
+    c.in_ok-threads.ensures long (omega arith) (omega arith)
 
 pub returns : goal.returns
 returns g c = record { makes = rw c.in_ok-spots.ensures refl }

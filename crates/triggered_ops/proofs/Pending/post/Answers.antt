@@ -22,7 +22,7 @@ put_in-requires-clause-high g c = high-cross c.args.threshold c.args.sum _ c.arg
 pub returns-clause-fresh : goal.returns-clause-fresh
 returns-clause-fresh g c =
     rw (← c.self.view_is) (not-given _ (laid-kept c.self.inside.spots c.self.inside.threads c.self.inside.stamps.items c.self.inside.given
-        c.self.inside.limit c.self.invariant (omega arith)))
+    c.self.inside.limit c.self.invariant (omega arith)))
 
 pub returns-clause-ok : goal.returns-clause-ok
 returns-clause-ok g c = rw (← c.self.view_is, c.put_in.ensures.value, c.tell.ensures.told, c.make_room.ensures.value) refl

@@ -11,8 +11,8 @@ invariant_of-self g c =
     let i = c.self.inside in
     let e = c.tell.ensures in
     laid-same i.spots c.tell.new.spots i.threads c.tell.new.threads i.stamps.items i.given i.limit c.self.invariant e.same
-        (rw c.deref.ensures.value at e.hung) e.places (let n = told-length i.spots c.tell.new.spots c.args.ct c.args.sum e.told in
-        omega (arith, n))
+    (rw c.deref.ensures.value at e.hung) e.places (let n = told-length i.spots c.tell.new.spots c.args.ct c.args.sum e.told in
+    omega (arith, n))
 
 pub returns : goal.returns
 returns g c = record { does = rw (← c.self.view_is, c.tell.ensures.told) refl }

@@ -33,21 +33,28 @@ invariant_of-self g c =
     let fewer = emptied-count p i.spots.spots c.in-Some.ensures.waits in
     let n = ap (λ (s : Spotted _). length (operations_in s.spots)) is in
     laid-same i.spots c.take_out.new.spots i.threads c.take_out.new.threads i.stamps.items i.given i.limit c.self.invariant
-    (record { numbers = ap (λ (s : Spotted _). numbers_of s.spots) is ∙ emptied-numbers p i.spots.spots; room =
-        ap (λ (s : Spotted _). s.room) is })
+    (record {
+      numbers = ap (λ (s : Spotted _). numbers_of s.spots) is ∙ emptied-numbers p i.spots.spots;
+      room =
+          ap (λ (s : Spotted _). s.room) is;
+    })
     (c.take_out.ensures.hung i.stamps.items c.self.invariant.hung) c.take_out.ensures.places (omega (arith, fewer, n))
 
 pub returns-in-Some-clause-value : goal.returns-in-Some-clause-value
 returns-in-Some-clause-value g c =
     let f = c.in-Some.ensures.found in
     rw (← c.self.view_is) (c.take_out.ensures.value ∙ sym (ap (option_map deed_of)
-        (found-here c.self.inside.spots.spots c.args.number c.in-Some.place c.self.invariant.rising f)))
+    (found-here c.self.inside.spots.spots c.args.number c.in-Some.place c.self.invariant.rising f)))
 
 pub returns-in-Some-clause-rest : goal.returns-in-Some-clause-rest
 returns-in-Some-clause-rest g c =
     let f = c.in-Some.ensures.found in
-    rw (← c.self.view_is, c.take_out.ensures.rest, emptied-here c.self.inside.spots.spots c.args.number c.in-Some.place
-        c.self.invariant.rising f) refl
+    rw (
+      ← c.self.view_is,
+      c.take_out.ensures.rest,
+      emptied-here c.self.inside.spots.spots c.args.number c.in-Some.place
+          c.self.invariant.rising f,
+    ) refl
 
 -- what waits has a deed
 some-taken : {D : Type 0} (o : Option (Operation D)) (r : Option D) (P : Type 0) → r ≡ option_map deed_of o → is_some o ≡ true → IfNone r P

@@ -11,7 +11,7 @@ pub unlink-requires : goal.unlink-requires
 unlink-requires g c =
     let at = wait_at c.args.spots.now.spots in
     threaded at c.args.threads.now c.args.stamps.now c.requires.hung (2 * c.args.ct.slot) c.args.place
-        (on-last at c.args.threads.now c.args.stamps.now c.requires.hung (2 * c.args.ct.slot) c.args.place c.requires.last)
+    (on-last at c.args.threads.now c.args.stamps.now c.requires.hung (2 * c.args.ct.slot) c.args.place c.requires.last)
 
 pub insert-requires-clause-thread : goal.insert-requires-clause-thread
 insert-requires-clause-thread g c =
@@ -24,7 +24,7 @@ pub insert-requires-clause-place : goal.insert-requires-clause-place
 insert-requires-clause-place g c =
     let at = wait_at c.args.spots.now.spots in
     let some = waits-on at c.args.threads.now c.args.stamps.now c.requires.hung (2 * c.args.ct.slot) c.args.place
-          (on-last at c.args.threads.now c.args.stamps.now c.requires.hung (2 * c.args.ct.slot) c.args.place c.requires.last) in
+    (on-last at c.args.threads.now c.args.stamps.now c.requires.hung (2 * c.args.ct.slot) c.args.place c.requires.last) in
     let w = wait-within c.args.spots.now.spots c.args.place some in
     let e = ap (λ (w : Woven). w.places) c.unlink.ensures in
     omega (arith, w, e, c.requires.within)
@@ -32,22 +32,22 @@ insert-requires-clause-place g c =
 pub insert-requires-clause-free : goal.insert-requires-clause-free
 insert-requires-clause-free g c =
     ap (is_threaded c.args.place) c.unlink.ensures ∙ left-free (wait_at c.args.spots.now.spots) c.args.threads.now c.args.stamps.now
-        c.requires.hung c.args.ct c.requires.belongs c.args.place
+    c.requires.hung c.args.ct c.requires.belongs c.args.place
 
 pub settle-requires : goal.settle-requires
 settle-requires g c =
     let at = wait_at c.args.spots.now.spots in
     waits-on at c.args.threads.now c.args.stamps.now c.requires.hung (2 * c.args.ct.slot) c.args.place
-        (on-last at c.args.threads.now c.args.stamps.now c.requires.hung (2 * c.args.ct.slot) c.args.place c.requires.last)
+    (on-last at c.args.threads.now c.args.stamps.now c.requires.hung (2 * c.args.ct.slot) c.args.place c.requires.last)
 
 pub returns-clause-hung : goal.returns-clause-hung
 returns-clause-hung g c =
     let at = wait_at c.args.spots.now.spots in
     made-undue at c.args.threads.now c.args.stamps.now c.requires.hung c.args.ct c.requires.belongs c.args.place c.requires.last
-        (wait_at c.settle.new.self.spots) c.insert.new.self
+    (wait_at c.settle.new.self.spots) c.insert.new.self
     (λ q. ap (λ (s : Spotted _). wait_at s.spots q) c.settle.ensures ∙ settled-at c.args.place false c.args.spots.now.spots q)
     (c.insert.ensures ∙ (λ i. with_place_after ((c.home.ensures ∙ home-waiting c.args.stamps.now c.args.ct c.requires.belongs) i) None
-        c.args.place (c.unlink.ensures i)))
+    c.args.place (c.unlink.ensures i)))
 
 pub returns-clause-places : goal.returns-clause-places
 returns-clause-places g c = ap (λ (w : Woven). w.places) c.insert.ensures ∙ ap (λ (w : Woven). w.places) c.unlink.ensures
@@ -62,6 +62,6 @@ returns-clause-fewer g c =
     let home_is = c.home.ensures ∙ home-waiting c.args.stamps.now c.args.ct c.requires.belongs in
     let new : thread k c.insert.new.self ≡ without c.args.place (thread k w) =
     ap (thread k) c.insert.ensures ∙ get_or-set_other c.unlink.new.self.threads c.home.result k _ _ (λ e. omega (arith, e, home_is))
-        ∙ ap (thread k) c.unlink.ensures ∙ thread-without k c.args.place w in
+    ∙ ap (thread k) c.unlink.ensures ∙ thread-without k c.args.place w in
     let l = ap length new in
     omega (arith, taken, l)

@@ -11,13 +11,13 @@ passed word i rest left bit z c s e le = search-more 64 word i (rest / 2 ^ z) (l
 pub overflow_shr-rest : goal.overflow_shr-rest
 overflow_shr-rest c =
     let lt = passed c.args.word c.args.i c.loop-rest.rest c.loop-rest.left c.loop-rest.bit c.step_of-step.result (c.loop-rest.rest % 2)
-          c.loop-rest.invariant c.step_of-step.ensures.passed c.loop-rest-test.true in
+    c.loop-rest.invariant c.step_of-step.ensures.passed c.loop-rest-test.true in
     omega (arith, lt)
 
 pub overflow_add-bit : goal.overflow_add-bit
 overflow_add-bit c =
     let lt = passed c.args.word c.args.i c.loop-rest.rest c.loop-rest.left c.loop-rest.bit c.step_of-step.result (c.loop-rest.rest % 2)
-          c.loop-rest.invariant c.step_of-step.ensures.passed c.loop-rest-test.true in
+    c.loop-rest.invariant c.step_of-step.ensures.passed c.loop-rest-test.true in
     omega (arith, lt)
 
 pub loop-rest-smaller : goal.loop-rest-smaller
@@ -28,8 +28,8 @@ loop-rest-smaller c =
 pub loop-rest-preserved : goal.loop-rest-preserved
 loop-rest-preserved c =
     search-jump c.step_of-step.result 64 c.args.word c.args.i c.loop-rest.rest c.loop-rest.left c.loop-rest.bit
-        (c.loop-rest.bit + c.step_of-step.result) (c.loop-rest.rest % 2) c.loop-rest.invariant c.step_of-step.ensures.passed
-        c.loop-rest-test.true refl
+    (c.loop-rest.bit + c.step_of-step.result) (c.loop-rest.rest % 2) c.loop-rest.invariant c.step_of-step.ensures.passed
+    c.loop-rest-test.true refl
 
 pub returns-clause-within : goal.returns-clause-within
 returns-clause-within c = search-more _ _ _ _ _ _ c.loop-rest.invariant

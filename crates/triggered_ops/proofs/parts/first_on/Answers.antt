@@ -18,16 +18,16 @@ pub returns-in-Some-clause-found : goal.returns-in-Some-clause-found
 returns-in-Some-clause-found g c =
     let b = sym c.belongs.ensures ∙ c.if-not-belongs.false in
     first-of_waiting (wait_at c.args.spots.now.spots) c.args.threads.now c.args.stamps.now c.requires.hung c.args.ct b
-        (Some c.in-Some.place)
+    (Some c.in-Some.place)
     (sym c.in-Some.is ∙ c.first.ensures ∙ ap (λ k. first_place (thread k c.args.threads.now))
-        (c.home.ensures ∙ home-waiting c.args.stamps.now c.args.ct b))
+    (c.home.ensures ∙ home-waiting c.args.stamps.now c.args.ct b))
 
 pub returns-in-None-clause-found : goal.returns-in-None-clause-found
 returns-in-None-clause-found g c =
     let b = sym c.belongs.ensures ∙ c.if-not-belongs.false in
     first-of_due (wait_at c.args.spots.now.spots) c.args.threads.now c.args.stamps.now c.requires.hung c.args.ct b c.first-in-None.result
     (c.first-in-None.ensures ∙ ap (λ k. first_place (thread k c.args.threads.now)) (c.home-in-None.ensures
-        ∙ home-due c.args.stamps.now c.args.ct b))
+    ∙ home-due c.args.stamps.now c.args.ct b))
 
 none-of : (o : Option ℕ) (P : Type 0) → (o ≡ None → P) → IfNone o P
 none-of None P f = f refl
@@ -37,8 +37,8 @@ pub returns-in-None-clause-none : goal.returns-in-None-clause-none
 returns-in-None-clause-none g c =
     let b = sym c.belongs.ensures ∙ c.if-not-belongs.false in
     let e = sym (c.first.ensures ∙ ap (λ k. first_place (thread k c.args.threads.now))
-          (c.home.ensures ∙ home-waiting c.args.stamps.now c.args.ct b)) ∙ c.in-None.is in
+    (c.home.ensures ∙ home-waiting c.args.stamps.now c.args.ct b)) ∙ c.in-None.is in
     let f = sym (c.first-in-None.ensures ∙ ap (λ k. first_place (thread k c.args.threads.now))
-          (c.home-in-None.ensures ∙ home-due c.args.stamps.now c.args.ct b)) in
+    (c.home-in-None.ensures ∙ home-due c.args.stamps.now c.args.ct b)) in
     none-of c.first-in-None.result _ (λ is. none-on_lists (wait_at c.args.spots.now.spots) c.args.threads.now c.args.stamps.now
-        c.requires.hung c.args.ct b e (f ∙ is))
+    c.requires.hung c.args.ct b e (f ∙ is))

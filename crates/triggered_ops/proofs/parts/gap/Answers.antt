@@ -15,5 +15,5 @@ threshold-requires g c = c.requires.waits c.in-Some.place (last-on-list (thread 
 pub returns-then-threshold : goal.returns-then-threshold
 returns-then-threshold g c =
     gap-last (wait_at c.args.spots.now.spots) c.args.threshold (thread c.args.thread c.args.threads.now) c.in-Some.place
-        c.last-end.ensures.apart c.requires.ordered (sym c.last-end.ensures.last ∙ c.in-Some.is)
+    c.last-end.ensures.apart c.requires.ordered (sym c.last-end.ensures.last ∙ c.in-Some.is)
     (subst (λ n. n ≤ c.args.threshold) c.threshold.ensures c.if-threshold.true)

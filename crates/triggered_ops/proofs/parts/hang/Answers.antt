@@ -19,7 +19,7 @@ gap-after-requires-clause-ordered g c =
     let at = wait_at c.args.spots.now.spots in
     subst (λ k. Ascending at (thread k c.args.threads.now)) (sym c.home-thread.ensures)
     (home-ordered at c.args.threads.now c.args.stamps.now c.requires.hung c.args.wait.ct (sym c.belongs.ensures ∙ c.if-belongs.true)
-        c.args.wait.due)
+    c.args.wait.due)
 
 pub insert-requires-clause-thread : goal.insert-requires-clause-thread
 insert-requires-clause-thread g c = subst (λ k. k < length c.args.threads.now.threads) (sym c.home-thread.ensures)
@@ -36,7 +36,7 @@ pub returns-then-belongs-clause-hung : goal.returns-then-belongs-clause-hung
 returns-then-belongs-clause-hung g c =
     let at = wait_at c.args.spots.now.spots in
     entered at c.args.threads.now c.args.stamps.now c.requires.hung c.args.place c.args.wait c.requires.empty c.insert.new.self
-        c.home-thread.result c.gap-after.result c.home-thread.ensures c.gap-after.ensures c.insert.ensures
+    c.home-thread.result c.gap-after.result c.home-thread.ensures c.gap-after.ensures c.insert.ensures
     c.requires.low c.requires.high
 
 pub returns-then-belongs-clause-places : goal.returns-then-belongs-clause-places
@@ -54,7 +54,7 @@ pub returns-else-belongs-clause-hung : goal.returns-else-belongs-clause-hung
 returns-else-belongs-clause-hung g c =
     let at = wait_at c.args.spots.now.spots in
     entered-stray at c.args.threads.now c.args.stamps.now c.requires.hung c.args.place c.args.wait c.requires.empty c.push_back.new.self
-        c.home-thread.result (sym c.belongs.ensures ∙ c.if-belongs.false) c.home-thread.ensures c.push_back.ensures
+    c.home-thread.result (sym c.belongs.ensures ∙ c.if-belongs.false) c.home-thread.ensures c.push_back.ensures
 
 pub returns-else-belongs-clause-places : goal.returns-else-belongs-clause-places
 returns-else-belongs-clause-places g c = ap (λ (w : Woven). w.places) c.push_back.ensures

@@ -36,24 +36,24 @@ pub returns-clause-hung : goal.returns-clause-hung
 returns-clause-hung g c =
     let i = c.loop-place.invariant in
     let gone = packing-gone c.loop-place.spots c.loop-place.threads c.args.stamps.now c.loop-place.kept c.loop-place.place i.packs
-          (let l = i.long in omega (arith, l)) in
+    (let l = i.long in omega (arith, l)) in
     hung-same (wait_at c.loop-place.spots.spots) (wait_at c.truncate.new.self.spots) c.loop-place.threads c.args.stamps.now
     (λ q. ap (λ (s : Spotted _). wait_at s.spots q) c.truncate.ensures ∙ take-wait c.loop-place.spots.spots c.loop-place.kept q gone)
-        i.packs.hung
+    i.packs.hung
 
 pub returns-clause-value : goal.returns-clause-value
 returns-clause-value g c =
     let i = c.loop-place.invariant in
     ap (λ (s : Spotted _). operations_in s.spots) c.truncate.ensures
-        ∙ ap operations_in (sym (packed-end c.loop-place.spots.spots c.loop-place.kept c.loop-place.place
-        (let l = i.long in omega (arith, l)))) ∙ i.value
+    ∙ ap operations_in (sym (packed-end c.loop-place.spots.spots c.loop-place.kept c.loop-place.place
+    (let l = i.long in omega (arith, l)))) ∙ i.value
 
 pub returns-clause-numbers : goal.returns-clause-numbers
 returns-clause-numbers g c =
     let i = c.loop-place.invariant in
     subst (IsThinner (numbers_of c.args.spots.now.spots))
     (ap numbers_of (packed-end c.loop-place.spots.spots c.loop-place.kept c.loop-place.place (let l = i.long in omega (arith, l)))
-        ∙ sym (ap (λ (s : Spotted _). numbers_of s.spots) c.truncate.ensures)) i.numbers
+    ∙ sym (ap (λ (s : Spotted _). numbers_of s.spots) c.truncate.ensures)) i.numbers
 
 pub returns-clause-room : goal.returns-clause-room
 returns-clause-room g c = ap (λ (s : Spotted _). s.room) c.truncate.ensures ∙ c.loop-place.invariant.room
@@ -61,6 +61,6 @@ returns-clause-room g c = ap (λ (s : Spotted _). s.room) c.truncate.ensures ∙
 pub returns-clause-full : goal.returns-clause-full
 returns-clause-full g c =
     let full = packed-full c.loop-place.spots c.loop-place.threads c.args.stamps.now c.loop-place.kept c.loop-place.place
-          c.loop-place.invariant.packs in
+    c.loop-place.invariant.packs in
     ap (λ (s : Spotted _). length s.spots) c.truncate.ensures ∙ full
-        ∙ sym (ap (λ (s : Spotted _). length (operations_in s.spots)) c.truncate.ensures)
+    ∙ sym (ap (λ (s : Spotted _). length (operations_in s.spots)) c.truncate.ensures)

@@ -15,9 +15,9 @@ hang-requires-clause-within g c = omega (arith, c.len.ensures.len, c.requires.ro
 pub returns-clause-hung : goal.returns-clause-hung
 returns-clause-hung g c =
     hung-same (λ q. cond (nat_eq q c.len.result) (Some c.args.wait) (wait_at c.args.spots.now.spots q)) (wait_at c.push.new.self.spots)
-        c.hang.new.threads c.args.stamps.now
+    c.hang.new.threads c.args.stamps.now
     (λ q. ap (λ (s : Spotted _). wait_at s.spots q) c.push.ensures ∙ wait-pushed c.args.spots.now.spots _ c.len.result q
-        c.len.ensures.len) c.hang.ensures.hung
+    c.len.ensures.len) c.hang.ensures.hung
 
 pub returns-clause-value : goal.returns-clause-value
 returns-clause-value g c = ap (λ (s : Spotted _). operations_in s.spots) c.push.ensures ∙ append-operations c.args.spots.now.spots (_ ∷ [])

@@ -12,7 +12,7 @@ returns-clause-hung g c = λ stamps h.
     let off = unhung at c.args.threads.now stamps h c.args.place in
     subst (λ v. IsHung (wait_at c.take.new.self.spots) v stamps) (sym c.unlink.ensures)
     (hung-same (λ q. cond (nat_eq q c.args.place) None (at q)) (wait_at c.take.new.self.spots)
-        (without_place c.args.place c.args.threads.now) stamps
+    (without_place c.args.place c.args.threads.now) stamps
     (λ q. ap (λ (s : Spotted _). wait_at s.spots q) c.take.ensures.rest ∙ emptied-at c.args.place c.args.spots.now.spots q) off)
 
 pub returns-clause-places : goal.returns-clause-places

@@ -15,14 +15,14 @@ further-requires-clause-there g c = c.loop-place.invariant.there
 pub loop-place-smaller : goal.loop-place-smaller
 loop-place-smaller g c =
     (walk-step (λ q. threshold_of (wait_at c.args.spots.now.spots q) ≤ c.args.threshold) c.loop-place.after
-        (thread c.args.thread c.args.threads.now) c.in-Some.place c.loop-place.invariant c.requires.apart c.in-Some.ensures.some.0
-        c.in-Some.ensures.some.1).1
+    (thread c.args.thread c.args.threads.now) c.in-Some.place c.loop-place.invariant c.requires.apart c.in-Some.ensures.some.0
+    c.in-Some.ensures.some.1).1
 
 pub loop-place-preserved : goal.loop-place-preserved
 loop-place-preserved g c =
     (walk-step (λ q. threshold_of (wait_at c.args.spots.now.spots q) ≤ c.args.threshold) c.loop-place.after
-        (thread c.args.thread c.args.threads.now) c.in-Some.place c.loop-place.invariant c.requires.apart c.in-Some.ensures.some.0
-        c.in-Some.ensures.some.1).0
+    (thread c.args.thread c.args.threads.now) c.in-Some.place c.loop-place.invariant c.requires.apart c.in-Some.ensures.some.0
+    c.in-Some.ensures.some.1).0
 
 pub returns : goal.returns
 returns g c = walk-end (wait_at c.args.spots.now.spots) c.args.threshold c.loop-place.after (thread c.args.thread c.args.threads.now)

@@ -18,7 +18,7 @@ pub returns-then-waits_on-clause-hung : goal.returns-then-waits_on-clause-hung
 returns-then-waits_on-clause-hung g c =
     let w = waits-is _ _ (c.waits_on.ensures.yes c.if-waits_on.true) in
     stray-settled (wait_at c.args.spots.now.spots) c.args.threads.now c.args.stamps.now c.requires.hung c.args.ct c.args.place w.0 _
-        (wait_at c.settle.new.self.spots) c.requires.belongs w.1 w.2
+    (wait_at c.settle.new.self.spots) c.requires.belongs w.1 w.2
     (λ q. ap (λ (s : Spotted _). wait_at s.spots q) c.settle.ensures ∙ settled-at c.args.place _ c.args.spots.now.spots q)
 
 pub returns-then-waits_on-clause-same : goal.returns-then-waits_on-clause-same
@@ -31,18 +31,18 @@ pub returns-then-waits_on-clause-told : goal.returns-then-waits_on-clause-told
 returns-then-waits_on-clause-told g c =
     let w = waits-is _ _ (c.waits_on.ensures.yes c.if-waits_on.true) in
     ap (λ (s : Spotted _). map (told_if (waits_on c.args.ct) c.args.sum) (operations_in s.spots)) c.settle.ensures
-        ∙ settled-told c.args.spots.now.spots c.args.place _ c.args.ct c.args.sum w.0 w.1 w.2
+    ∙ settled-told c.args.spots.now.spots c.args.place _ c.args.ct c.args.sum w.0 w.1 w.2
 
 pub returns-then-waits_on-clause-here : goal.returns-then-waits_on-clause-here
 returns-then-waits_on-clause-here g c = λ x e is.
     settled-due c.args.spots.now.spots c.args.place (nat_le c.threshold.result c.args.sum) c.args.sum
-        (ap (λ t. nat_le t c.args.sum) c.threshold.ensures) x (ap (λ (s : Spotted _). wait_at s.spots c.args.place) (sym c.settle.ensures)
-        ∙ e)
+    (ap (λ t. nat_le t c.args.sum) c.threshold.ensures) x (ap (λ (s : Spotted _). wait_at s.spots c.args.place) (sym c.settle.ensures)
+    ∙ e)
 
 pub returns-then-waits_on-clause-others : goal.returns-then-waits_on-clause-others
 returns-then-waits_on-clause-others g c = λ p n.
     ap (λ (s : Spotted _). wait_at s.spots p) c.settle.ensures ∙ settled-at c.args.place _ c.args.spots.now.spots p
-        ∙ rw (ne_eqb p c.args.place n) refl
+    ∙ rw (ne_eqb p c.args.place n) refl
 
 pub returns-else-waits_on-clause-here : goal.returns-else-waits_on-clause-here
 returns-else-waits_on-clause-here g c = λ x e is. absurd (c.waits_on.ensures.no c.if-waits_on.false (is-waits c.args.ct _ x e is))

@@ -13,6 +13,6 @@ give-requires-clause-turn g c = let t = c.take-slot.ensures.taken in let a = c.a
 
 pub returns-clause-parts : goal.returns-clause-parts
 returns-clause-parts g c = let t = c.take-slot.ensures.taken in let w = ap (λ v. v.turn) t.1.taken
-                                                                      ∙ ap (λ (k : ℕ). Some (open_turn k c.take-slot.result.value))
-                                                                      (sym t.0) in
+    ∙ ap (λ (k : ℕ). Some (open_turn k c.take-slot.result.value))
+    (sym t.0) in
     ap (λ v. v.parts) (c.give.ensures.given c.take-slot.result.value w) ∙ (ap (λ v. v.parts) t.1.taken ∙ ap (λ v. v.parts) t.1.alike)

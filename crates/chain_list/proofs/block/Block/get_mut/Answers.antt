@@ -11,7 +11,7 @@ returns g c =
     let place = c.args.place in
     let lt = held-filled _ xs len place (subst (λ v. is_some (get_or v place None) ≡ true) (sym c.self.view_is) c.requires) in
     let here = ap (λ v. get_or v place None) (sym c.self.view_is) ∙ get-held xs len None place None lt
-          ∙ get_or_default xs place None c.index_mut.result.now lt in (
+    ∙ get_or_default xs place None c.index_mut.result.now lt in (
       (refl, λ w. set-held xs len None place (Some w) lt ∙ ap (λ v. set v place (Some w)) c.self.view_is),
       record { writes_back = tt; value = here ∙ sym c.index_mut.ensures.value ∙ c.held_mut.ensures.value },
     )

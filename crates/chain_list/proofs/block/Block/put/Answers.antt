@@ -10,7 +10,7 @@ returns-then-place-len g c =
     let lt : c.args.place < length xs.items = omega (arith, c.if-place-len.true, c.len.ensures, xs.ok.0) in
     ap (λ o. filled_up (set xs.items c.args.place o) c.self.inside.len None) c.fill_place.ensures
     ∙ set-held xs.items c.self.inside.len None c.args.place (Some c.args.item) lt ∙ ap (λ v. set v c.args.place (Some c.args.item))
-        c.self.view_is
+    c.self.view_is
 
 pub returns-else-place-len : goal.returns-else-place-len
 returns-else-place-len g c =
@@ -24,5 +24,5 @@ returns-else-place-len g c =
     let le : length xs.items ≤ place = omega (arith, c.if-place-len.false, c.len.ensures, long) in
     let items : c.push_reserved.new.self.items ≡ filled_up xs.items place None ++ item ∷ [] =
     c.push_reserved.ensures.items ∙ ap (λ l. l ++ item ∷ []) (c.fill_up.ensures.items ∙ ap (λ n. xs.items ++ replicate (place - n) None)
-        long) in
+    long) in
     ap (λ l. filled_up l len None) items ∙ set-blank xs.items len None place item le lt ∙ ap (λ v. set v place item) c.self.view_is

@@ -11,4 +11,4 @@ returns-clause-places g c =
     let place = c.args.place in
     let lt = held-filled _ xs len place (subst (λ v. is_some (get_or v place None) ≡ true) (sym c.self.view_is) c.requires) in
     ap (λ o. filled_up (set xs place o) len None) c.take.ensures.after ∙ set-held xs len None place None lt
-        ∙ ap (λ v. set v place None) c.self.view_is
+    ∙ ap (λ v. set v place None) c.self.view_is

@@ -28,7 +28,7 @@ returns g c =
     let ss = c.self.inside.stamps.items in
     let first = c.self.inside.first in
     let left = λ (w : g.row.T.Denot). ChainKept.entries-chain _ _ _ _ _ (ChainKept.valued-seen _ _ _ _ _ c.self.invariant key s w)
-          ∙ sym (ChainKept.changed-seen _ _ _ _ _ c.self.invariant key s w) in
+    ∙ sym (ChainKept.changed-seen _ _ _ _ _ c.self.invariant key s w) in
     let is = subst (λ o. IfSome o (λ n. c.value_mut.result.now ≡ n.value)) s.node_is c.value_mut.ensures.value in
     rw (← c.self.view_is) (
       (λ i. inl (c.value_mut.result.ghost_name, λ w. chain_list (left w i) m.spare c.self.inside.given)),

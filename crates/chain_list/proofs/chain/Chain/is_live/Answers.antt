@@ -13,4 +13,4 @@ returns-then-place-len g c =
 pub returns-else-place-len : goal.returns-else-place-len
 returns-else-place-len g c =
     le-ltb c.args.key.place c.len.result (omega arith) ∙ live-past _ _ _ _ _ c.self.invariant c.args.key (omega (arith, c.len.ensures))
-        ∙ ap (λ v. is_some (value_at c.args.key v.entries)) c.self.view_is
+    ∙ ap (λ v. is_some (value_at c.args.key v.entries)) c.self.view_is

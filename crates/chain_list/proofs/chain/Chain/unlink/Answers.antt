@@ -24,7 +24,7 @@ set_next-requires g c =
     let s = seen _ _ _ _ _ c.self.invariant key live in
     let lk = subst (λ o. IfSome o (λ n. c.links-before.result ≡ (n.before, n.after))) s.node_is c.links-before.ensures.links in
     subst (λ o. IfSome o (λ p. is_some (get_or c.self.inside.nodes.places p None) ≡ true)) (sym (ap (λ k. k.0) lk))
-        (ChainKept.live-before _ _ _ _ _ c.self.invariant key s)
+    (ChainKept.live-before _ _ _ _ _ c.self.invariant key s)
 
 pub set_previous-requires : goal.set_previous-requires
 set_previous-requires g c =
@@ -37,7 +37,7 @@ set_previous-requires g c =
     let behind = ChainKept.live-behind _ _ _ _ _ c.self.invariant key s b in
     let m1 = c.set_next.ensures.nodes ∙ ap (λ k. relinked_after b k c.self.inside.nodes) (ap (λ k. k.1) lk) in
     subst (λ (q : Option ℕ × NodeMap g.row.T.Denot). IfSome q.0 (λ p. is_some (get_or q.1.places p None) ≡ true))
-        (λ i. ((sym lk i).1, sym m1 i)) behind
+    (λ i. ((sym lk i).1, sym m1 i)) behind
 
 pub set-requires : goal.set-requires
 set-requires g c =
@@ -56,9 +56,9 @@ free-requires g c =
     let s = seen _ _ _ _ _ c.self.invariant key live in
     let lk = subst (λ o. IfSome o (λ n. c.links-before.result ≡ (n.before, n.after))) s.node_is c.links-before.ensures.links in
     let e2 = c.set_previous.ensures.nodes ∙ (λ i. relinked_before (lk i).1 (lk i).0
-          ((c.set_next.ensures.nodes ∙ ap (λ (k : Option ℕ × Option ℕ). relinked_after k.0 k.1 c.self.inside.nodes) lk) i)) in
+    ((c.set_next.ensures.nodes ∙ ap (λ (k : Option ℕ × Option ℕ). relinked_after k.0 k.1 c.self.inside.nodes) lk) i)) in
     subst (λ k. is_some (get_or k.places key.place None) ≡ true) (sym e2)
-        (ap is_some (ChainKept.node-kept _ _ _ _ _ c.self.invariant key s))
+    (ap is_some (ChainKept.node-kept _ _ _ _ _ c.self.invariant key s))
 
 pub invariant_of-self : goal.invariant_of-self
 invariant_of-self g c =
@@ -68,9 +68,9 @@ invariant_of-self g c =
     let s = seen _ _ _ _ _ c.self.invariant key live in
     let lk = subst (λ o. IfSome o (λ n. c.links-before.result ≡ (n.before, n.after))) s.node_is c.links-before.ensures.links in
     let left = ChainKept.unlinked _ _ _ _ _ c.self.invariant key s c.links-before.result c.set_next.new.nodes c.set_previous.new.nodes
-          c.free.new.self _ _ _ lk
+    c.free.new.self _ _ _ lk
     c.set_next.ensures.nodes c.set_next.ensures.first c.set_previous.ensures.nodes c.set_previous.ensures.last c.free.ensures.nodes
-        c.set.ensures.items in
+    c.set.ensures.items in
     ChainKept.settled _ _ _ _ _ left.0
 
 pub returns-clause-value : goal.returns-clause-value
@@ -81,7 +81,7 @@ returns-clause-value g c =
     let s = seen _ _ _ _ _ c.self.invariant key live in
     let lk = subst (λ o. IfSome o (λ n. c.links-before.result ≡ (n.before, n.after))) s.node_is c.links-before.ensures.links in
     let e2 = c.set_previous.ensures.nodes ∙ (λ i. relinked_before (lk i).1 (lk i).0
-          ((c.set_next.ensures.nodes ∙ ap (λ (k : Option ℕ × Option ℕ). relinked_after k.0 k.1 c.self.inside.nodes) lk) i)) in
+    ((c.set_next.ensures.nodes ∙ ap (λ (k : Option ℕ × Option ℕ). relinked_after k.0 k.1 c.self.inside.nodes) lk) i)) in
     let at = ap (λ k. get_or k.places key.place None) e2 ∙ ChainKept.node-kept _ _ _ _ _ c.self.invariant key s in
     let is = subst (λ o. IfSome o (λ n. c.free.result ≡ n.value)) at c.free.ensures.value in
     ap (λ v. Some v) is ∙ sym s.value_is ∙ ap (λ v. value_at key v.entries) c.self.view_is
@@ -94,8 +94,8 @@ returns-clause-taken g c =
     let s = seen _ _ _ _ _ c.self.invariant key live in
     let lk = subst (λ o. IfSome o (λ n. c.links-before.result ≡ (n.before, n.after))) s.node_is c.links-before.ensures.links in
     let left = ChainKept.unlinked _ _ _ _ _ c.self.invariant key s c.links-before.result c.set_next.new.nodes c.set_previous.new.nodes
-          c.free.new.self _ _ _ lk
+    c.free.new.self _ _ _ lk
     c.set_next.ensures.nodes c.set_next.ensures.first c.set_previous.ensures.nodes c.set_previous.ensures.last c.free.ensures.nodes
-        c.set.ensures.items in
+    c.set.ensures.items in
     let is = ChainKept.entries-chain _ _ _ _ _ left.0 ∙ sym (ChainKept.without-seen _ _ _ _ _ c.self.invariant key s) in
     rw (← c.self.view_is) (λ i. chain_list (is i) (left.1 i) c.self.inside.given)

@@ -17,5 +17,5 @@ invariant_of-self-2 g c =
     (omega (arith, c.free_range.ensures.len, end.ok.0, old))
     (λ i lt. c.free_range.ensures.kept i (omega (arith, old)) ∙ ap (λ xs. get_or xs i 0) c.reserve.ensures.items)
     (λ i lt. subst (λ n. get_or end.items (n + i) 0 ≡ length cs + k - 1 - i) old
-        (rw (← c.len-size.ensures) (c.free_range.ensures.added i (omega arith))))
+    (rw (← c.len-size.ensures) (c.free_range.ensures.added i (omega arith))))
     (omega (arith, c.in-Ok.ensures.ok, c.free_range.ensures.capacity, old, c.len.ensures, c.len-size.ensures, free.ok.0)))

@@ -14,5 +14,5 @@ invariant_of-result g c =
     (omega (arith, c.free_range.ensures.len, end.ok.0, c.in-Ok.free.ok.0))
     (λ i lt. c.free_range.ensures.kept i (omega (arith, c.in-Ok.free.ok.0)))
     (λ i lt. subst (λ n. get_or end.items (n + i) 0 ≡ c.args.n - 1 - i) (old ∙ sym (ap length c.in-Ok.ensures.items))
-        (c.free_range.ensures.added i (omega arith)) ∙ ap (λ n. n - 1 - i) all)
+    (c.free_range.ensures.added i (omega arith)) ∙ ap (λ n. n - 1 - i) all)
     (omega (arith, c.in-Ok.ensures.exact, c.free_range.ensures.capacity)))

@@ -9,7 +9,7 @@ returns-then-place-len-clause-items g c =
     let xs = c.self.inside.filled in
     let lt : c.args.place < length xs.items = omega (arith, c.if-place-len.true, c.len.ensures, xs.ok.0) in
     set-held xs.items c.self.inside.len c.self.inside.blank c.args.place c.args.item lt ∙ ap (λ v. set v.items c.args.place c.args.item)
-        c.self.view_is
+    c.self.view_is
 
 pub returns-else-place-len-clause-items : goal.returns-else-place-len-clause-items
 returns-else-place-len-clause-items g c =
@@ -23,6 +23,6 @@ returns-else-place-len-clause-items g c =
     let le : length xs.items ≤ place = omega (arith, c.if-place-len.false, c.len.ensures, long) in
     let items : c.push_reserved.new.self.items ≡ filled_up xs.items place blank ++ c.args.item ∷ [] =
     c.push_reserved.ensures.items ∙ ap (λ l. l ++ c.args.item ∷ []) (c.fill_with.ensures.items
-        ∙ ap (λ n. xs.items ++ replicate (place - n) blank) long) in
+    ∙ ap (λ n. xs.items ++ replicate (place - n) blank) long) in
     ap (λ l. filled_up l len blank) items ∙ set-blank xs.items len blank place c.args.item le lt
-        ∙ ap (λ v. set v.items place c.args.item) c.self.view_is
+    ∙ ap (λ v. set v.items place c.args.item) c.self.view_is

@@ -24,4 +24,4 @@ returns-clause-ok g c =
     let items : c.lengthen.new.self.items ≡ links.items ++ replicate c.args.more no_links =
     c.lengthen.ensures ∙ (λ i. c.reserve.ensures.items i ++ replicate c.args.more (c.no_links.ensures i)) in
     rw (← c.self.view_is) ((λ i. joined (c.in_ok-grow.ensures.ok i) (items i))
-        ∙ joined-more values links.items c.args.more c.self.invariant)
+    ∙ joined-more values links.items c.args.more c.self.invariant)

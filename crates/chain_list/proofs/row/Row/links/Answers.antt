@@ -11,7 +11,7 @@ at-links-requires g c =
     let links = c.self.inside.links in
     let place = c.args.place in
     let held = held_at values links.items place c.self.invariant
-          (subst (λ v. is_some (get_or v place None) ≡ true) (sym c.self.view_is) c.requires) in
+    (subst (λ v. is_some (get_or v place None) ≡ true) (sym c.self.view_is) c.requires) in
     held.within
 
 pub returns : goal.returns
@@ -20,7 +20,7 @@ returns g c =
     let links = c.self.inside.links in
     let place = c.args.place in
     let held = held_at values links.items place c.self.invariant
-          (subst (λ v. is_some (get_or v place None) ≡ true) (sym c.self.view_is) c.requires) in
+    (subst (λ v. is_some (get_or v place None) ≡ true) (sym c.self.view_is) c.requires) in
     let found = c.at-links.result in
     let same : found ≡ held.links = c.at-links.ensures ∙ held.links_is found in
     let pair : Links → Option ℕ × Option ℕ = λ l. (l.before, l.after) in

@@ -12,7 +12,7 @@ at-links-requires g c =
     let links = c.self.inside.links in
     let place = c.args.place in
     let held = held_at values links.items place c.self.invariant
-          (subst (λ v. is_some (get_or v place None) ≡ true) (sym c.self.view_is) c.requires) in
+    (subst (λ v. is_some (get_or v place None) ≡ true) (sym c.self.view_is) c.requires) in
     held.within
 
 pub set-requires : goal.set-requires
@@ -21,7 +21,7 @@ set-requires g c =
     let links = c.self.inside.links in
     let place = c.args.place in
     let held = held_at values links.items place c.self.invariant
-          (subst (λ v. is_some (get_or v place None) ≡ true) (sym c.self.view_is) c.requires) in
+    (subst (λ v. is_some (get_or v place None) ≡ true) (sym c.self.view_is) c.requires) in
     held.within
 
 pub returns : goal.returns
@@ -30,12 +30,12 @@ returns g c =
     let links = c.self.inside.links in
     let place = c.args.place in
     let held = held_at values links.items place c.self.invariant
-          (subst (λ v. is_some (get_or v place None) ≡ true) (sym c.self.view_is) c.requires) in
+    (subst (λ v. is_some (get_or v place None) ≡ true) (sym c.self.view_is) c.requires) in
     let found = c.at-links.result in
     let same : found ≡ held.links = c.at-links.ensures ∙ held.links_is found in
     let now = links_of c.args.to found.after in
     rw (← c.self.view_is) (subst (λ o. IfSome o (λ n. joined values c.set.new.self.items ≡ set (joined values links.items) place
-        (Some (node n.value c.args.to n.after)))) (sym held.node_is)
+    (Some (node n.value c.args.to n.after)))) (sym held.node_is)
     (ap (λ l. joined values l) c.set.ensures.items ∙ set-links values links.items place now held.within
-        ∙ ap (λ o. set (joined values links.items) place o)
+    ∙ ap (λ o. set (joined values links.items) place o)
     (ap (λ o. with_links o now) held.value_is ∙ ap (λ (l : Links). Some (node held.value c.args.to l.after)) same)))

@@ -10,7 +10,7 @@ take-requires g c =
     let links = c.self.inside.links in
     let place = c.args.place in
     let held = held_at values links.items place c.self.invariant
-          (subst (λ v. is_some (get_or v place None) ≡ true) (sym c.self.view_is) c.requires) in
+    (subst (λ v. is_some (get_or v place None) ≡ true) (sym c.self.view_is) c.requires) in
     ap is_some held.value_is
 
 pub returns-clause-value : goal.returns-clause-value
@@ -19,7 +19,7 @@ returns-clause-value g c =
     let links = c.self.inside.links in
     let place = c.args.place in
     let held = held_at values links.items place c.self.invariant
-          (subst (λ v. is_some (get_or v place None) ≡ true) (sym c.self.view_is) c.requires) in
+    (subst (λ v. is_some (get_or v place None) ≡ true) (sym c.self.view_is) c.requires) in
     let found : Some c.take.result ≡ Some held.value = sym c.take.ensures.value ∙ held.value_is in
     let same : c.take.result ≡ held.value = cc in
     rw (← c.self.view_is) (subst (λ o. IfSome o (λ n. c.take.result ≡ n.value)) (sym held.node_is) same)
@@ -30,6 +30,6 @@ returns-clause-places g c =
     let links = c.self.inside.links in
     let place = c.args.place in
     let held = held_at values links.items place c.self.invariant
-          (subst (λ v. is_some (get_or v place None) ≡ true) (sym c.self.view_is) c.requires) in
+    (subst (λ v. is_some (get_or v place None) ≡ true) (sym c.self.view_is) c.requires) in
     rw (← c.self.view_is) (ap (λ v. joined v links.items) c.take.ensures.places ∙ set-value values links.items place None no_links
-        held.within)
+    held.within)

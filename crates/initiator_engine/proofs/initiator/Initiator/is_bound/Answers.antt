@@ -6,4 +6,4 @@ pub returns-clause-alone : goal.returns-clause-alone
 returns-clause-alone c =
     let at = c.at-found.ensures in
     λ bound. rw (← c.self.view_is) (own-slot c.at-found.result (λ p. p.0) c.args.md c.self.inside.mds (sym c.is_live.ensures ∙ bound)
-        at.none at.alone)
+    at.none at.alone)

@@ -13,5 +13,7 @@ returns c =
     let within = rw (← c.self.view_is) at c.requires.within in
     let alone = rw (← c.self.view_is) at c.requires.alone in
     let lt : c.args.ct.slot < length i.cts = omega (arith, within, c.self.invariant.cts_long) in
-    record { value = rw (← c.self.view_is) (c.is_used.ensures.value
-        ∙ ap (λ (n : ℕ). nat_lt 0 n) (c.self.invariant.cts_count c.args.ct.slot lt) ∙ sym (names-ct c.args.ct i.mds.live alone)) }
+    record {
+      value = rw (← c.self.view_is) (c.is_used.ensures.value
+          ∙ ap (λ (n : ℕ). nat_lt 0 n) (c.self.invariant.cts_count c.args.ct.slot lt) ∙ sym (names-ct c.args.ct i.mds.live alone));
+    }

@@ -13,5 +13,7 @@ returns c =
     let within = rw (← c.self.view_is) at c.requires.within in
     let alone = rw (← c.self.view_is) at c.requires.alone in
     let lt : c.args.eq.slot < length i.eqs = omega (arith, within, c.self.invariant.eqs_long) in
-    record { value = rw (← c.self.view_is) (c.is_used.ensures.value
-        ∙ ap (λ (n : ℕ). nat_lt 0 n) (c.self.invariant.eqs_count c.args.eq.slot lt) ∙ sym (names-eq c.args.eq i.mds.live alone)) }
+    record {
+      value = rw (← c.self.view_is) (c.is_used.ensures.value
+          ∙ ap (λ (n : ℕ). nat_lt 0 n) (c.self.invariant.eqs_count c.args.eq.slot lt) ∙ sym (names-eq c.args.eq i.mds.live alone));
+    }

@@ -11,13 +11,18 @@ invariant_of-self g c =
     let slot = subst (λ v. c.args.handle.slot < v.slots) (sym c.self.view_is) c.requires.slot in
     let room = subst (λ v. linked_count v < v.limit) (sym c.self.view_is) c.requires.room in
     subst (λ t. IsLists c.push_back-key.new.self c.self.inside.overflow t c.self.inside.limit c.self.inside.slots)
-        (sym c.set.ensures.items) (subst (λ (k : EntryList). IsLists c.push_back-key.new.self c.self.inside.overflow
-        (set c.self.inside.by_slot.items c.args.handle.slot (Some
-        (record { list = k; handle = c.args.handle; key = c.push_back-key.result }))) c.self.inside.limit c.self.inside.slots)
-        (sym c.in-Priority.is)
+    (sym c.set.ensures.items) (subst (λ (k : EntryList). IsLists c.push_back-key.new.self c.self.inside.overflow
+    (set c.self.inside.by_slot.items c.args.handle.slot (Some
+    (record { list = k; handle = c.args.handle; key = c.push_back-key.result }))) c.self.inside.limit c.self.inside.slots)
+    (sym c.in-Priority.is)
     (IsLists-priority _ _ _ _ _ _ _ _ c.self.invariant c.push_back-key.ensures.chain
-    (omega (arith, room, c.self.invariant.room, length-values c.self.inside.priority.entries,
-        length-values c.self.inside.overflow.entries)) slot free))
+    (omega (
+      arith,
+      room,
+      c.self.invariant.room,
+      length-values c.self.inside.priority.entries,
+      length-values c.self.inside.overflow.entries,
+    )) slot free))
 
 pub invariant_of-self-in-Overflow : goal.invariant_of-self-in-Overflow
 invariant_of-self-in-Overflow g c =
@@ -25,10 +30,15 @@ invariant_of-self-in-Overflow g c =
     let slot = subst (λ v. c.args.handle.slot < v.slots) (sym c.self.view_is) c.requires.slot in
     let room = subst (λ v. linked_count v < v.limit) (sym c.self.view_is) c.requires.room in
     subst (λ t. IsLists c.self.inside.priority c.push_back-key-in-Overflow.new.self t c.self.inside.limit c.self.inside.slots)
-        (sym c.set-in-Overflow.ensures.items) (subst (λ (k : EntryList). IsLists c.self.inside.priority
-        c.push_back-key-in-Overflow.new.self (set c.self.inside.by_slot.items c.args.handle.slot
-        (Some (record { list = k; handle = c.args.handle; key = c.push_back-key-in-Overflow.result }))) c.self.inside.limit
-        c.self.inside.slots) (sym c.in-Overflow.is)
+    (sym c.set-in-Overflow.ensures.items) (subst (λ (k : EntryList). IsLists c.self.inside.priority
+    c.push_back-key-in-Overflow.new.self (set c.self.inside.by_slot.items c.args.handle.slot
+    (Some (record { list = k; handle = c.args.handle; key = c.push_back-key-in-Overflow.result }))) c.self.inside.limit
+    c.self.inside.slots) (sym c.in-Overflow.is)
     (IsLists-overflow _ _ _ _ _ _ _ _ c.self.invariant c.push_back-key-in-Overflow.ensures.chain
-    (omega (arith, room, c.self.invariant.overflow_room, length-values c.self.inside.priority.entries,
-        length-values c.self.inside.overflow.entries)) slot free))
+    (omega (
+      arith,
+      room,
+      c.self.invariant.overflow_room,
+      length-values c.self.inside.priority.entries,
+      length-values c.self.inside.overflow.entries,
+    )) slot free))

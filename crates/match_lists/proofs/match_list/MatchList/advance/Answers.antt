@@ -22,7 +22,7 @@ invariant_of-self g c =
     let looks = c.self.inside.trails.looks.items in
     let now = running_at (l.value.running + c.args.by) l.value in
     let kept = subst (λ (v : Linked). IsMatchList (chain_list (changed c.args.key (running_at (v.running + c.args.by) v) chain.entries)
-          chain.spare chain.given) c.self.inside.trails.threads
+    chain.spare chain.given) c.self.inside.trails.threads
     (set looks c.args.key.place (look_of (running_at (v.running + c.args.by) v))) c.self.inside.limit) (sym same) (record {
       indexed = IsIndexed-advance chain c.self.inside.trails.threads c.self.inside.limit c.args.key c.self.invariant.indexed l
           (l.value.running + c.args.by);

@@ -11,14 +11,14 @@ use Rattle.match_lists.proofs.match_list.MatchList.unlink.Goals as goal
 pub take-requires : goal.take-requires
 take-requires g c =
     let some : is_some (value_at c.args.key c.self.inside.chain.entries) ≡ true =
-          ap is_some (sym c.unlink.ensures.value ∙ c.in_ok-linked.was) in
+    ap is_some (sym c.unlink.ensures.value ∙ c.in_ok-linked.was) in
     let l = live c.self.inside.chain c.args.key c.nodes-nodes.ensures.apart some in
     threaded-place c.self.inside.chain c.self.inside.trails.threads c.self.inside.limit c.args.key c.self.invariant.indexed l
 
 pub invariant_of-self-2 : goal.invariant_of-self-2
 invariant_of-self-2 g c =
     let some : is_some (value_at c.args.key c.self.inside.chain.entries) ≡ true =
-          ap is_some (sym c.unlink.ensures.value ∙ c.in_ok-linked.was) in
+    ap is_some (sym c.unlink.ensures.value ∙ c.in_ok-linked.was) in
     let l = live c.self.inside.chain c.args.key c.nodes-nodes.ensures.apart some in
     record {
       indexed = IsIndexed-unlink c.self.inside.chain c.self.inside.trails.threads c.self.inside.limit c.args.key c.self.invariant.indexed

@@ -8,4 +8,4 @@ pub returns : goal.returns
 returns c =
     let s = c.self.inside in
     rw (← c.self.view_is) (ap (λ (xs : List IndexedHeader). unexpected_list xs s.limit)
-        (drop-set-add s.gone s.unexpected.items c.args.position c.args.unexpected))
+    (drop-set-add s.gone s.unexpected.items c.args.position c.args.unexpected))

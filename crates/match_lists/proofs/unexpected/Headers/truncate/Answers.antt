@@ -9,4 +9,4 @@ returns c =
     let s = c.self.inside in
     rw (← c.self.view_is)
     (ap (λ (xs : List IndexedHeader). unexpected_list xs s.limit) (ap (drop s.gone) c.truncate.ensures.items
-        ∙ drop-take s.gone c.args.len s.unexpected.items))
+    ∙ drop-take s.gone c.args.len s.unexpected.items))

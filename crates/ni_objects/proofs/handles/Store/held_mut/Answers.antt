@@ -13,16 +13,19 @@ returns g c =
     let x = there_live c.args.h c.self.inside.slab c.self.inside.given c.self.inside.limit c.args.self.now c.self.view_is c.requires in
     let same : x.0 ≡ c.index_mut-held.result.now = cc (x.1, c.index_mut-held.ensures.value) in
     let stamp : c.index_mut-held.result.now.stamp ≡ c.args.h.stamp = cc (x.2, same) in (
-      (refl, λ w. table-write c.args.h c.self.inside.slab c.self.inside.given c.self.inside.limit c.args.self.now
-          c.index_mut-held.result.now w c.self.view_is c.index_mut-held.ensures.value stamp),
+      (
+        refl,
+        λ w. table-write c.args.h c.self.inside.slab c.self.inside.given c.self.inside.limit c.args.self.now
+            c.index_mut-held.result.now w c.self.view_is c.index_mut-held.ensures.value stamp,
+      ),
       record {
         writes_back = tt;
         once = λ f. change-once f c.args.h c.self.inside.slab c.self.inside.given c.self.inside.limit c.args.self.now
             c.index_mut-held.result.now c.self.view_is c.index_mut-held.ensures.value stamp;
         value =
             let e : held_in c.args.h (Some c.index_mut-held.result.now) ≡ _ = lookup-read c.args.h c.self.inside.slab c.self.inside.given
-                  c.self.inside.limit c.args.self.now (Some c.index_mut-held.result.now) c.self.view_is
-                  (sym c.index_mut-held.ensures.value) in
+            c.self.inside.limit c.args.self.now (Some c.index_mut-held.result.now) c.self.view_is
+            (sym c.index_mut-held.ensures.value) in
             grind (arith, nat_tests, e, stamp);
       },
     )

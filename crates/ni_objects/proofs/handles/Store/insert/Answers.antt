@@ -7,7 +7,7 @@ use Rattle.ni_objects.proofs.handles.Store.insert.Goals as goal
 pub insert_reserved-slot-requires : goal.insert_reserved-slot-requires
 insert_reserved-slot-requires g c =
     let e : length c.args.self.now.live ≡ _ = length-table_of c.self.inside.slab c.self.inside.given c.self.inside.limit c.args.self.now
-          c.self.view_is in
+    c.self.view_is in
     let l : c.self.inside.limit ≡ c.args.self.now.limit = ap (λ t. t.limit) c.self.view_is in
     grind (arith, nat_tests, e, l, c.is_full.ensures, c.if-is_full.false, c.self.invariant.room)
 

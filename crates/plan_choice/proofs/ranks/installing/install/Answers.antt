@@ -14,8 +14,11 @@ use Rattle.plan_choice.proofs.ranks.installing.install.Goals as goal
 pub open-requires-clause-fit : goal.open-requires-clause-fit
 open-requires-clause-fit c =
     let at_most = c.requires.at_most in
-    subst FitLimits (sym (c.limits_for-limits.ensures c.args.kinds.now refl)) (omega (arith, at_most), omega (arith, at_most),
-        omega (arith, at_most))
+    subst FitLimits (sym (c.limits_for-limits.ensures c.args.kinds.now refl)) (
+      omega (arith, at_most),
+      omega (arith, at_most),
+      omega (arith, at_most),
+    )
 
 pub make_all-requires-clause-wide : goal.make_all-requires-clause-wide
 make_all-requires-clause-wide c =

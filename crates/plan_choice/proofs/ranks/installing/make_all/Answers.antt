@@ -1,6 +1,6 @@
 -- By `Whole`.
-use Rattle.plan_choice.proofs.ranks.Whole.{all_made, counters_all, descriptors_all, done_made, first_made, first_room, go_made, go_room,
-    none_bound, steps_room, still_wide, two_made, words_room}
+use Rattle.plan_choice.proofs.ranks.Whole.{all_made, counters_all, descriptors_all, done_made, first_made, first_room, go_made, go_room}
+use Rattle.plan_choice.proofs.ranks.Whole.{none_bound, steps_room, still_wide, two_made, words_room}
 use Rattle.plan_choice.proofs.ranks.installing.make_all.Goals as goal
 
 pub make_counter-requires-clause-all : goal.make_counter-requires-clause-all

@@ -24,7 +24,7 @@ few_kinds ks xs ys e same at_most =
 pub seat_all-requires : goal.seat_all-requires
 seat_all-requires c =
     let at_most = few_kinds c.in_ok-kinds.kinds.items c.steps.result.now c.args.choices.now.steps c.in_ok-kinds.ensures
-          c.steps.ensures.value
+    c.steps.ensures.value
     c.steps.ensures.are.at_most in
     let here = ap length c.deref.ensures.value in
     omega (arith, at_most, here)
@@ -51,20 +51,20 @@ invariant_of-result c =
     let seats = c.in_ok-seats.seats.items in
     let ks = c.in_ok-kinds.kinds.items in
     let few_steps = few_kinds ks c.steps.result.now c.args.choices.now.steps c.in_ok-kinds.ensures c.steps.ensures.value
-          c.steps.ensures.are.at_most in
+    c.steps.ensures.are.at_most in
     let installed = subst (λ (k : List ChoiceKind). (r : ℕ) → r < c.args.ranks → IsInstalled c.args.ranks k r (seat_at seats r))
     c.deref.ensures.value c.in_ok-seats.ensures.seats in
     let of_starts = subst (λ (v : List ChoiceRankState). (r : ℕ) → r < length v →
-          get_or c.in_ok-starts.starts r 0 ≡ start_count (seat_at v r))
+    get_or c.in_ok-starts.starts r 0 ≡ start_count (seat_at v r))
     c.deref-2.ensures.value c.in_ok-starts.ensures.counts in
     let of_firings = subst (λ (v : List ChoiceRankState). (r : ℕ) → r < length v → get_or c.in_ok-firings.firings r 0 ≡ firing_count
-          (seat_at v r))
+    (seat_at v r))
     c.deref-3.ensures.value c.in_ok-firings.ensures.counts in
     let count : c.len.result ≡ length ks = (let n = c.len.ensures in let o = c.in_ok-kinds.kinds.ok.0 in omega (arith, n, o)) in
     let laid = subst (λ m. (s d : ℕ) (lane : Lane) → s < c.args.ranks → d < c.args.ranks →
     lane_at c.in_ok-lanes.lanes.items (lane_place c.args.ranks s d lane) ≡ laid_lane m s d lane) count c.in_ok-lanes.ensures.laid in
     opened_fields c.args.ranks ks c.requires.nonempty c.requires.at_most few_steps seats c.in_ok-seats.ensures.size installed
-        c.in_ok-lanes.lanes.items
+    c.in_ok-lanes.lanes.items
     c.in_ok-lanes.ensures.size laid c.in_ok-starts.starts c.in_ok-deliveries.deliveries c.in_ok-firings.firings
     (c.in_ok-starts.ensures.size ∙ ap length c.deref-2.ensures.value) of_starts c.in_ok-deliveries.ensures
     (c.in_ok-firings.ensures.size ∙ ap length c.deref-3.ensures.value) of_firings
@@ -74,14 +74,14 @@ returns-clause-first c =
     let seats = c.in_ok-seats.seats.items in
     let ks = c.in_ok-kinds.kinds.items in
     let few_steps = few_kinds ks c.steps.result.now c.args.choices.now.steps c.in_ok-kinds.ensures c.steps.ensures.value
-          c.steps.ensures.are.at_most in
+    c.steps.ensures.are.at_most in
     let installed = subst (λ (k : List ChoiceKind). (r : ℕ) → r < c.args.ranks → IsInstalled c.args.ranks k r (seat_at seats r))
     c.deref.ensures.value c.in_ok-seats.ensures.seats in
     let count : c.len.result ≡ length ks = (let n = c.len.ensures in let o = c.in_ok-kinds.kinds.ok.0 in omega (arith, n, o)) in
     let laid = subst (λ m. (s d : ℕ) (lane : Lane) → s < c.args.ranks → d < c.args.ranks →
     lane_at c.in_ok-lanes.lanes.items (lane_place c.args.ranks s d lane) ≡ laid_lane m s d lane) count c.in_ok-lanes.ensures.laid in
     is_first c.args.ranks ks c.requires.nonempty c.requires.at_most few_steps seats c.in_ok-seats.ensures.size installed
-        c.in_ok-lanes.lanes.items
+    c.in_ok-lanes.lanes.items
     c.in_ok-lanes.ensures.size laid
 
 pub returns-clause-kept : goal.returns-clause-kept
@@ -89,12 +89,12 @@ returns-clause-kept c =
     let seats = c.in_ok-seats.seats.items in
     let ks = c.in_ok-kinds.kinds.items in
     let few_steps = few_kinds ks c.steps.result.now c.args.choices.now.steps c.in_ok-kinds.ensures c.steps.ensures.value
-          c.steps.ensures.are.at_most in
+    c.steps.ensures.are.at_most in
     let installed = subst (λ (k : List ChoiceKind). (r : ℕ) → r < c.args.ranks → IsInstalled c.args.ranks k r (seat_at seats r))
     c.deref.ensures.value c.in_ok-seats.ensures.seats in
     let count : c.len.result ≡ length ks = (let n = c.len.ensures in let o = c.in_ok-kinds.kinds.ok.0 in omega (arith, n, o)) in
     let laid = subst (λ m. (s d : ℕ) (lane : Lane) → s < c.args.ranks → d < c.args.ranks →
     lane_at c.in_ok-lanes.lanes.items (lane_place c.args.ranks s d lane) ≡ laid_lane m s d lane) count c.in_ok-lanes.ensures.laid in
     standing c.args.ranks ks c.requires.nonempty c.requires.at_most few_steps seats c.in_ok-seats.ensures.size installed
-        c.in_ok-lanes.lanes.items
+    c.in_ok-lanes.lanes.items
     c.in_ok-lanes.ensures.size laid

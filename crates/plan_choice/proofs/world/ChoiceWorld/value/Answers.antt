@@ -21,7 +21,7 @@ word_at-requires c =
     let inside : c.args.r < length s.seats.items = omega (arith, h, size) in
     let w : ChoiceState = record { ranks = s.ranks; kinds = s.kinds.items; seats = s.seats.items; lanes = s.lanes.items } in
     let within = words_within w.ranks w.kinds (slots_at w) is.in_range (histories_in w) (scene_in w).held (moment_in w is) c.args.r
-          c.args.step i in
+    c.args.step i in
     let same = ap length (c.memory-memory.ensures.value ∙ ap (λ (v : State). v.memory) (c.nic.ensures
     ∙ ap (λ (x : ChoiceRankState). x.nic) (get_or_read s.seats.items c.args.r c.index.result.now inside c.index.ensures no_seated)
     ∙ is.nic c.args.r h)) in

@@ -10,7 +10,7 @@ loop-w-init c =
     let s = c.args.site.now in
     c.in_ok-push.ensures.items
     ∙ ap₂ (λ x k. x ++ k ∷ []) c.new-links.ensures.items (c.atomic.ensures
-        ∙ ap₂ atomic c.length.ensures.value (c.entry.ensures.value ∙ ap (entry s) c.turned.ensures.value))
+    ∙ ap₂ atomic c.length.ensures.value (c.entry.ensures.value ∙ ap (entry s) c.turned.ensures.value))
     ∙ sym (first-link (up_number s) (atomic s.length) (entry s (turned s c.args.root c.args.v)) c.args.v)
 
 pub loop-w-preserved : goal.loop-w-preserved
@@ -30,5 +30,5 @@ returns c =
     let u = c.loop-w.auto in
     c.loop-w.invariant
     ∙ ap (λ w. map (atomic s.length) (entry s (turned s c.args.root c.args.v) ∷ map (up_number s)
-        (children c.args.v (suc c.args.v) (w - suc c.args.v))))
+    (children c.args.v (suc c.args.v) (w - suc c.args.v))))
     (let e : c.loop-w.w ≡ count s = omega (arith, n, v, t, u.w, u.w-end) in e)

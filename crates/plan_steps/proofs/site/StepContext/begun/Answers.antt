@@ -27,5 +27,5 @@ invariant_of-result c =
       bytes = c.read_data-ty.ensures.most;
       holding = omega (arith, h, f, m);
       low = λ i l. (let r = filter-below (λ i. is_in (get_or g i 0) (read_buffer c.args.shape.now c.args.read).spread.holders) (length g)
-                          i c.in_ok-holding_of.field-0.items c.in_ok-holding_of.ensures l in omega (arith, r, m));
+          i c.in_ok-holding_of.field-0.items c.in_ok-holding_of.ensures l in omega (arith, r, m));
     }

@@ -7,7 +7,7 @@ use Rattle.plan_tables.proofs.index.Index.own_at.Goals as goal
 
 pub at-requires : goal.at-requires
 at-requires c = let e = length-table (own c.args.plan.now) c.args.plan.now.ranks c.args.self.now.own c.requires.index.own in let h =
-                                                                                                                                   c.requires.rank in omega (arith, e, h)
+    c.requires.rank in omega (arith, e, h)
 
 pub returns-clause-value : goal.returns-clause-value
 returns-clause-value c = c.at.ensures ∙ ap (λ t. get_or t c.args.r []) c.requires.index.own

@@ -10,7 +10,7 @@ pub at-requires : goal.at-requires
 at-requires c =
     let p = c.args.plan.now in
     let e = length-table (λ i. sum_by (link_length p) (of_key (lane_key p) (length p.links) i)) (p.ranks * p.ranks) c.args.self.now.bytes
-          c.requires.bytes in
+    c.requires.bytes in
     let r = ap (λ v. c.args.s * v + c.args.d) c.ranks-ranks.ensures in
     let k = pair-in p.ranks c.args.s c.args.d c.requires.source c.requires.target in
     omega (arith, e, r, k)

@@ -20,6 +20,9 @@ pub returns : goal.returns
 returns c =
     let n = c.self.inside in
     let made = c.make.ensures in
-    record { makes = rw (← c.self.view_is) (alloc-makes n.target n.region n.cts n.eqs n.initiator n.pending n.drops n.violations
-        c.new.result c.make.new.things c.make.result c.new.ensures made.err made.unchanged made.ok made.stamp made.free made.made); slot =
-        rw (← c.self.view_is) (subst (λ m. IfOk c.make.result (λ h. h.slot < m)) c.self.invariant.stands.limits.counting_events made.slot) }
+    record {
+      makes = rw (← c.self.view_is) (alloc-makes n.target n.region n.cts n.eqs n.initiator n.pending n.drops n.violations
+          c.new.result c.make.new.things c.make.result c.new.ensures made.err made.unchanged made.ok made.stamp made.free made.made);
+      slot =
+          rw (← c.self.view_is) (subst (λ m. IfOk c.make.result (λ h. h.slot < m)) c.self.invariant.stands.limits.counting_events made.slot);
+    }

@@ -16,6 +16,8 @@ invariant_of-self c =
 pub returns : goal.returns
 returns c =
     let n = c.self.inside in
-    record { does = rw (← c.self.view_is) (cancel-ends n.target n.region n.cts n.eqs n.initiator n.pending n.drops n.violations c.args.ct
-        c.cancel.result c.cancel.new.self c.is_live.result c.is_live.ensures c.if-not-is_live.false c.cancel.ensures.number
-        c.cancel.ensures.rest) }
+    record {
+      does = rw (← c.self.view_is) (cancel-ends n.target n.region n.cts n.eqs n.initiator n.pending n.drops n.violations c.args.ct
+          c.cancel.result c.cancel.new.self c.is_live.result c.is_live.ensures c.if-not-is_live.false c.cancel.ensures.number
+          c.cancel.ensures.rest);
+    }

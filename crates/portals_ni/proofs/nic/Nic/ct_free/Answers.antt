@@ -52,7 +52,9 @@ invariant_of-self c =
 pub returns : goal.returns
 returns c =
     let n = c.self.inside in
-    record { does = rw (← c.self.view_is) (free-ends n.target n.region n.cts n.eqs n.initiator n.pending n.drops n.violations c.args.ct
-        c.remove.new.self c.is_live.result c.is_live.ensures c.if-not-is_live.false (sym c.names_ct.ensures.value ∙ c.if-names_ct.false)
-        (sym c.names_ct-else-names_ct.ensures.value ∙ c.if-names_ct-2.false) (sym c.names_ct-else-names_ct-2.ensures.value
-        ∙ c.if-names_ct-3.false) c.remove.ensures.rest) }
+    record {
+      does = rw (← c.self.view_is) (free-ends n.target n.region n.cts n.eqs n.initiator n.pending n.drops n.violations c.args.ct
+          c.remove.new.self c.is_live.result c.is_live.ensures c.if-not-is_live.false (sym c.names_ct.ensures.value ∙ c.if-names_ct.false)
+          (sym c.names_ct-else-names_ct.ensures.value ∙ c.if-names_ct-2.false) (sym c.names_ct-else-names_ct-2.ensures.value
+          ∙ c.if-names_ct-3.false) c.remove.ensures.rest);
+    }

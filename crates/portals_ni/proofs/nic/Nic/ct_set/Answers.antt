@@ -11,7 +11,7 @@ pub invariant_of-self-2 : goal.invariant_of-self-2
 invariant_of-self-2 c =
     let n = c.self.inside in
     let changes : ChangesAt (Some c.args.ct) n.cts c.set_counter.new.cts =
-          rw c.in_ok-set_counter.ensures.ok (changes-one c.args.ct _ n.cts) in
+    rw c.in_ok-set_counter.ensures.ok (changes-one c.args.ct _ n.cts) in
     let none : ct_set_fault c.args.ct c.args.to n.cts ≡ None = no-fault _ (sym c.set_counter.ensures.answer ∙ c.in_ok-set_counter.was) in
     record {
       sound = rw c.tell.ensures (count-sound n.target n.region n.cts c.set_counter.new.cts n.initiator n.pending (Some c.args.ct)
@@ -25,5 +25,7 @@ pub returns : goal.returns
 returns c =
     let n = c.self.inside in
     let none : ct_set_fault c.args.ct c.args.to n.cts ≡ None = no-fault _ (sym c.set_counter.ensures.answer ∙ c.in_ok-set_counter.was) in
-    record { does = rw (← c.self.view_is) (set-ends n.target n.region n.cts n.eqs n.initiator n.pending n.drops n.violations c.args.ct
-        c.args.to c.set_counter.new.cts c.tell.new.pending none c.in_ok-set_counter.ensures.ok c.tell.ensures) }
+    record {
+      does = rw (← c.self.view_is) (set-ends n.target n.region n.cts n.eqs n.initiator n.pending n.drops n.violations c.args.ct
+          c.args.to c.set_counter.new.cts c.tell.new.pending none c.in_ok-set_counter.ensures.ok c.tell.ensures);
+    }

@@ -10,24 +10,33 @@ pub returns-then-is_full : goal.returns-then-is_full
 returns-then-is_full c =
     let n = c.self.inside in
     let full : is_full n.eqs ≡ true = sym c.is_full.ensures ∙ c.if-is_full.true in
-    record { makes = rw (← c.self.view_is) (queue-full n.target n.region n.cts n.eqs n.initiator n.pending n.drops n.violations
-        c.args.room full); slot = tt }
+    record {
+      makes = rw (← c.self.view_is) (queue-full n.target n.region n.cts n.eqs n.initiator n.pending n.drops n.violations
+          c.args.room full);
+      slot = tt;
+    }
 
 pub returns-in-Err : goal.returns-in-Err
 returns-in-Err c =
     let n = c.self.inside in
     let full : is_full n.eqs ≡ false = sym c.is_full.ensures ∙ c.if-is_full.false in
-    record { makes = rw (← c.self.view_is) (queue-lacks n.target n.region n.cts n.eqs n.initiator n.pending n.drops n.violations
-        c.args.room full); slot = tt }
+    record {
+      makes = rw (← c.self.view_is) (queue-lacks n.target n.region n.cts n.eqs n.initiator n.pending n.drops n.violations
+          c.args.room full);
+      slot = tt;
+    }
 
 pub returns : goal.returns
 returns c =
     let n = c.self.inside in
     let made = c.make.ensures in
-    record { makes = rw (← c.self.view_is) (queue-makes n.target n.region n.cts n.eqs n.initiator n.pending n.drops n.violations
-        c.args.room c.in-Ok.queue c.make.new.things c.make.result c.in-Ok.ensures made.err made.unchanged made.ok made.stamp made.free
-        made.made); slot = rw (← c.self.view_is) (subst (λ m. IfOk c.make.result (λ h. h.slot < m)) c.self.invariant.stands.limits.queues
-        made.slot) }
+    record {
+      makes = rw (← c.self.view_is) (queue-makes n.target n.region n.cts n.eqs n.initiator n.pending n.drops n.violations
+          c.args.room c.in-Ok.queue c.make.new.things c.make.result c.in-Ok.ensures made.err made.unchanged made.ok made.stamp made.free
+          made.made);
+      slot = rw (← c.self.view_is) (subst (λ m. IfOk c.make.result (λ h. h.slot < m)) c.self.invariant.stands.limits.queues
+          made.slot);
+    }
 
 pub invariant_of-self : goal.invariant_of-self
 invariant_of-self c =

@@ -31,9 +31,11 @@ names_eq-requires-else-names_eq c =
 pub returns : goal.returns
 returns c =
     let n = c.self.inside in
-    record { does = rw (← c.self.view_is) (unqueue-ends n.target n.region n.cts n.eqs n.initiator n.pending n.drops n.violations c.args.eq
-        c.remove.new.self c.is_live.result c.is_live.ensures c.if-not-is_live.false (sym c.names_eq.ensures.value ∙ c.if-names_eq.false)
-        (sym c.names_eq-else-names_eq.ensures.value ∙ c.if-names_eq-2.false) c.remove.ensures.rest) }
+    record {
+      does = rw (← c.self.view_is) (unqueue-ends n.target n.region n.cts n.eqs n.initiator n.pending n.drops n.violations c.args.eq
+          c.remove.new.self c.is_live.result c.is_live.ensures c.if-not-is_live.false (sym c.names_eq.ensures.value ∙ c.if-names_eq.false)
+          (sym c.names_eq-else-names_eq.ensures.value ∙ c.if-names_eq-2.false) c.remove.ensures.rest);
+    }
 
 pub invariant_of-self : goal.invariant_of-self
 invariant_of-self c =

@@ -20,6 +20,9 @@ pub returns : goal.returns
 returns c =
     let n = c.self.inside in
     let made = c.bind.ensures in
-    record { makes = rw (← c.self.view_is) (bind-makes n.target n.region n.cts n.eqs n.initiator n.pending n.drops n.violations c.args.md
-        c.bind.new.self c.bind.result made.err made.unchanged made.ok made.stamp made.free made.bound); slot =
-        rw (← c.self.view_is) (subst (λ m. IfOk c.bind.result (λ h. h.slot < m)) c.self.invariant.stands.limits.descriptors made.slot) }
+    record {
+      makes = rw (← c.self.view_is) (bind-makes n.target n.region n.cts n.eqs n.initiator n.pending n.drops n.violations c.args.md
+          c.bind.new.self c.bind.result made.err made.unchanged made.ok made.stamp made.free made.bound);
+      slot =
+          rw (← c.self.view_is) (subst (λ m. IfOk c.bind.result (λ h. h.slot < m)) c.self.invariant.stands.limits.descriptors made.slot);
+    }

@@ -7,8 +7,10 @@ use Rattle.portals_ni.proofs.nic.Nic.md_release.Goals as goal
 pub names_md-requires : goal.names_md-requires
 names_md-requires c =
     let n = c.self.inside in
-    record { alone = operation-mds-alone c.args.md n.initiator.mds n.initiator.ranks n.initiator.limits n.pending.waiting
-        (c.is_bound.ensures.alone c.if-not-is_bound.false) c.self.invariant.sound.armed }
+    record {
+      alone = operation-mds-alone c.args.md n.initiator.mds n.initiator.ranks n.initiator.limits n.pending.waiting
+          (c.is_bound.ensures.alone c.if-not-is_bound.false) c.self.invariant.sound.armed;
+    }
 
 pub invariant_of-self : goal.invariant_of-self
 invariant_of-self c =

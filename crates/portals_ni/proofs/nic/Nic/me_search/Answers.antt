@@ -11,8 +11,8 @@ invariant_of-self c =
     let n = c.self.inside in
     let found = IfOk-weaker c.search.result _ _ (λ x all. all n.region n.cts) c.search.ensures.searched in
     let same : OnOk c.search.result ((c.search.new.self.rank ≡ n.target.rank) × (c.search.new.self.limit ≡ n.target.limit)) =
-          search-rank n.target c.search.new.self n.region n.cts n.eqs c.search.new.eqs c.args.pt c.args.entry.now c.args.delete
-          c.search.result c.self.invariant.sound.parts found in
+    search-rank n.target c.search.new.self n.region n.cts n.eqs c.search.new.eqs c.args.pt c.args.entry.now c.args.delete
+    c.search.result c.self.invariant.sound.parts found in
     record {
       sound = searched-sound n.target c.search.new.self n.region n.cts n.eqs c.search.new.eqs n.initiator n.pending c.args.pt
           c.args.entry.now c.args.delete c.search.result c.self.invariant.sound c.search.ensures.unchanged found;
@@ -28,8 +28,10 @@ returns c =
     let n = c.self.inside in
     let found = IfOk-weaker c.search.result _ _ (λ x all. all n.region n.cts) c.search.ensures.searched in
     let same : OnOk c.search.result ((c.search.new.self.rank ≡ n.target.rank) × (c.search.new.self.limit ≡ n.target.limit)) =
-          search-rank n.target c.search.new.self n.region n.cts n.eqs c.search.new.eqs c.args.pt c.args.entry.now c.args.delete
-          c.search.result c.self.invariant.sound.parts found in
-    record { does = rw (← c.self.view_is) (search-ends n.target n.region n.cts n.eqs n.initiator n.pending n.drops n.violations c.args.pt
-        c.args.entry.now c.args.delete c.search.new.self c.search.new.eqs c.search.result c.search.ensures.err c.search.ensures.unchanged
-        c.search.ensures.ok (on_ok_weaker c.search.result (λ p. p.0) same) (on_ok_weaker c.search.result (λ p. p.1) same) found) }
+    search-rank n.target c.search.new.self n.region n.cts n.eqs c.search.new.eqs c.args.pt c.args.entry.now c.args.delete
+    c.search.result c.self.invariant.sound.parts found in
+    record {
+      does = rw (← c.self.view_is) (search-ends n.target n.region n.cts n.eqs n.initiator n.pending n.drops n.violations c.args.pt
+          c.args.entry.now c.args.delete c.search.new.self c.search.new.eqs c.search.result c.search.ensures.err c.search.ensures.unchanged
+          c.search.ensures.ok (on_ok_weaker c.search.result (λ p. p.0) same) (on_ok_weaker c.search.result (λ p. p.1) same) found);
+    }

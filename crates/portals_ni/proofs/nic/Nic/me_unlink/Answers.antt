@@ -18,5 +18,7 @@ pub returns : goal.returns
 returns c =
     let n = c.self.inside in
     let gone = c.unlink.ensures in
-    record { does = rw (← c.self.view_is) (unlink-ends n.target n.region n.cts n.eqs n.initiator n.pending n.drops n.violations c.args.me
-        c.unlink.new.self c.unlink.result gone.err gone.unchanged gone.ok gone.unlinked) }
+    record {
+      does = rw (← c.self.view_is) (unlink-ends n.target n.region n.cts n.eqs n.initiator n.pending n.drops n.violations c.args.me
+          c.unlink.new.self c.unlink.result gone.err gone.unchanged gone.ok gone.unlinked);
+    }

@@ -10,8 +10,10 @@ pub returns : goal.returns
 returns c =
     let n = c.self.inside in
     let made = c.pt_alloc.ensures in
-    record { does = rw (← c.self.view_is) (pt-ends n.target n.region n.cts n.eqs n.initiator n.pending n.drops n.violations c.args.index
-        c.args.eq c.pt_alloc.new.self c.pt_alloc.result made.err made.unchanged made.ok made.allocated) }
+    record {
+      does = rw (← c.self.view_is) (pt-ends n.target n.region n.cts n.eqs n.initiator n.pending n.drops n.violations c.args.index
+          c.args.eq c.pt_alloc.new.self c.pt_alloc.result made.err made.unchanged made.ok made.allocated);
+    }
 
 pub invariant_of-self : goal.invariant_of-self
 invariant_of-self c =

@@ -18,5 +18,7 @@ returns c =
     let n = c.self.inside in
     let kept = rw c.waiting-waiting.ensures.value at c.ready_at.ensures.kept in
     let found = rw c.waiting-waiting.ensures.value at c.ready_at.ensures.value in
-    record { value = rw (← c.self.view_is) (ap (λ (xs : List ℕ). slice_get xs c.args.i)
-        (due-are n.cts n.pending kept.rising c.self.invariant.sound.told) ∙ found) }
+    record {
+      value = rw (← c.self.view_is) (ap (λ (xs : List ℕ). slice_get xs c.args.i)
+          (due-are n.cts n.pending kept.rising c.self.invariant.sound.told) ∙ found);
+    }

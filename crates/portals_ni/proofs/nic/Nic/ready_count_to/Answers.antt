@@ -10,6 +10,8 @@ returns c =
     let n = c.self.inside in
     let kept = rw c.waiting.ensures.value at c.count_to.ensures.kept in
     let counted = rw c.waiting.ensures.value at c.count_to.ensures.value in
-    record { value = rw (← c.self.view_is) (counted ∙ sym (ap
-        (λ (xs : List ℕ). length (filter (λ t. is_rank c.args.target (target_of (posted_at t (posted_all deed_in n.pending)))) xs))
-        (due-are n.cts n.pending kept.rising c.self.invariant.sound.told))) }
+    record {
+      value = rw (← c.self.view_is) (counted ∙ sym (ap
+          (λ (xs : List ℕ). length (filter (λ t. is_rank c.args.target (target_of (posted_at t (posted_all deed_in n.pending)))) xs))
+          (due-are n.cts n.pending kept.rising c.self.invariant.sound.told)));
+    }

@@ -27,7 +27,7 @@ invariant_of-self c =
     let ct = c.start-message.result.1 in
     let old = home n.initiator.mds n.region n.cts n.eqs in
     let keeps : KeepsHome old (home new.self.mds n.region new.cts new.eqs) ct = subst (λ (s : Started). KeepsHome old s.home s.counted)
-          (sym c.start-message.ensures.started) (started-keeps n.initiator.rank old c.args.deed.now c.self.invariant.sound.bound) in
+    (sym c.start-message.ensures.started) (started-keeps n.initiator.rank old c.args.deed.now c.self.invariant.sound.bound) in
     let none : deed_fault c.args.deed.now n.initiator.mds ≡ None = no-fault _ (sym c.check.ensures.value ∙ c.in_ok-check.was) in
     record {
       sound = rw c.tell.ensures (subst (λ x. IsSound n.target n.region new.cts x (told_by ct new.cts n.pending))
@@ -45,5 +45,5 @@ returns c =
     let new = c.start-message.new in
     let none : deed_fault c.args.deed.now n.initiator.mds ≡ None = no-fault _ (sym c.check.ensures.value ∙ c.in_ok-check.was) in
     rw (← c.self.view_is) (start-may n.target n.region n.cts n.eqs n.initiator n.pending n.drops n.violations c.args.deed.now new.self
-        new.cts new.eqs c.tell.new.pending c.start-message.result.0 c.start-message.result.1 none c.self.invariant.sound.rank
-        c.start-message.ensures.started c.start-message.ensures.rest c.tell.ensures)
+    new.cts new.eqs c.tell.new.pending c.start-message.result.0 c.start-message.result.1 none c.self.invariant.sound.rank
+    c.start-message.ensures.started c.start-message.ensures.rest c.tell.ensures)

@@ -17,7 +17,7 @@ invariant_of-self c =
     let old = home n.initiator.mds n.region n.cts n.eqs in
     let kept : IsKept c.args.message = sym (ap length c.bytes-bytes.ensures.list) ∙ c.bytes-bytes.ensures.kept.bytes in
     let keeps : KeepsHome old (home new.self.mds new.region new.cts new.eqs) ct = subst (λ (s : Returned). KeepsHome old s.home s.counted)
-          (sym c.answer-outcome.ensures.answered) (answered-keeps old c.args.message c.self.invariant.sound.bound kept) in
+    (sym c.answer-outcome.ensures.answered) (answered-keeps old c.args.message c.self.invariant.sound.bound kept) in
     record {
       sound = rw c.tell.ensures (subst (λ x. IsSound n.target new.region new.cts x (told_by ct new.cts n.pending))
           (sym c.answer-outcome.ensures.rest) (home-sound n.target n.region new.region n.cts new.cts n.eqs new.eqs n.initiator
@@ -34,6 +34,6 @@ returns c =
     let n = c.self.inside in
     let new = c.answer-outcome.new in
     rw (← c.self.view_is) (answer-ends n.target n.region n.cts n.eqs n.initiator n.pending n.drops n.violations c.args.message new.self
-        new.region new.cts new.eqs c.tell.new.pending c.answer-outcome.result.0 c.answer-outcome.result.1 c.raise_drops-self-inside.result
-        c.raise_violations-self-inside.result c.answer-outcome.ensures.answered c.answer-outcome.ensures.rest c.tell.ensures
-        c.raise_drops-self-inside.ensures c.raise_violations-self-inside.ensures)
+    new.region new.cts new.eqs c.tell.new.pending c.answer-outcome.result.0 c.answer-outcome.result.1 c.raise_drops-self-inside.result
+    c.raise_violations-self-inside.result c.answer-outcome.ensures.answered c.answer-outcome.ensures.rest c.tell.ensures
+    c.raise_drops-self-inside.ensures c.raise_violations-self-inside.ensures)

@@ -13,7 +13,7 @@ invariant_of-self c =
     let ct = c.request-arrived.result.counted in
     let old = parts n.target n.region n.cts n.eqs in
     let keeps : Keeps old (parts new.self new.region new.cts new.eqs) ct = subst (RequestKeeps old) (sym c.request-arrived.ensures.does)
-          (request-keeps old c.args.message c.self.invariant.sound.parts) in
+    (request-keeps old c.args.message c.self.invariant.sound.parts) in
     record {
       sound = rw c.tell.ensures (target-sound n.target new.self n.region new.region n.cts new.cts n.eqs new.eqs n.initiator n.pending ct
           c.self.invariant.sound keeps);
@@ -31,8 +31,8 @@ returns c =
     let ct = c.request-arrived.result.counted in
     let old = parts n.target n.region n.cts n.eqs in
     let keeps : Keeps old (parts new.self new.region new.cts new.eqs) ct = subst (RequestKeeps old) (sym c.request-arrived.ensures.does)
-          (request-keeps old c.args.message c.self.invariant.sound.parts) in
+    (request-keeps old c.args.message c.self.invariant.sound.parts) in
     rw (← c.self.view_is) (request-ends n.target n.region n.cts n.eqs n.initiator n.pending n.drops n.violations c.args.message new.self
-        new.region new.cts new.eqs c.tell.new.pending c.request-arrived.result c.raise_drops-self-inside.result
-        c.raise_violations-self-inside.result c.request-arrived.ensures.does keeps.rank keeps.limit c.tell.ensures
-        c.raise_drops-self-inside.ensures c.raise_violations-self-inside.ensures)
+    new.region new.cts new.eqs c.tell.new.pending c.request-arrived.result c.raise_drops-self-inside.result
+    c.raise_violations-self-inside.result c.request-arrived.ensures.does keeps.rank keeps.limit c.tell.ensures
+    c.raise_drops-self-inside.ensures c.raise_violations-self-inside.ensures)

@@ -11,8 +11,10 @@ raise-requires c =
 pub add-requires : goal.add-requires
 add-requires c =
     let t = c.self.inside in
-    record { room = rw c.raise.ensures.does (room-counter t.pending t.cts t.mds c.args.ct c.deed_counter-counter.result c.self.invariant
-        (omega (arith, c.len-many.ensures.len))) }
+    record {
+      room = rw c.raise.ensures.does (room-counter t.pending t.cts t.mds c.args.ct c.deed_counter-counter.result c.self.invariant
+          (omega (arith, c.len-many.ensures.len)));
+    }
 
 pub add-requires-2 : goal.add-requires-2
 add-requires-2 c =
@@ -22,8 +24,10 @@ add-requires-2 c =
 pub add-requires-3 : goal.add-requires-3
 add-requires-3 c =
     let t = c.self.inside in
-    record { room = rw c.add-2.ensures.does (room-put t.pending t.cts t.mds c.get_md-get.result c.put_md-put.result c.self.invariant
-        (omega (arith, c.len-many.ensures.len))) }
+    record {
+      room = rw c.add-2.ensures.does (room-put t.pending t.cts t.mds c.get_md-get.result c.put_md-put.result c.self.invariant
+          (omega (arith, c.len-many.ensures.len)));
+    }
 
 pub invariant_of-self : goal.invariant_of-self
 invariant_of-self c =
@@ -33,9 +37,24 @@ pub invariant_of-self-2 : goal.invariant_of-self-2
 invariant_of-self-2 c =
     let t = c.self.inside in
     let ops = told c.args.ct c.args.sum t.pending in
-    rw (c.in_ok-number.ensures.ok, c.in_ok-packed.ensures, c.add.ensures.does, c.raise.ensures.does, c.deed_counter-counter.ensures,
-        c.add-3.ensures.does, c.add-2.ensures.does, c.get_md-get.ensures, c.put_md-put.ensures)
+    rw (
+      c.in_ok-number.ensures.ok,
+      c.in_ok-packed.ensures,
+      c.add.ensures.does,
+      c.raise.ensures.does,
+      c.deed_counter-counter.ensures,
+      c.add-3.ensures.does,
+      c.add-2.ensures.does,
+      c.get_md-get.ensures,
+      c.put_md-put.ensures,
+    )
     (used-posted ops (with_posted c.args.armed c.args.ct c.args.threshold c.args.sum ops)
-    (record { number = t.pending.given; deed = c.args.armed; ct = c.args.ct; threshold = c.args.threshold; due =
-        nat_le c.args.threshold c.args.sum }) t.cts t.mds
+    (record {
+      number = t.pending.given;
+      deed = c.args.armed;
+      ct = c.args.ct;
+      threshold = c.args.threshold;
+      due =
+          nat_le c.args.threshold c.args.sum;
+    }) t.cts t.mds
     (used-told (waits_on c.args.ct) c.args.sum t.pending t.cts t.mds c.self.invariant) refl)

@@ -16,5 +16,10 @@ invariant_of-self c =
     )
 
 pub returns-clause-does : goal.returns-clause-does
-returns-clause-does c = rw (c.received-self-inside.ensures, c.header.ensures, c.bytes.ensures.list, c.push_reserved.ensures.items,
-    ← c.self.view_is) refl
+returns-clause-does c = rw (
+  c.received-self-inside.ensures,
+  c.header.ensures,
+  c.bytes.ensures.list,
+  c.push_reserved.ensures.items,
+  ← c.self.view_is,
+) refl

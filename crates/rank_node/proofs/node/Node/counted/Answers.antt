@@ -12,7 +12,7 @@ unreachable-requires c =
     let size = n.counters in
     let some : 0 < length c.self.inside.kept.counters = omega arith in
     done-known c.self.inside.nic c.self.inside.kept c.counter.result c.in-Err.field-0 n.all some c.counter.ensures.kept
-        (sym c.in-Err.is ∙ c.ct_get.ensures.value)
+    (sym c.in-Err.is ∙ c.ct_get.ensures.value)
 
 pub returns-clause-value : goal.returns-clause-value
 returns-clause-value c =
@@ -21,4 +21,4 @@ returns-clause-value c =
     let some : 0 < length c.self.inside.kept.counters = omega arith in
     subst (λ (m : NodeState). (k : Slots) → Agrees k m.kept → lookup (done_ct k) m.nic.cts.live ≡ Some c.in-Ok.count) c.self.view_is
     (done-told c.self.inside.nic c.self.inside.kept c.counter.result c.in-Ok.count n.all some c.counter.ensures.kept
-        (sym c.in-Ok.is ∙ c.ct_get.ensures.value) (λ k g. c.counter.ensures.value k.ct g.counters))
+    (sym c.in-Ok.is ∙ c.ct_get.ensures.value) (λ k g. c.counter.ensures.value k.ct g.counters))

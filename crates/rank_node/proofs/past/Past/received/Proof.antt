@@ -41,9 +41,16 @@ use Rattle.rank_node.proofs.past.Past.received.Statement as stated
 use Rattle.rank_node.proofs.past.Past.received.Code as code
 
 abbrev stayed : Stays (f.ended).signature.params (f.ended).kept
-stayed = (stay_none_ref (0 ∷ []) tt (plain (λ _. past.the_row)) yes,
-    (stay_none_ref (1 ∷ []) tt (plain (λ _. u32)) yes, (stay_none_ref (2 ∷ []) tt (plain (λ _. lane.the_row)) yes,
-    (stay_none_ref (3 ∷ []) tt (plain (λ _. header.the_row)) yes, (stay_none_ref (4 ∷ []) tt (plain (λ _. bytes.the_row)) yes, tt)))))
+stayed = (
+  stay_none_ref (0 ∷ []) tt (plain (λ _. past.the_row)) yes,
+  (
+    stay_none_ref (1 ∷ []) tt (plain (λ _. u32)) yes,
+    (
+      stay_none_ref (2 ∷ []) tt (plain (λ _. lane.the_row)) yes,
+      (stay_none_ref (3 ∷ []) tt (plain (λ _. header.the_row)) yes, (stay_none_ref (4 ∷ []) tt (plain (λ _. bytes.the_row)) yes, tt)),
+    ),
+  ),
+)
 
 module _ {M : Type 1} {𝓤 : Ura M} (𝓛 : Logic 𝓤) (mem : Memory → SProp 𝓤) (run : Routine → Fun 𝓤) (C : Calls 𝓤 𝓛.H) (Λ : Loops 𝓤 𝓛.H) where
   open 𝓛 use {H}
@@ -71,40 +78,62 @@ module _ {M : Type 1} {𝓤 : Ura M} (𝓛 : Logic 𝓤) (mem : Memory → SProp
     passed = owns (types_at f.signature.params κs) a (place0 ∷ [], (place1 ∷ [], (place2 ∷ [], (place3 ∷ [], (place4 ∷ [], tt)))))
 
     abbrev made : (past.the_row).Denot
-    made = record { locals = a.0.now.locals ++ Receive a.1.0.now a.1.1.0.now (message a.1.1.1.0.now a.1.1.1.1.0.now.list) ∷ []; receipts =
-        a.0.now.receipts - 1; bytes = a.0.now.bytes - length a.1.1.1.1.0.now.list }
+    made = record {
+      locals = a.0.now.locals ++ Receive a.1.0.now a.1.1.0.now (message a.1.1.1.0.now a.1.1.1.1.0.now.list) ∷ [];
+      receipts =
+          a.0.now.receipts - 1;
+      bytes = a.0.now.bytes - length a.1.1.1.1.0.now.list;
+    }
 
     walk : ent 𝓤 (on_entry 𝓛 f.signature κs qs a (place0 ∷ [], (place1 ∷ [], (place2 ∷ [], (place3 ∷ [], (place4 ∷ [], tt))))))
         (WpFn 𝓤 H C Λ code.function (place0 ∷ place1 ∷ place2 ∷ place3 ∷ place4 ∷ [])
-            ((walk_of 𝓛 f.ended stayed (f.clauses 𝓛 mem run)).post bound))
+        ((walk_of 𝓛 f.ended stayed (f.clauses 𝓛 mem run)).post bound))
     walk =
         qed 𝓛 (raw (alive 𝓛 f.signature κs qs) ∷ ‵ passed ∷ []) ∵ enter ! C Λ code.function
-            (place0 ∷ place1 ∷ place2 ∷ place3 ∷ place4 ∷ []) _ $
+        (place0 ∷ place1 ∷ place2 ∷ place3 ∷ place4 ∷ []) _ $
         alloc_all ! (λ l. pass_all ! refl ((tt, tt), ((tt, tt), ((tt, tt), ((tt, tt), ((tt, tt), tt))))) $ sets ! (agg ! (no_more !)) refl
-            (tt, tt) $
+        (tt, tt) $
         returns ! (look_at ! 0 refl) $ free_all ! refl $
         suffices ! _ (ends_at 𝓛 f.ended stayed (f.clauses 𝓛 mem run) bound (vstruct vnil) made (tt, (tt, (tt, (tt, (tt, tt)))))
-            (tt, (tt, (tt, (tt, (tt, tt)))))) $
+        (tt, (tt, (tt, (tt, (tt, tt)))))) $
         says ! refl $ pure_i ! (past.the_row.own_val made (vstruct vnil ∷ [])) ((λ vss. (tt, tt)), tt) ((tt, (refl, tt)), tt) $
         move ! (1 ∷ 2 ∷ 0 ∷ []) $ done !)
 
   walks : Walks 𝓛 f.ended stayed (WpFn 𝓤 H C Λ code.function) (f.clauses 𝓛 mem run)
   walks =
       walked 𝓛 f.ended stayed (f.clauses 𝓛 mem run) (WpFn 𝓤 H C Λ code.function)
-          (λ κs. (shr_vals, (shr_vals, (shr_vals, (shr_vals, (shr_vals, tt))))))
-      (λ κs. (shr_Tells (named 0) κs.0 past.the_row, (shr_Tells (named 1) κs.1.0 u32,
-          (shr_Tells (named 2) κs.1.1.0 lane.the_row, (shr_Tells (named 3) κs.1.1.1.0 header.the_row,
-          (shr_Tells (named 4) κs.1.1.1.1.0 bytes.the_row, tt))))))
+      (λ κs. (shr_vals, (shr_vals, (shr_vals, (shr_vals, (shr_vals, tt))))))
+      (λ κs. (
+        shr_Tells (named 0) κs.0 past.the_row,
+        (
+          shr_Tells (named 1) κs.1.0 u32,
+          (
+            shr_Tells (named 2) κs.1.1.0 lane.the_row,
+            (
+              shr_Tells (named 3) κs.1.1.1.0 header.the_row,
+              (shr_Tells (named 4) κs.1.1.1.1.0 bytes.the_row, tt),
+            ),
+          ),
+        ),
+      ))
       (λ κs qs bounds a g are. via 𝓤 _ (fst∗ 𝓤 _ (emp 𝓤)) (walk κs qs a))
 
 meets : {M : Type 1} {𝓤 : Ura M} (𝓛 : Logic 𝓤) (mem : Memory → SProp 𝓤) (run : Routine → Fun 𝓤) (𝓣 : Tables 𝓤 𝓛.H)
     → Meets 𝓛 f.signature (WpFn 𝓤 𝓛.H 𝓣.C 𝓣.Λ code.function) (f.spec 𝓛 mem run)
 meets {𝓤 = 𝓤} 𝓛 mem run 𝓣 =
-    walk_Meets 𝓛 f.ended stayed (Goes-none_ref 𝓛 5 (0 ∷ []) tt (plain (λ _. past.the_row)) yes,
-        (Goes-none_ref 𝓛 5 (1 ∷ []) tt (plain (λ _. u32)) yes,
-        (Goes-none_ref 𝓛 5 (2 ∷ []) tt (plain (λ _. lane.the_row)) yes,
-        (Goes-none_ref 𝓛 5 (3 ∷ []) tt (plain (λ _. header.the_row)) yes,
-        (Goes-none_ref 𝓛 5 (4 ∷ []) tt (plain (λ _. bytes.the_row)) yes, tt))))) (f.clauses 𝓛 mem run) (WpFn 𝓤 𝓛.H 𝓣.C 𝓣.Λ code.function)
+    walk_Meets 𝓛 f.ended stayed (
+      Goes-none_ref 𝓛 5 (0 ∷ []) tt (plain (λ _. past.the_row)) yes,
+      (
+        Goes-none_ref 𝓛 5 (1 ∷ []) tt (plain (λ _. u32)) yes,
+        (
+          Goes-none_ref 𝓛 5 (2 ∷ []) tt (plain (λ _. lane.the_row)) yes,
+          (
+            Goes-none_ref 𝓛 5 (3 ∷ []) tt (plain (λ _. header.the_row)) yes,
+            (Goes-none_ref 𝓛 5 (4 ∷ []) tt (plain (λ _. bytes.the_row)) yes, tt),
+          ),
+        ),
+      ),
+    ) (f.clauses 𝓛 mem run) (WpFn 𝓤 𝓛.H 𝓣.C 𝓣.Λ code.function)
     (WpFn-mono 𝓤 𝓛.H 𝓛.laws 𝓣 code.function) (walks 𝓛 mem run 𝓣.C 𝓣.Λ)
 
 pub received_spec : {M : Type 1} → stated.statement M

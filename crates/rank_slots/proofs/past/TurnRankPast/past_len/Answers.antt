@@ -11,5 +11,5 @@ returns c =
     let long = as-long c.args.self.now in let told = ap (λ (l : List LocalStep). length l) c.history.ensures.value in
     let listed = ap (λ (l : List LocalStep). length l) c.history.ensures.listed in
     let same = length_map step_of c.deref.result.now.diary.locals in let node =
-                                                                           ap (λ (n : NodeState). length n.diary.locals) c.deref.ensures in
+    ap (λ (n : NodeState). length n.diary.locals) c.deref.ensures in
     first_of (omega (arith, long, told, listed, same, node), grind (arith, long, told, listed, same, node))

@@ -10,5 +10,5 @@ pub invariant_of-self : goal.invariant_of-self
 invariant_of-self c = let s = c.args.self.now in let p = plan_of s.job.shape in record {
   tied = subst (λ (outs : List OutPort). Tied p s.job.inputs s.node.value outs s.ins.items) (sym c.push.ensures.items)
       (tied-more-out p s.job.inputs s.node.value s.outs.items s.ins.items c.args.port (is_ok c.push.result) s.tied c.requires.ok
-          c.requires.apart c.requires.gated);
+      c.requires.apart c.requires.gated);
 }

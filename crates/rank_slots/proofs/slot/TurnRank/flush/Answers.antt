@@ -12,7 +12,7 @@ pub flush_all-free-requires : goal.flush_all-free-requires
 flush_all-free-requires g c = let s = c.args.self.now in
     subst (λ (n : NodeState). AreEnds c.args.wires.now n.closed s.outs.items) (sym c.deref_mut.ensures.value)
     (ends-of (plan_of s.job.shape) s.job.inputs c.args.wires.now s.node.value s.outs.items s.ins.items c.requires.wired.outs
-        (subst IsNode c.deref.ensures c.history.ensures.kept) s.tied)
+    (subst IsNode c.deref.ensures c.history.ensures.kept) s.tied)
 
 pub invariant_of-self : goal.invariant_of-self
 invariant_of-self g c = let s = c.args.self.now in let f = c.flush_all-free.ensures in record {
@@ -23,9 +23,9 @@ invariant_of-self g c = let s = c.args.self.now in let f = c.flush_all-free.ensu
 
 pub returns-clause-name : goal.returns-clause-name
 returns-clause-name g c = let s = c.args.self.now in let f = c.flush_all-free.ensures in let re =
-                                                                                               subst (λ (n : NodeState). Regated n
-                                                                                               c.flush_all-free.new.node)
-                                                                                               c.deref_mut.ensures.value f.node in
+    subst (λ (n : NodeState). Regated n
+    c.flush_all-free.new.node)
+    c.deref_mut.ensures.value f.node in
     named s.job _ s.node.value.task c.flush_all-free.new.node.task (map out_joint s.outs.items)
-        (map out_joint c.flush_all-free.new.outs.items) (ap (λ (n : NodeState). n.task) re.same)
+    (map out_joint c.flush_all-free.new.outs.items) (ap (λ (n : NodeState). n.task) re.same)
     (pairs_map Flushed out_joint s.outs.items c.flush_all-free.new.outs.items (λ x y f. sym (same-joint x y f.same)) f.flushed)

@@ -9,7 +9,7 @@ use Rattle.rank_slots.proofs.slot.TurnRank.in_of.Goals as goal
 pub returns-clause-some : goal.returns-clause-some
 returns-clause-some c =
     subst (λ (l : List InPort). IfSome c.find_in.result (λ i. (p : InPort) × (get_elem? l i ≡ some p) × (p.source ≡ c.args.source) ×
-        (p.lane ≡ c.args.lane)))
+    (p.lane ≡ c.args.lane)))
     c.deref.ensures.value c.find_in.ensures.some
 
 pub returns-clause-none : goal.returns-clause-none

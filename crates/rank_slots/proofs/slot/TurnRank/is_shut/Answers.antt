@@ -24,7 +24,7 @@ returns-in-Some-clause-shut c = λ t. let s = c.args.self.now in let f = (c.in-S
 
 pub returns-in-Some-clause-open : goal.returns-in-Some-clause-open
 returns-in-Some-clause-open c = λ t i o a goes lane. let s = c.args.self.now in let f = (c.in-Some.ensures).some in let p =
-                                                                                                                          c.index.result.now in
+    c.index.result.now in
     let was = ap (λ (l : List OutPort). get_elem? l c.in-Some.at) (sym c.deref.ensures.value) ∙ f.1 in
     let there = at_index s.outs.items c.in-Some.at p (within s.outs.items c.in-Some.at f.0 was) c.index.ensures in
     let here = s.tied.outs_differ i c.in-Some.at o f.0 a was (goes ∙ sym f.2) (lane ∙ sym f.3) in

@@ -16,7 +16,7 @@ use Rattle.rank_slots.proofs.slot.TurnRank.note_in.Goals as goal
 pub note_sent-requires-clause-rank : goal.note_sent-requires-clause-rank
 note_sent-requires-clause-rank c = let w = c.args.wave.now in let r = c.args.rank in let y = exists_at w r c.requires.rank in
     let n = set-long w c.begin.new.self r (begun c.started.result c.ready.result y.0) (c.begin.ensures y.0 y.1) in let low =
-                                                                                                                         c.requires.rank in omega (arith, n, low)
+    c.requires.rank in omega (arith, n, low)
 
 pub note_sent-requires-clause-there : goal.note_sent-requires-clause-there
 note_sent-requires-clause-there c = λ z at. let w = c.args.wave.now in let r = c.args.rank in let y = exists_at w r c.requires.rank in
@@ -25,11 +25,11 @@ note_sent-requires-clause-there c = λ z at. let w = c.args.wave.now in let r = 
 
 pub note_sent-requires-clause-ends : goal.note_sent-requires-clause-ends
 note_sent-requires-clause-ends c = λ z i k at there. let w = c.args.wave.now in let r = c.args.rank in let y =
-                                                                                                             exists_at w r c.requires.rank
-                                                                                                             in
+    exists_at w r c.requires.rank
+    in
     let here = set-is w c.begin.new.self r (begun c.started.result c.ready.result y.0) c.requires.rank (c.begin.ensures y.0 y.1) in
     same-lanes (HasOut c.args.self.now) y.0.note.sent (cleared y.0.note.sent) (twice-cleared y.0.note.sent)
-        (λ i k. c.requires.outs y.0 i k y.1) i k
+    (λ i k. c.requires.outs y.0 i k y.1) i k
     (ap (λ (v : RankNote). get_elem? v.note.sent i) (same_at c.begin.new.self r _ z here at) ∙ there)
 
 pub note_got-requires-clause-rank : goal.note_got-requires-clause-rank
@@ -38,7 +38,7 @@ note_got-requires-clause-rank c = let w = c.args.wave.now in let r = c.args.rank
     let here = set-is w c.begin.new.self r x c.requires.rank (c.begin.ensures y.0 y.1) in
     let two = c.note_sent.ensures x here in
     let n = set-long w c.begin.new.self r x (c.begin.ensures y.0 y.1) in let m = set-long c.begin.new.self c.note_sent.new.wave r
-                                                                               (with_sent x two.0) two.1 in
+    (with_sent x two.0) two.1 in
     let low = c.requires.rank in omega (arith, n, m, low)
 
 pub note_got-requires-clause-there : goal.note_got-requires-clause-there
@@ -48,20 +48,20 @@ note_got-requires-clause-there c = λ z at. let w = c.args.wave.now in let r = c
     let two = c.note_sent.ensures x here in
     let n = set-long w c.begin.new.self r x (c.begin.ensures y.0 y.1) in
     let later = set-is c.begin.new.self c.note_sent.new.wave r (with_sent x two.0) (let low = c.requires.rank in omega (arith, n, low))
-          two.1 in
+    two.1 in
     ap (λ (v : RankNote). v.there) (sym (same_at c.note_sent.new.wave r _ z later at))
 
 pub note_got-requires-clause-ends : goal.note_got-requires-clause-ends
 note_got-requires-clause-ends c = λ z i k at there. let w = c.args.wave.now in let r = c.args.rank in let y =
-                                                                                                            exists_at w r c.requires.rank in
+    exists_at w r c.requires.rank in
     let x = begun c.started.result c.ready.result y.0 in
     let here = set-is w c.begin.new.self r x c.requires.rank (c.begin.ensures y.0 y.1) in
     let two = c.note_sent.ensures x here in
     let n = set-long w c.begin.new.self r x (c.begin.ensures y.0 y.1) in
     let later = set-is c.begin.new.self c.note_sent.new.wave r (with_sent x two.0) (let low = c.requires.rank in omega (arith, n, low))
-          two.1 in
+    two.1 in
     same-lanes (HasIn c.args.self.now) y.0.note.got (cleared y.0.note.got) (twice-cleared y.0.note.got)
-        (λ i k. c.requires.ins y.0 i k y.1) i k
+    (λ i k. c.requires.ins y.0 i k y.1) i k
     (ap (λ (v : RankNote). get_elem? v.note.got i) (same_at c.note_sent.new.wave r _ z later at) ∙ there)
 
 pub returns : goal.returns

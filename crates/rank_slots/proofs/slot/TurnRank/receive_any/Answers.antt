@@ -15,8 +15,16 @@ use Rattle.rank_node.specs.Copies.{has_start}
 use Rattle.rank_slots.proofs.slot.TurnRank.receive_any.Goals as goal
 
 pub loop-at-init : goal.loop-at-init
-loop-at-init g c = record { job = refl; node = refl; outs = refl; name = refl; many = refl; passed =
-    λ i p q h a b. absurd (omega (arith, h)); later = λ i h. refl }
+loop-at-init g c = record {
+  job = refl;
+  node = refl;
+  outs = refl;
+  name = refl;
+  many = refl;
+  passed =
+      λ i p q h a b. absurd (omega (arith, h));
+  later = λ i h. refl;
+}
 
 pub pull-requires-clause-sound : goal.pull-requires-clause-sound
 pull-requires-clause-sound g c = λ _ _. subst IsSound (sym c.loop-at.invariant.job) c.requires.sound
@@ -31,7 +39,7 @@ pull-requires-clause-free g c = λ _ _ f. subst (Each (λ (p : OutPort). p.end.w
 pub loop-at-preserved : goal.loop-at-preserved
 loop-at-preserved g c =
     let i = c.loop-at.invariant in let e = c.pull.ensures.none c.if-pull.false in let at = c.loop-at.at in let s = c.args.self.now in
-        record {
+    record {
       job = ap (λ (p : Plate). p.job) c.pull.ensures.name ∙ i.job;
       node = e.node ∙ i.node;
       outs = e.outs ∙ i.outs;
@@ -40,7 +48,7 @@ loop-at-preserved g c =
       passed = λ j p q below a b. ⊎_elim
           (λ (is : j ≡ at). subst (λ (z : NodeState × List OutPort). Missed z.0 z.1 p q) (λ k. (i.node k, i.outs k))
           (e.here p q (i.later at (omega arith) ∙ (ap (get_elem? s.ins.items) (sym is) ∙ a))
-              (ap (get_elem? c.pull.new.self.ins.items) (sym is) ∙ b)))
+          (ap (get_elem? c.pull.new.self.ins.items) (sym is) ∙ b)))
           (λ (apart : j ≢ at). i.passed j p q (omega (arith, below, apart)) a (sym (e.others j apart) ∙ b)) (cases_eq j at);
       later = λ j above. e.others j (λ is. omega (arith, is, above)) ∙ i.later j (omega (arith, above));
     }
@@ -52,7 +60,7 @@ returns-clause-none g c = let i = c.loop-at.invariant in record {
   ins = record {
     many = i.many;
     each = λ j p q a b. i.passed j p q (let k = within c.args.self.now.ins.items j p a in let n = c.len-count.ensures in let t =
-                                                                                                                               c.loop-at-test.false in omega (arith, k, n, t)) a b;
+        c.loop-at-test.false in omega (arith, k, n, t)) a b;
   };
 }
 
@@ -69,7 +77,7 @@ returns-then-pull-clause-some g c =
     let low : at < length ins = (let t = c.loop-at-test.true in let n = c.len-count.ensures in let m = i.many in omega (arith, t, n, m)) in
     let one = same_at ins at c.index.result.now h.port (at_index ins at c.index.result.now low c.index.ensures) h.there in
     let two = same_at ins at c.index-in-loop-at.result.now h.port
-          (at_index ins at c.index-in-loop-at.result.now low c.index-in-loop-at.ensures) h.there in (
+    (at_index ins at c.index-in-loop-at.result.now low c.index-in-loop-at.ensures) h.there in (
       Received h.port.source h.port.lane h.message,
       (λ k. Receive (sym one k).source (sym two k).lane),
       h.grew ∙ ap (λ es. es ++ Received h.port.source h.port.lane h.message ∷ []) (ap (λ (n : NodeState). n.diary.locals) i.node),

@@ -23,4 +23,4 @@ returns c = λ k agree. let s = c.args.self.now in let f = (c.in-Some.ensures).s
     let one = same_at s.outs.items c.in-Some.at p f.0 there was in
     c.sent.ensures ∙ (ap (λ (ms : List Sent). length ms) ((s.tied.out c.in-Some.at p there).sent_is k agree)
     ∙ (λ m. sent_on s.job s.node.value.task.rank k (history s) ((ap (λ (z : OutPort). z.target) one ∙ f.2) m)
-        ((ap (λ (z : OutPort). z.lane) one ∙ f.3) m)))
+    ((ap (λ (z : OutPort). z.lane) one ∙ f.3) m)))

@@ -26,8 +26,14 @@ made-from (Some step) a a' b same m = (m.0, m.1, m.2 ∙ ap (λ h. h ++ m.0 ∷ 
 idled-from : (e : Option LocalStep) (x z z' y : TurnRank) → z' ≡ z → HasFlushed x z → has_start (history x) ≡ true →
     AreShut z.node.value → IfNone e (MissedAll z' y) → IfNone e (Idled x y)
 idled-from (Some step) x z z' y same flushed started shut m = tt
-idled-from None x z z' y same flushed started shut m = record { started = started; between = z; flushed = flushed; shut = shut; missed =
-    subst (λ (s : TurnRank). MissedAll s y) same m }
+idled-from None x z z' y same flushed started shut m = record {
+  started = started;
+  between = z;
+  flushed = flushed;
+  shut = shut;
+  missed =
+      subst (λ (s : TurnRank). MissedAll s y) same m;
+}
 
 pub begin-requires-clause-sound : goal.begin-requires-clause-sound
 begin-requires-clause-sound g c = subst IsSound (sym (ap (λ (p : Plate). p.job) c.flush-free.ensures.name)) c.requires.sound
@@ -46,9 +52,12 @@ pub fire_any-requires-clause-wired : goal.fire_any-requires-clause-wired
 fire_any-requires-clause-wired g c = λ _ _. subst (IsWired c.args.wires.now) (sym c.flush-free.ensures.name) c.requires.wired
 
 pub returns-in-Some-clause-some : goal.returns-in-Some-clause-some
-returns-in-Some-clause-some g c = let s = c.args.self.now in let z = c.flush-free.new.self in
-    (Fired c.in-Some.number, refl, (c.in-Some.ensures).some.1
-        ∙ ap (λ h. h ++ Fired c.in-Some.number ∷ []) (same-history s z c.flush-free.ensures.flushed))
+returns-in-Some-clause-some g c = let s = c.args.self.now in let z = c.flush-free.new.self in (
+  Fired c.in-Some.number,
+  refl,
+  (c.in-Some.ensures).some.1
+      ∙ ap (λ h. h ++ Fired c.in-Some.number ∷ []) (same-history s z c.flush-free.ensures.flushed),
+)
 
 pub receive_any-requires-clause-sound : goal.receive_any-requires-clause-sound
 receive_any-requires-clause-sound g c = λ _ _. subst IsSound
@@ -66,14 +75,14 @@ receive_any-requires-clause-free g c = λ _ _ f. subst (λ (x : TurnRank). Each 
 pub returns-clause-some : goal.returns-clause-some
 returns-clause-some g c = let s = c.args.self.now in let z = c.flush-free.new.self in let y = c.fire_any.new.self in
     made-from c.receive_any.result (mark s) (mark y) (mark c.receive_any.new.self) (ap history (c.in_default.ensures).none.0
-        ∙ same-history s z c.flush-free.ensures.flushed) c.receive_any.ensures.some
+    ∙ same-history s z c.flush-free.ensures.flushed) c.receive_any.ensures.some
 
 pub returns-clause-none : goal.returns-clause-none
 returns-clause-none g c = let s = c.args.self.now in let z = c.flush-free.new.self in
     idled-from c.receive_any.result s z c.fire_any.new.self c.receive_any.new.self (c.in_default.ensures).none.0
-        c.flush-free.ensures.flushed (ap has_start (sym (same-history s z c.flush-free.ensures.flushed))
-        ∙ sym (c.if-not-started.ensures ∙ ap (λ (n : NodeState). has_start n.diary.locals) c.deref.ensures)) (c.in_default.ensures).none.1
-        c.receive_any.ensures.none
+    c.flush-free.ensures.flushed (ap has_start (sym (same-history s z c.flush-free.ensures.flushed))
+    ∙ sym (c.if-not-started.ensures ∙ ap (λ (n : NodeState). has_start n.diary.locals) c.deref.ensures)) (c.in_default.ensures).none.1
+    c.receive_any.ensures.none
 
 pub returns-clause-name : goal.returns-clause-name
 returns-clause-name g c = c.receive_any.ensures.name ∙ (ap plate (c.in_default.ensures).none.0 ∙ c.flush-free.ensures.name)

@@ -28,7 +28,7 @@ returns-clause-rest g c = λ k agree. let f = c.args.self in let w = c.close_kee
 
 pub returns-clause-whole : goal.returns-clause-whole
 returns-clause-whole g c = λ fronts seen r low. let f = c.args.self in let w = c.close_keeping.result.0 in let e =
-                                                                                                                 c.close_keeping.ensures in
+    c.close_keeping.ensures in
     let k : ℕ → Slots = λ r. slots_of (node_at w.nodes r).kept in let agree = some-slots w e.kept in
     let sound : IsSound f.job = subst (λ (f : FabricState). IsSound f.job) c.self.view_is c.sound.ensures in
     let job = job-of f c.args.hands.items w e.world in

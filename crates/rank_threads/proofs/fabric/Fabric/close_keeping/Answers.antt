@@ -39,7 +39,7 @@ pub lift_wires-requires-clause-ranks : goal.lift_wires-requires-clause-ranks
 lift_wires-requires-clause-ranks g c =
     let s = c.self.inside in let k = c.self.invariant in let e = c.close-slots.ensures in
     ap (λ (l : List TurnRank). length l) c.deref_mut.ensures.value
-        ∙ (e.length ∙ (k.fabric.count ∙ sym (ap (λ (o : Outline). o.ranks) k.frame_is.shape)))
+    ∙ (e.length ∙ (k.fabric.count ∙ sym (ap (λ (o : Outline). o.ranks) k.frame_is.shape)))
 
 pub lift_wires-requires-clause-count : goal.lift_wires-requires-clause-count
 lift_wires-requires-clause-count g c = let k = c.self.invariant in subst (λ (o : Outline). (plan_of o).ranks ≡ o.ranks)
@@ -56,14 +56,14 @@ lift_wires-requires-clause-rooms g c = subst (Each HasWireRoom) (sym c.deref.ens
 pub lift_wires-requires-clause-empty : goal.lift_wires-requires-clause-empty
 lift_wires-requires-clause-empty g c = let s = c.self.inside in let k = c.self.invariant in
     subst (λ (o : Outline). (q d : ℕ) (lane : Lane) → q < o.ranks → d < o.ranks → lane_at s.frame.lanes (lane_place o.ranks q d lane)
-        ≡ frame_lane (plan_of o) q d lane)
+    ≡ frame_lane (plan_of o) q d lane)
     (sym k.frame_is.shape) k.frame_is.lanes
 
 pub take_nodes-nodes-requires : goal.take_nodes-nodes-requires
 take_nodes-nodes-requires g c =
     let s = c.self.inside in let k = c.self.invariant in let e = c.close-slots.ensures in let v = c.lift_wires.ensures in
     let slots : take c.close-slots.result.len (c.lift_wires.new.slots ++ drop (length c.lift_wires.new.slots) c.close-slots.result.items)
-          ≡ c.lift_wires.new.slots =
+    ≡ c.lift_wires.new.slots =
     written c.close-slots.result.len c.lift_wires.new.slots _ (sym (v.count ∙ c.deref_mut.ensures.len)) in
     let many = ap (λ (l : List TurnRank). length l) slots in
     let n = v.count in let m = ap (λ (l : List TurnRank). length l) c.deref_mut.ensures.value in let l = e.length in let r = k.roomy in
@@ -72,21 +72,21 @@ take_nodes-nodes-requires g c =
 pub into_world-world-requires : goal.into_world-world-requires
 into_world-world-requires g c =
     let s = c.self.inside in let k = c.self.invariant in let e = c.close-slots.ensures in let v = c.lift_wires.ensures in let t =
-                                                                                                                                c.take_nodes-nodes.ensures in
+    c.take_nodes-nodes.ensures in
     let now = c.deref_mut.result.now in let last = c.lift_wires.new.slots in let f = c.lift_wires.new.frame in let nodes =
-                                                                                                                     c.take_nodes-nodes.result.items in
+    c.take_nodes-nodes.result.items in
     let slots : take c.close-slots.result.len (last ++ drop (length last) c.close-slots.result.items) ≡ last =
-          written c.close-slots.result.len last _ (sym (v.count ∙ c.deref_mut.ensures.len)) in
+    written c.close-slots.result.len last _ (sym (v.count ∙ c.deref_mut.ensures.len)) in
     let is : nodes ≡ map (λ (x : TurnRank). x.node.value) last = t.nodes
-          ∙ ap (λ (l : List TurnRank). map (λ (x : TurnRank). x.node.value) l) slots in
+    ∙ ap (λ (l : List TurnRank). map (λ (x : TurnRank). x.node.value) l) slots in
     let many : length now ≡ s.job.shape.ranks = ap (λ (l : List TurnRank). length l) c.deref_mut.ensures.value
-          ∙ (e.length ∙ k.fabric.count) in
+    ∙ (e.length ∙ k.fabric.count) in
     let size : length nodes ≡ s.job.shape.ranks = as-many last nodes is ∙ (v.count ∙ many) in
     let shape : f.shape ≡ s.job.shape = v.shape ∙ k.frame_is.shape in
     let named = subst (λ (l : List TurnRank). (r : ℕ) (x : TurnRank) → get_elem? l r ≡ some x → IsNamed s.job s.wires.items r (plate x))
-          (sym c.deref_mut.ensures.value)
+    (sym c.deref_mut.ensures.value)
     (named-left s.job s.wires.items s.turns.start c.close-slots.result.items e.length k.fabric.named
-        (λ r x y a b. (e.values r x a).named y b)) in
+    (λ r x y a b. (e.values r x a).named y b)) in
     may-frame s.job f nodes shape (v.inputs ∙ k.frame_is.inputs)
     (may-close s.job k.fabric.sound now s.wires.items nodes f.lanes size
     (λ r h. kept-at nodes t.kept r (omega (arith, h, size)))
@@ -98,22 +98,22 @@ into_world-world-requires g c =
     (λ q d lane hq hd none.
     subst (λ (o : Outline). lane_at f.lanes (lane_place o.ranks q d lane) ≡ frame_lane (plan_of s.job.shape) q d lane) shape
     (v.unused q d lane (subst (λ (o : Outline). q < o.ranks) (sym k.frame_is.shape) hq)
-        (subst (λ (o : Outline). d < o.ranks) (sym k.frame_is.shape) hd)
+    (subst (λ (o : Outline). d < o.ranks) (sym k.frame_is.shape) hd)
     (subst (λ (o : Outline). is_used_lane (plan_of o) q d lane ≡ false) (sym k.frame_is.shape) none)
     ∙ ap (λ (o : Outline). frame_lane (plan_of o) q d lane) k.frame_is.shape)))
 
 pub returns-clause-world : goal.returns-clause-world
 returns-clause-world g c =
     let s = c.self.inside in let k = c.self.invariant in let e = c.close-slots.ensures in let v = c.lift_wires.ensures in let t =
-                                                                                                                                c.take_nodes-nodes.ensures in
+    c.take_nodes-nodes.ensures in
     let now = c.deref_mut.result.now in let last = c.lift_wires.new.slots in let f = c.lift_wires.new.frame in let nodes =
-                                                                                                                     c.take_nodes-nodes.result.items in
+    c.take_nodes-nodes.result.items in
     let slots : take c.close-slots.result.len (last ++ drop (length last) c.close-slots.result.items) ≡ last =
-          written c.close-slots.result.len last _ (sym (v.count ∙ c.deref_mut.ensures.len)) in
+    written c.close-slots.result.len last _ (sym (v.count ∙ c.deref_mut.ensures.len)) in
     let is : nodes ≡ map (λ (x : TurnRank). x.node.value) last = t.nodes
-          ∙ ap (λ (l : List TurnRank). map (λ (x : TurnRank). x.node.value) l) slots in
+    ∙ ap (λ (l : List TurnRank). map (λ (x : TurnRank). x.node.value) l) slots in
     let many : length now ≡ s.job.shape.ranks = ap (λ (l : List TurnRank). length l) c.deref_mut.ensures.value
-          ∙ (e.length ∙ k.fabric.count) in
+    ∙ (e.length ∙ k.fabric.count) in
     let w = c.into_world-world.ensures in
     let shape : f.shape ≡ s.job.shape = v.shape ∙ k.frame_is.shape in
     subst (λ (z : FabricState). IsWorldOf z c.args.hands.items c.into_world-world.result) c.self.view_is (record {

@@ -37,11 +37,11 @@ give-requires-clause-taken g c = λ _ _. let t = c.take-slot in let m = c.delive
 
 pub returns-clause-delivered : goal.returns-clause-delivered
 returns-clause-delivered g c = let t = c.take-slot in let m = c.deliver-moved in let x = t.result.value in let y = m.new.self in let now =
-                                                                                                                                       c.args.self.now in
+    c.args.self.now in
     let f = subst (λ (f : FabricState). IsFabric f.job f.turns.start f.wires) c.self.view_is c.self.invariant.fabric in
     let took = subst (λ k. Took chronicle plate c.args.hand.now.knows k x t.new.hand.knows) (sym t.ensures.slot) t.ensures.took in
     let one = subst (λ k. Turned c.args.hand.now.knows c.give.new.hand.knows k (mark x) (mark y)) t.ensures.slot
-          (c.give.ensures.turned c.args.hand.now.knows x took) in (
+    (c.give.ensures.turned c.args.hand.now.knows x took) in (
       mark x,
       mark y,
       one,

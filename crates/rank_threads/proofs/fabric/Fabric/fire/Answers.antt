@@ -20,16 +20,16 @@ give-requires-clause-sound g c = λ _ _. subst IsSound (sym (ap (λ (p : Plate).
 pub give-requires-clause-taken : goal.give-requires-clause-taken
 give-requires-clause-taken g c = λ _ _. let t = c.take-slot in let m = c.fire_one-number in
     may-end t.result.slot c.args.rank c.args.hand.now.knows t.new.hand.knows t.result.value m.new.self t.ensures.slot t.ensures.took
-        m.ensures.name
+    m.ensures.name
     (longer-fired m.result t.result.value m.new.self m.ensures.some m.ensures.none) m.ensures.handles
 
 pub returns-clause-fired : goal.returns-clause-fired
 returns-clause-fired g c = let t = c.take-slot in let m = c.fire_one-number in let x = t.result.value in let y = m.new.self in
     let f = subst (λ (f : FabricState). IsFabric f.job f.turns.start f.wires) c.self.view_is c.self.invariant.fabric in let now =
-                                                                                                                              c.args.self.now in
+    c.args.self.now in
     let took = subst (λ k. Took chronicle plate c.args.hand.now.knows k x t.new.hand.knows) (sym t.ensures.slot) t.ensures.took in
     let one = subst (λ k. Turned c.args.hand.now.knows c.give.new.hand.knows k (mark x) (mark y)) t.ensures.slot
-          (c.give.ensures.turned c.args.hand.now.knows x took) in (
+    (c.give.ensures.turned c.args.hand.now.knows x took) in (
       mark x,
       mark y,
       one,

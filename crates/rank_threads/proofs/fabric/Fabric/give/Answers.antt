@@ -21,4 +21,4 @@ give-requires-clause-turn g c = let t = c.requires.taken in let s = c.args.turn.
 pub returns-clause-turned : goal.returns-clause-turned
 returns-clause-turned g c = λ v x took. let turn = ap (λ (v : HandView TurnRank). v.turn) took.taken in
     turned v c.args.hand.now.knows c.give.new.hand.knows c.args.turn.slot x c.args.turn.value took (c.give.ensures.given x turn)
-        (c.give.ensures.last x turn)
+    (c.give.ensures.last x turn)

@@ -36,37 +36,37 @@ give-requires-clause-sound g c = λ _ _. subst IsSound (sym c.take-slot.ensures.
 pub give-requires-clause-taken : goal.give-requires-clause-taken
 give-requires-clause-taken g c = λ _ _. let t = c.take-slot in let x = t.result.value in
     may-end t.result.slot c.args.rank c.args.hand.now.knows t.new.hand.knows x x t.ensures.slot t.ensures.took refl
-        ([], append-nil (history x)) (keeps-still x x refl)
+    ([], append-nil (history x)) (keeps-still x x refl)
 
 pub returns-clause-noted : goal.returns-clause-noted
 returns-clause-noted g c = let t = c.take-slot in let x = t.result.value in let now = c.args.self.now in let w = c.args.wave.now in
     let r = c.args.rank in
     let took = subst (λ k. Took chronicle plate c.args.hand.now.knows k x t.new.hand.knows) (sym t.ensures.slot) t.ensures.took in
     let one = subst (λ k. Turned c.args.hand.now.knows c.give.new.hand.knows k (mark x) (mark x)) t.ensures.slot
-          (c.give.ensures.turned c.args.hand.now.knows x took) in
+    (c.give.ensures.turned c.args.hand.now.knows x took) in
     let low : r < length w = (let n = c.requires.lanes.count in let s = t.ensures.sound.ranks in let h = c.requires.rank in
-          omega (arith, n, s, h)) in
+    omega (arith, n, s, h)) in
     let y = exists_at w r low in let e = c.note_in.ensures y.0 y.1 in (
       mark x,
       one,
       λ z at. (let same = same_at (slice_set w r e.0) r e.0 z (set_here w r e.0 low) (ap (λ (l : List RankNote). get_elem? l r) (sym e.1)
-                     ∙ at) in (
-        sym (ap (λ (v : RankNote). v.there) same) ∙ e.2.there,
-        subst (λ (v : RankNote). Says now.job r (history x) x.node.value.kept v.note) same
-            (says now.job t.ensures.sound now.wires t.ensures.lanes r x t.ensures.named w c.requires.lanes y.0 e.0 t.ensures.kept e.2),
-      )),
+          ∙ at) in (
+            sym (ap (λ (v : RankNote). v.there) same) ∙ e.2.there,
+            subst (λ (v : RankNote). Says now.job r (history x) x.node.value.kept v.note) same
+                (says now.job t.ensures.sound now.wires t.ensures.lanes r x t.ensures.named w c.requires.lanes y.0 e.0 t.ensures.kept e.2),
+          )),
     )
 
 pub returns-clause-others : goal.returns-clause-others
 returns-clause-others g c = λ q apart. let t = c.take-slot in let w = c.args.wave.now in let r = c.args.rank in
     let low : r < length w = (let n = c.requires.lanes.count in let s = t.ensures.sound.ranks in let h = c.requires.rank in
-          omega (arith, n, s, h)) in
+    omega (arith, n, s, h)) in
     let y = exists_at w r low in let e = c.note_in.ensures y.0 y.1 in
     ap (λ (l : List RankNote). get_elem? l q) e.1 ∙ set_else w r q e.0 apart
 
 pub returns-clause-lanes : goal.returns-clause-lanes
 returns-clause-lanes g c = let t = c.take-slot in let w = c.args.wave.now in let r = c.args.rank in
     let low : r < length w = (let n = c.requires.lanes.count in let s = t.ensures.sound.ranks in let h = c.requires.rank in
-          omega (arith, n, s, h)) in
+    omega (arith, n, s, h)) in
     let y = exists_at w r low in let e = c.note_in.ensures y.0 y.1 in let p = plan_of c.args.self.now.job.shape in
     subst (IsFor p) (sym e.1) (for-set p w r y.0 e.0 y.1 e.2.lanes c.requires.lanes)

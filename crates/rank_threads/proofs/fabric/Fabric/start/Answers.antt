@@ -18,12 +18,12 @@ give-requires-clause-sound g c = λ _ _. subst IsSound (sym (ap (λ (p : Plate).
 pub give-requires-clause-taken : goal.give-requires-clause-taken
 give-requires-clause-taken g c = λ _ _. let t = c.take-slot in let m = c.start_once-answer in
     may-end t.result.slot c.args.rank c.args.hand.now.knows t.new.hand.knows t.result.value m.new.self t.ensures.slot t.ensures.took
-        m.ensures.name
+    m.ensures.name
     (longer-begun t.result.value m.new.self m.result m.ensures.begun) m.ensures.handles
 
 pub returns-clause-begun : goal.returns-clause-begun
 returns-clause-begun g c = let t = c.take-slot in let m = c.start_once-answer in let x = t.result.value in let y = m.new.self in
     let took = subst (λ k. Took chronicle plate c.args.hand.now.knows k x t.new.hand.knows) (sym t.ensures.slot) t.ensures.took in
     let one = subst (λ k. Turned c.args.hand.now.knows c.give.new.hand.knows k (mark x) (mark y)) t.ensures.slot
-          (c.give.ensures.turned c.args.hand.now.knows x took) in
+    (c.give.ensures.turned c.args.hand.now.knows x took) in
     (mark x, mark y, one, m.ensures.begun)

@@ -19,14 +19,14 @@ give-requires-clause-sound g c = λ _ _. subst IsSound (sym (ap (λ (p : Plate).
 pub give-requires-clause-taken : goal.give-requires-clause-taken
 give-requires-clause-taken g c = λ _ _. let t = c.take-slot in let m = c.step-made in
     may-end t.result.slot c.args.rank c.args.hand.now.knows t.new.hand.knows t.result.value m.new.self t.ensures.slot t.ensures.took
-        m.ensures.name
+    m.ensures.name
     (longer-step t.result.value m.new.self m.result m.ensures.some m.ensures.none) m.ensures.handles
 
 pub returns-clause-some : goal.returns-clause-some
 returns-clause-some g c = let t = c.take-slot in let m = c.step-made in let x = t.result.value in let y = m.new.self in
     let took = subst (λ k. Took chronicle plate c.args.hand.now.knows k x t.new.hand.knows) (sym t.ensures.slot) t.ensures.took in
     let one = subst (λ k. Turned c.args.hand.now.knows c.give.new.hand.knows k (mark x) (mark y)) t.ensures.slot
-          (c.give.ensures.turned c.args.hand.now.knows x took) in
+    (c.give.ensures.turned c.args.hand.now.knows x took) in
     with-some m.result (λ step made. (mark x, mark y, one, made)) m.ensures.some
 
 pub returns-clause-none : goal.returns-clause-none
@@ -34,6 +34,11 @@ returns-clause-none g c = let t = c.take-slot in let m = c.step-made in let x = 
     let f = subst (λ (f : FabricState). IsFabric f.job f.turns.start f.wires) c.self.view_is c.self.invariant.fabric in
     let took = subst (λ k. Took chronicle plate c.args.hand.now.knows k x t.new.hand.knows) (sym t.ensures.slot) t.ensures.took in
     let one = subst (λ k. Turned c.args.hand.now.knows c.give.new.hand.knows k (mark x) (mark y)) t.ensures.slot
-          (c.give.ensures.turned c.args.hand.now.knows x took) in
-    with-none m.result (λ idled. (mark x, mark y, one, idle-told c.args.self.now.job t.ensures.sound c.args.self.now.wires f.lanes
-        c.args.rank x t.ensures.named y t.ensures.kept idled)) m.ensures.none
+    (c.give.ensures.turned c.args.hand.now.knows x took) in
+    with-none m.result (λ idled. (
+      mark x,
+      mark y,
+      one,
+      idle-told c.args.self.now.job t.ensures.sound c.args.self.now.wires f.lanes
+          c.args.rank x t.ensures.named y t.ensures.kept idled,
+    )) m.ensures.none

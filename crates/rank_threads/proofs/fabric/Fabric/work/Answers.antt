@@ -11,17 +11,17 @@ none-is (Some step) e = cc
 pub returns-then-is_none-clause-parts : goal.returns-then-is_none-clause-parts
 returns-then-is_none-clause-parts g c =
     same-parts c.args.self.now.job c.loop.hand.knows c.step.new.hand.knows c.args.rank c.step.result c.step.ensures.some
-        c.step.ensures.none ∙ c.loop.invariant.parts
+    c.step.ensures.none ∙ c.loop.invariant.parts
 
 pub returns-then-is_none-clause-idle : goal.returns-then-is_none-clause-idle
 returns-then-is_none-clause-idle g c =
     none-idle c.args.self.now.job c.loop.hand.knows c.step.new.hand.knows c.args.rank c.step.result
-        (none-is c.step.result c.if-is_none.ensures) c.step.ensures.none
+    (none-is c.step.result c.if-is_none.ensures) c.step.ensures.none
 
 pub returns-then-is_none-clause-others : goal.returns-then-is_none-clause-others
 returns-then-is_none-clause-others g c = λ r apart h.
     made-else c.args.self.now.job c.loop.hand.knows c.step.new.hand.knows c.args.rank r c.step.result c.step.ensures.some
-        c.step.ensures.none apart
+    c.step.ensures.none apart
     (c.loop.invariant.others r apart h)
 
 pub returns-then-is_none-clause-none : goal.returns-then-is_none-clause-none
@@ -38,7 +38,7 @@ loop-preserved g c = record {
       ∙ c.loop.invariant.parts;
   others = λ r apart h.
       made-else c.args.self.now.job c.loop.hand.knows c.step.new.hand.knows c.args.rank r c.step.result c.step.ensures.some
-          c.step.ensures.none apart
+      c.step.ensures.none apart
       (c.loop.invariant.others r apart h);
   none = λ no. absurd (true≢false no);
 }

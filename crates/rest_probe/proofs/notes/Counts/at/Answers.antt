@@ -9,4 +9,4 @@ pub returns : goal.returns
 returns c = let is = c.self.view_is in
     subst (λ (l : List LaneCount). get_elem? l c.args.i ≡ some c.index.result.now) is
     (at_index c.self.inside.items.items c.args.i c.index.result.now
-        (subst (λ (l : List LaneCount). c.args.i < length l) (sym is) c.requires) c.index.ensures)
+    (subst (λ (l : List LaneCount). c.args.i < length l) (sym is) c.requires) c.index.ensures)

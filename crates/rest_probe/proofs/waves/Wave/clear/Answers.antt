@@ -19,9 +19,9 @@ loop-r-preserved c =
       many = length-set xs at q ∙ i.many;
       before = λ j x y below a b. ⊎_elim
           (λ (is : (j ≡ at) × (q ≡ y)). sym is.1 ∙ ap (λ (z : RankNote). record z { there = false })
-              (same-at xs at m x here (i.later at (omega arith) ∙ (ap (get_elem? old) (sym is.0) ∙ a))))
+          (same-at xs at m x here (i.later at (omega arith) ∙ (ap (get_elem? old) (sym is.0) ∙ a))))
           (λ (is : (j ≢ at) × (get_elem? xs j ≡ some y)). i.before j x y (let n = is.0 in omega (arith, n, below)) a is.1)
-              (at_set xs at j q y b);
+          (at_set xs at j q y b);
       later = λ j above. set_else xs at j q (λ is. omega (arith, is, above)) ∙ i.later j (omega (arith, above));
     }
 
@@ -30,5 +30,5 @@ returns c =
     let i = c.loop-r.invariant in let old = c.self.inside.ranks.items in let xs = c.loop-r.self-inside.ranks.items in
     mapped (λ (z : RankNote). record z { there = false }) old xs i.many
     (λ j x y a b. i.before j x y (let k = within old j x a in let n = c.len-count.ensures in let t = c.loop-r-test.false in
-        omega (arith, k, n, t)) a b)
+    omega (arith, k, n, t)) a b)
     ∙ ap emptied c.self.view_is

@@ -8,7 +8,7 @@ use Rattle.rest_probe.proofs.waves.Wave.first_uneven.Goals as goal
 
 pub uneven_from-requires : goal.uneven_from-requires
 uneven_from-requires c = let t = c.loop-s-test.true in let e = ap (λ (l : List RankNote). length l) c.self.view_is in let k =
-                                                                                                                            c.len-s-end.ensures in omega (arith, t, e, k)
+    c.len-s-end.ensures in omega (arith, t, e, k)
 
 pub returns-in-Some-clause-some : goal.returns-in-Some-clause-some
 returns-in-Some-clause-some c = let e = (c.in-Some.ensures).some in
@@ -21,6 +21,6 @@ loop-s-preserved c = λ r i low. ⊎_elim
 
 pub returns-clause-none : goal.returns-clause-none
 returns-clause-none c = λ s i x y k there at other. c.loop-s.invariant s i (let w = within c.args.self.now s x there in let t =
-                                                                                                                              c.loop-s-test.false in
+    c.loop-s-test.false in
     let e = ap (λ (l : List RankNote). length l) c.self.view_is in let n = c.len-s-end.ensures in omega (arith, w, t, e, n)) x y k there
-        at other
+    at other

@@ -10,9 +10,9 @@ use Rattle.rest_probe.proofs.waves.Wave.uneven_from.Goals as goal
 pub uneven_at-requires-clause-lane : goal.uneven_at-requires-clause-lane
 uneven_at-requires-clause-lane c = λ x at. let is = c.self.view_is in let old = c.self.inside.ranks.items in let m = c.index.result.now in
     let here = ap (λ (l : List RankNote). get_elem? l c.args.s) (sym is)
-          ∙ at_index old c.args.s m (subst (λ (l : List RankNote). c.args.s < length l) (sym is) c.requires) c.index.ensures in
+    ∙ at_index old c.args.s m (subst (λ (l : List RankNote). c.args.s < length l) (sym is) c.requires) c.index.ensures in
     let one = ap (λ (z : RankNote). length z.note.sent) (same-at c.args.self.now c.args.s m x here at) in let t = c.loop-at-test.true in
-        let n = c.len-at-end.ensures in omega (arith, one, t, n)
+    let n = c.len-at-end.ensures in omega (arith, one, t, n)
 
 pub returns-in-Some-clause-some : goal.returns-in-Some-clause-some
 returns-in-Some-clause-some c = (c.loop-at.at, (c.in-Some.ensures).some, c.loop-at.invariant)
@@ -24,9 +24,9 @@ loop-at-preserved c = λ i low. ⊎_elim
 
 pub returns-clause-none : goal.returns-clause-none
 returns-clause-none c = λ i x y k there at other. let is = c.self.view_is in let old = c.self.inside.ranks.items in let m =
-                                                                                                                          c.index.result.now in
+    c.index.result.now in
     let here = ap (λ (l : List RankNote). get_elem? l c.args.s) (sym is)
-          ∙ at_index old c.args.s m (subst (λ (l : List RankNote). c.args.s < length l) (sym is) c.requires) c.index.ensures in
+    ∙ at_index old c.args.s m (subst (λ (l : List RankNote). c.args.s < length l) (sym is) c.requires) c.index.ensures in
     let one = ap (λ (z : RankNote). length z.note.sent) (same-at c.args.self.now c.args.s m x here there) in
     c.loop-at.invariant i (let w = within x.note.sent i k at in let t = c.loop-at-test.false in let n = c.len-at-end.ensures in
-        omega (arith, one, w, t, n)) x y k there at other
+    omega (arith, one, w, t, n)) x y k there at other

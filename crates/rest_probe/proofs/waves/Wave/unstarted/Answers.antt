@@ -7,16 +7,20 @@ use Rattle.rest_probe.proofs.waves.Wave.unstarted.Goals as goal
 
 pub returns-then-not-index-clause-some : goal.returns-then-not-index-clause-some
 returns-then-not-index-clause-some c = let is = c.self.view_is in let old = c.self.inside.ranks.items in let m = c.index.result.now in
-    let r = c.loop-r.r in
-    (m, ap (λ (l : List RankNote). get_elem? l r) (sym is) ∙ at_index old r m (let t = c.loop-r-test.true in let n =
-                                                                                                                   c.len-r-end.ensures in
-                                                                                                                   omega (arith, t, n))
-                                                                                                                   c.index.ensures, c.if-not-index.true, c.loop-r.invariant)
+    let r = c.loop-r.r in (
+      m,
+      ap (λ (l : List RankNote). get_elem? l r) (sym is) ∙ at_index old r m (let t = c.loop-r-test.true in let n =
+          c.len-r-end.ensures in
+          omega (arith, t, n))
+          c.index.ensures,
+      c.if-not-index.true,
+      c.loop-r.invariant,
+    )
 
 pub loop-r-preserved : goal.loop-r-preserved
 loop-r-preserved c = let is = c.self.view_is in let old = c.self.inside.ranks.items in let m = c.index.result.now in let r = c.loop-r.r in
     let here = ap (λ (l : List RankNote). get_elem? l r) (sym is)
-          ∙ at_index old r m (let t = c.loop-r-test.true in let n = c.len-r-end.ensures in omega (arith, t, n)) c.index.ensures in
+    ∙ at_index old r m (let t = c.loop-r-test.true in let n = c.len-r-end.ensures in omega (arith, t, n)) c.index.ensures in
     below-next (λ (x : RankNote). x.note.started ≡ true) c.args.self.now r m c.loop-r.invariant here c.if-not-index.false
 
 pub returns-clause-none : goal.returns-clause-none

@@ -19,7 +19,7 @@ loop-rest-preserved g c =
           (g.K.Sink.outflow c.write_piece.new.sink)
           (c.args.self.now ++ c.args.list.now) held c.loop-rest.rest.now c.split_at.result.0.now c.split_at.result.1.now
           (held ++ c.split_at.result.0.now) c.loop-rest.invariant.taken refl c.split_at.ensures.by_index.0
-              c.in_ok-write_piece.ensures.written);
+          c.in_ok-write_piece.ensures.written);
       short = omega arith;
       length_so_far = left_over (vec_len c.write_piece.new.held + length c.split_at.result.1.now)
           (vec_len c.loop-rest.self-inside.held + length c.loop-rest.rest.now) (omega arith) ∙ c.loop-rest.invariant.length_so_far;

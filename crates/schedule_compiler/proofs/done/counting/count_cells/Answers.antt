@@ -23,5 +23,5 @@ loop-c-preserved c =
     let p = c.args.plan.now in
     c.count.ensures
     ∙ ap (λ k. cond (nat_lt k (length c.loop-c.counts)) (set c.loop-c.counts k (get_or c.loop-c.counts k 0 + 1)) c.loop-c.counts)
-        c.rank_of-key.ensures.value
+    c.rank_of-key.ensures.value
     ∙ counted-more (rank_of p) c.loop-c.c p.ranks c.loop-c.counts c.loop-c.invariant

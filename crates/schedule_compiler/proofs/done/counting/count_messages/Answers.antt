@@ -23,5 +23,5 @@ loop-l-preserved c =
     let p = c.args.plan.now in
     c.count.ensures
     ∙ ap (λ k. cond (nat_lt k (length c.loop-l.counts)) (set c.loop-l.counts k (get_or c.loop-l.counts k 0 + 1)) c.loop-l.counts)
-        c.sender_of-key.ensures
+    c.sender_of-key.ensures
     ∙ counted-more (sent_key p) c.loop-l.l p.ranks c.loop-l.counts c.loop-l.invariant

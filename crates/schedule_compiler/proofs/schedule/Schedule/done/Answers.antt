@@ -11,7 +11,7 @@ done-requires-clause-tabled c = kept-tabled c.self.inside.shape c.self.inside.pl
 pub done-requires-clause-rank : goal.done-requires-clause-rank
 done-requires-clause-rank c =
     let e = kept-ranks c.self.inside.shape c.self.inside.plan c.self.inside.held c.self.inside.tables c.self.invariant
-          c.keeps_form.ensures.shape in
+    c.keeps_form.ensures.shape in
     let v = ap (λ (o : Outline). o.ranks) c.self.view_is in
     let h = c.requires in
     omega (arith, e, v, h)

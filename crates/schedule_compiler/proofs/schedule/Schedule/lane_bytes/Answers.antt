@@ -11,7 +11,7 @@ sent_bytes-requires-clause-tabled c = kept-tabled c.self.inside.shape c.self.ins
 pub sent_bytes-requires-clause-source : goal.sent_bytes-requires-clause-source
 sent_bytes-requires-clause-source c =
     let e = kept-ranks c.self.inside.shape c.self.inside.plan c.self.inside.held c.self.inside.tables c.self.invariant
-          c.keeps_form.ensures.shape in
+    c.keeps_form.ensures.shape in
     let v = ap (λ (o : Outline). o.ranks) c.self.view_is in
     let h = c.requires.source in
     omega (arith, e, v, h)
@@ -19,7 +19,7 @@ sent_bytes-requires-clause-source c =
 pub sent_bytes-requires-clause-target : goal.sent_bytes-requires-clause-target
 sent_bytes-requires-clause-target c =
     let e = kept-ranks c.self.inside.shape c.self.inside.plan c.self.inside.held c.self.inside.tables c.self.invariant
-          c.keeps_form.ensures.shape in
+    c.keeps_form.ensures.shape in
     let v = ap (λ (o : Outline). o.ranks) c.self.view_is in
     let h = c.requires.target in
     omega (arith, e, v, h)

@@ -11,7 +11,7 @@ messages-requires-clause-tabled c = kept-tabled c.self.inside.shape c.self.insid
 pub messages-requires-clause-source : goal.messages-requires-clause-source
 messages-requires-clause-source c =
     let e = kept-ranks c.self.inside.shape c.self.inside.plan c.self.inside.held c.self.inside.tables c.self.invariant
-          c.keeps_form.ensures.shape in
+    c.keeps_form.ensures.shape in
     let v = ap (λ (o : Outline). o.ranks) c.self.view_is in
     let h = c.requires.source in
     omega (arith, e, v, h)
@@ -19,7 +19,7 @@ messages-requires-clause-source c =
 pub messages-requires-clause-target : goal.messages-requires-clause-target
 messages-requires-clause-target c =
     let e = kept-ranks c.self.inside.shape c.self.inside.plan c.self.inside.held c.self.inside.tables c.self.invariant
-          c.keeps_form.ensures.shape in
+    c.keeps_form.ensures.shape in
     let v = ap (λ (o : Outline). o.ranks) c.self.view_is in
     let h = c.requires.target in
     omega (arith, e, v, h)

@@ -9,7 +9,7 @@ use Rattle.schedule_compiler.proofs.schedule.Schedule.result.Goals as goal
 pub cell-requires-clause-buffer : goal.cell-requires-clause-buffer
 cell-requires-clause-buffer c =
     let e = kept-buffers c.self.inside.shape c.self.inside.plan c.self.inside.held c.self.inside.tables c.self.invariant
-          c.keeps_form.ensures.shape in
+    c.keeps_form.ensures.shape in
     let v = ap (λ (o : Outline). length o.buffers) c.self.view_is in
     let h = c.requires.buffer in
     omega (arith, e, v, h)
@@ -17,7 +17,7 @@ cell-requires-clause-buffer c =
 pub cell-requires-clause-rank : goal.cell-requires-clause-rank
 cell-requires-clause-rank c =
     let e = kept-held c.self.inside.shape c.self.inside.plan c.self.inside.held c.self.inside.tables c.self.invariant
-          c.keeps_form.ensures.shape in
+    c.keeps_form.ensures.shape in
     let v = ap (λ (o : Outline). o.ranks) c.self.view_is in
     let h = c.requires.rank in
     omega (arith, e, v, h)

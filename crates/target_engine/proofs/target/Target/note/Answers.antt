@@ -13,7 +13,7 @@ pub note_header-requires-clause-index : goal.note_header-requires-clause-index
 note_header-requires-clause-index c =
     let i = c.self.inside in
     counted-index c.args.header.now.pt i.headers.limit i.headers.unexpected i.records c.self.invariant.counted c.self.invariant.kept.held
-        c.self.invariant.kept.small
+    c.self.invariant.kept.small
 
 pub invariant_of-self : goal.invariant_of-self
 invariant_of-self c =
@@ -25,7 +25,7 @@ invariant_of-self c =
     record {
       kept =
           kept-unexpected i.limit i.linked f h i.indices.items i.records.by_entry c.note_header.new.records.by_entry i.headers
-              c.note_header.new.headers c.args.self.now.indices c.self.invariant.kept room (ap (λ s. s.indices) c.self.view_is)
+          c.note_header.new.headers c.args.self.now.indices c.self.invariant.kept room (ap (λ s. s.indices) c.self.view_is)
           c.requires.there c.note_header.ensures.headers (ap (λ (r : Records). r.by_entry) after);
       counted = rw (c.note_header.ensures.headers, after) (counted-unexpected f h i.headers i.records c.self.invariant.counted
           c.self.invariant.kept.recorded.once);

@@ -9,8 +9,13 @@ invariant_of-result c =
     let made = c.in_ok-indices.ensures in
     let l = c.args.limits.now in
     let none = unused-indices l.entries _ l.pts c.in_ok-indices.indices.items made.many made.unused in
-    rw (c.in_ok-by_entry.ensures, c.in_ok-headers.ensures, c.in_ok-cts.ensures.makes, c.in_ok-eqs.ensures.makes,
-        c.in_ok-waiting.ensures.makes)
+    rw (
+      c.in_ok-by_entry.ensures,
+      c.in_ok-headers.ensures,
+      c.in_ok-cts.ensures.makes,
+      c.in_ok-eqs.ensures.makes,
+      c.in_ok-waiting.ensures.makes,
+    )
     (record {
       kept =
           rw c.records-records.ensures
@@ -25,5 +30,10 @@ invariant_of-result c =
 pub returns : goal.returns
 returns c =
     let made = c.in_ok-indices.ensures in
-    record { makes = rw (c.in_ok-by_entry.ensures, c.in_ok-headers.ensures,
-        unused-indices c.args.limits.now.entries _ c.args.limits.now.pts c.in_ok-indices.indices.items made.many made.unused) refl }
+    record {
+      makes = rw (
+        c.in_ok-by_entry.ensures,
+        c.in_ok-headers.ensures,
+        unused-indices c.args.limits.now.entries _ c.args.limits.now.pts c.in_ok-indices.indices.items made.many made.unused,
+      ) refl;
+    }

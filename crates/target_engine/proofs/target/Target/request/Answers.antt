@@ -9,21 +9,21 @@ pub accept-requires-clause-part : goal.accept-requires-clause-part
 accept-requires-clause-part c =
     let at : seen_in c.deref.result.now ≡ c.args.self.now.indices = ap seen_in c.deref.ensures.value ∙ ap (λ s. s.indices) c.self.view_is in
     let e : chosen c.header.result.now c.args.self.now.indices ≡ Some c.in-Some.found = rw (← at) (sym c.chosen_in.ensures ∙ c.in-Some.is)
-          in
+    in
     chosen-within (length c.args.region.now) c.header.result.now c.args.self.now.indices c.in-Some.found c.requires.inside e
 
 pub accept-requires-clause-there : goal.accept-requires-clause-there
 accept-requires-clause-there c =
     let at : seen_in c.deref.result.now ≡ c.args.self.now.indices = ap seen_in c.deref.ensures.value ∙ ap (λ s. s.indices) c.self.view_is in
     let e : chosen c.header.result.now c.args.self.now.indices ≡ Some c.in-Some.found = rw (← at) (sym c.chosen_in.ensures ∙ c.in-Some.is)
-          in
+    in
     rw (← c.header.ensures) (chosen-linked c.header.result.now c.args.self.now.indices c.in-Some.found e)
 
 pub accept-requires-clause-entry : goal.accept-requires-clause-entry
 accept-requires-clause-entry c =
     let at : seen_in c.deref.result.now ≡ c.args.self.now.indices = ap seen_in c.deref.ensures.value ∙ ap (λ s. s.indices) c.self.view_is in
     let e : chosen c.header.result.now c.args.self.now.indices ≡ Some c.in-Some.found = rw (← at) (sym c.chosen_in.ensures ∙ c.in-Some.is)
-          in
+    in
     let recorded = rw (ap (λ s. s.indices) c.self.view_is) at c.self.invariant.kept.recorded in
     rw (← c.header.ensures) (chosen-named c.header.result.now c.args.self.now.indices c.in-Some.found c.self.inside.headers.unexpected
-        c.self.inside.records.by_entry recorded e)
+    c.self.inside.records.by_entry recorded e)

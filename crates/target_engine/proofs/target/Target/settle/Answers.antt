@@ -25,13 +25,13 @@ invariant_of-self c =
     let place = ap (λ s. s.indices) c.self.view_is in
     let shown =
     seen-settled i.limit i.linked f h i.indices.items was new i.records.by_entry i.headers c.args.self.now.indices c.self.invariant.kept
-        c.deref_mut.ensures.value c.settle_at.ensures.after place c.requires.there in
+    c.deref_mut.ensures.value c.settle_at.ensures.after place c.requires.there in
     rw c.forget.ensures.linked
     (whole-lent i.limit i.indices.len (linked_after f h i.linked) i.indices.items was new (indices_after f h (seen_in i.indices.items))
-        c.forget.new.records i.headers i.eqs
+    c.forget.new.records i.headers i.eqs
     c.deref_mut.ensures.value stays (stays ∙ c.deref_mut.ensures.len)
     (kept-settled i.limit i.indices.len i.linked f h i.indices.items was new i.records.by_entry c.forget.new.records.by_entry i.headers
-        c.args.self.now.indices c.self.invariant.kept c.deref_mut.ensures.value (stays ∙ c.deref_mut.ensures.len)
+    c.args.self.now.indices c.self.invariant.kept c.deref_mut.ensures.value (stays ∙ c.deref_mut.ensures.len)
     c.settle_at.ensures.after c.settle_at.ensures.kept (ap (λ (r : Records). r.by_entry) after) place c.requires.there)
     (rw after (counted-settled f h i.headers.unexpected i.records c.self.invariant.counted c.self.invariant.kept.recorded.once))
     shown (queues-settled f h (seen_in i.indices.items) i.eqs c.self.invariant.queues)
@@ -41,6 +41,6 @@ pub returns : goal.returns
 returns c =
     let whole = with_items_is c.self.inside.indices c.settle_at.new.indices (c.settle_at.auto.indices ∙ c.deref_mut.ensures.len) in
     let e = seen-settled c.self.inside.limit c.self.inside.linked c.args.found.now c.args.header.now c.self.inside.indices.items
-          c.deref_mut.result.now c.settle_at.new.indices c.self.inside.records.by_entry c.self.inside.headers c.args.self.now.indices
-          c.self.invariant.kept c.deref_mut.ensures.value c.settle_at.ensures.after (ap (λ s. s.indices) c.self.view_is) c.requires.there in
+    c.deref_mut.result.now c.settle_at.new.indices c.self.inside.records.by_entry c.self.inside.headers c.args.self.now.indices
+    c.self.invariant.kept c.deref_mut.ensures.value c.settle_at.ensures.after (ap (λ s. s.indices) c.self.view_is) c.requires.there in
     rw (← c.self.view_is, whole, e, c.forget.ensures.records, given-after) refl

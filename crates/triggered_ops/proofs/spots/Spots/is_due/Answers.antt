@@ -9,7 +9,7 @@ pub returns-then-place-len : goal.returns-then-place-len
 returns-then-place-len g c =
     let lt : c.args.place < length c.self.inside.spots.items = omega (arith, c.self.inside.spots.ok.0) in
     rw (← c.self.view_is) (c.is_due_in.ensures ∙ ap (λ (s : Spot _). is_due_op (op_of s)) c.index.ensures
-        ∙ sym (ap is_due_op (op-get c.self.inside.spots.items c.args.place c.index.result.now lt)))
+    ∙ sym (ap is_due_op (op-get c.self.inside.spots.items c.args.place c.index.result.now lt)))
 
 pub returns-else-place-len : goal.returns-else-place-len
 returns-else-place-len g c =

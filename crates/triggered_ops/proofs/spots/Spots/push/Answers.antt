@@ -17,8 +17,8 @@ invariant_of-self g c =
     let room = subst (λ (s : Spotted _). length s.spots < s.room) (sym c.self.view_is) c.requires in
     let long : vec_len c.self.inside.spots ≡ length c.self.inside.spots.items = omega (arith, c.self.inside.spots.ok.0) in
     rw (c.push_reserved.ensures.items, c.push_reserved.ensures.capacity, c.mark.ensures, c.len-place.ensures, long)
-        (spotted-pushed c.self.inside.spots.items c.self.inside.marks c.self.inside.waiting c.self.inside.room
-        (vec_capacity c.self.inside.spots) c.self.invariant _ c.args.deed (c.self.inside.waiting + 1) refl room refl)
+    (spotted-pushed c.self.inside.spots.items c.self.inside.marks c.self.inside.waiting c.self.inside.room
+    (vec_capacity c.self.inside.spots) c.self.invariant _ c.args.deed (c.self.inside.waiting + 1) refl room refl)
 
 pub returns : goal.returns
 returns g c = rw (← c.self.view_is, c.push_reserved.ensures.items) refl

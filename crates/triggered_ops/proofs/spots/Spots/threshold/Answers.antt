@@ -16,5 +16,5 @@ returns g c =
     let e = subst (λ (s : Spotted _). is_some (wait_at s.spots c.args.place) ≡ true) (sym c.self.view_is) c.requires in
     let found = c.index.result.now in
     let is = wait-get c.self.inside.spots.items c.args.place found (wait-within c.self.inside.spots.items c.args.place e)
-          ∙ sym (ap wait_of c.index.ensures) in
+    ∙ sym (ap wait_of c.index.ensures) in
     rw (← c.self.view_is) (threshold-is found (sym (ap is_some is) ∙ e) ∙ sym (ap threshold_of is))

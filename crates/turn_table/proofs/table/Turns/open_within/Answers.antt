@@ -23,11 +23,11 @@ new-opened-requires g c =
     let slots : c.in_ok-slots.slots.items ≡ map Some ks = c.in_ok-slots.ensures ∙ ap (λ (l : List X). map Some l) (sym e) in
     let count : c.len-count.result ≡ length ks = omega (arith, ap (λ (l : List X). length l) e, c.len-count.ensures) in
     let words : c.as_slice.result.now ≡ replicate (length ks) 0 = c.as_slice.ensures.value
-          ∙ (c.in_ok-words.ensures.items_if_clones_equal (λ y q. q) ∙ ap (λ (n : ℕ). replicate n 0) count) in
+    ∙ (c.in_ok-words.ensures.items_if_clones_equal (λ y q. q) ∙ ap (λ (n : ℕ). replicate n 0) count) in
     subst (λ (y : List ℕ × List (Option X)). KeepsTurns g.T.Past.past g.T.Past.name ks (opening y.0 y.1 (first_view ks)))
-        (λ i. (sym words i, sym slots i))
+    (λ i. (sym words i, sym slots i))
     (opens g.T.Past.past g.T.Past.name ks d.0 d.1 d.2 (λ k x q. all_at (λ (x : X). g.T.Past.past x ≡ []) vs c.requires.empty k x
-        (ap (λ (l : List X). get_elem? l k) (sym e) ∙ q)))
+    (ap (λ (l : List X). get_elem? l k) (sym e) ∙ q)))
 
 pub invariant_of-first : goal.invariant_of-first
 invariant_of-first g c =
@@ -37,11 +37,11 @@ invariant_of-first g c =
     let same : length ks ≡ length vs = ap (λ v. length v.items) c.of-key.ensures in
     let e = c.in-Ok.ensures.ok in
     let long : length c.in_ok-slots.slots.items ≡ length vs = ap (λ (l : List (Option X)). length l) c.in_ok-slots.ensures
-          ∙ simp length-map in
+    ∙ simp length-map in
     let slots = ap (λ t. t.slots) e.2 in
     let count : c.len-count.result ≡ c.in-Ok.seat.table_id.slots = omega (arith, c.len-count.ensures, long, e.1, slots) in
     keeps_new g.T.Past.past _ _ ks _ _ _ _ (omega (arith, ap (λ m. m.0.parts) e.4)) (ap (λ m. m.0.turn) e.4) (ap (λ m. m.0.slots) e.4)
-        (ap (λ m. m.0.start) e.4) (ap (λ m. m.1) e.4) (omega (arith, same, long, e.1, slots))
+    (ap (λ m. m.0.start) e.4) (ap (λ m. m.1) e.4) (omega (arith, same, long, e.1, slots))
     c.in_ok-room.ensures.items (omega (arith, c.in_ok-room.ensures.capacity, count))
-        (zeros_of _ _ _ (c.in_ok-from_elem.ensures.items_if_clones_equal (λ y q. q)) count)
-        (zeros_of _ _ _ (c.in_ok-from_elem-2.ensures.items_if_clones_equal (λ y q. q)) count)
+    (zeros_of _ _ _ (c.in_ok-from_elem.ensures.items_if_clones_equal (λ y q. q)) count)
+    (zeros_of _ _ _ (c.in_ok-from_elem-2.ensures.items_if_clones_equal (λ y q. q)) count)

@@ -8,7 +8,7 @@ use Rattle.turn_table.proofs.table.Turns.split_all.Goals as goal
 
 pub loop-preserved : goal.loop-preserved
 loop-preserved g c = let old = c.loop.invariant in let k = c.split_hand.ensures.known in let h = c.split_hand.ensures.hands in let p =
-                                                                                                                                     c.push_reserved.ensures in
+    c.push_reserved.ensures in
     let H : Type 0 = HandState g.row.T.Denot in
     let a = sum_by-append (λ (u : H). u.knows.parts) c.loop.list.items (c.split_hand.result ∷ []) in
     let b = ap (λ (l : List H). parts_of l) p.items in

@@ -38,7 +38,7 @@ loop-pair-preserved c =
     let n = c.args.ranks in
     let h : c.loop-pair.pair < n * n = c.loop-pair-test.true in
     subst (λ (v : List NodeState). AreGatedTo n c.args.window c.args.lanes.now c.args.nodes.now v (c.loop-pair.pair + 1))
-        (sym c.gate.ensures)
+    (sym c.gate.ensures)
     (told_more n c.args.window c.args.lanes.now c.args.nodes.now c.loop-pair.nodes c.loop-pair.pair c.requires.nonempty h c.requires.wide
     c.loop-pair.invariant)
 

@@ -17,7 +17,7 @@ pub overflow_mul-places : goal.overflow_mul-places
 overflow_mul-places c =
     let n = c.ranks-ranks.result in
     let e : n ≡ c.schedule-schedule.result.now.ranks = c.ranks-ranks.ensures.value
-          ∙ ap (λ (o : Outline). o.ranks) c.shape-shape.ensures.value in
+    ∙ ap (λ (o : Outline). o.ranks) c.shape-shape.ensures.value in
     let same = c.plan.ensures.ranks in
     let at_most : n ≤ 256 = let q = c.plan.ensures.sound.few_ranks in omega (arith, e, same, q) in
     let q = at_most-pairs n at_most in
@@ -39,7 +39,7 @@ returns c =
     let well : IsWellFormed o = subst IsWellFormed told c.keeps_form.ensures.shape in
     let ranks : c.ranks-ranks.result ≡ n = c.ranks-ranks.ensures.value ∙ ap (λ (s : Outline). s.ranks) told in
     let sound : SoundPlan p (length inputs) = subst (SoundPlan p) (sym ins.many)
-          (subst (λ (s : Outline). SoundPlan (plan_of s) s.inputs) same c.plan.ensures.sound) in
+    (subst (λ (s : Outline). SoundPlan (plan_of s) s.inputs) same c.plan.ensures.sound) in
     let count : p.ranks ≡ n = subst (λ (s : Outline). (plan_of s).ranks ≡ s.ranks) same c.plan.ensures.ranks in
     let at_most : n ≤ 256 = let q = sound.few_ranks in omega (arith, q, count) in
     let some : 0 < n = let q = sound.some_rank in omega (arith, q, count) in

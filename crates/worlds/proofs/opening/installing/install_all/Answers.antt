@@ -23,7 +23,7 @@ loop-r-preserved c =
       fresh = subst (λ (v : List NodeState). (k : ℕ) → k < r + 1 → IsFresh (plan_of job.shape) job.inputs job.shape.ranks strays k
           (node_at v k)) (sym news)
           (pushed (λ k x. IsFresh (plan_of job.shape) job.inputs job.shape.ranks strays k x) nodes node no_node r before.size before.fresh
-              (record {
+          (record {
             compiled = made.compiled;
             kept = made.node;
             locals = made.history;

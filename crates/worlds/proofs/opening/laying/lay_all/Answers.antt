@@ -55,9 +55,9 @@ loop-pair-preserved c =
     let b = c.in_ok-answer.answer in
     let news = c.in_ok-push-2.ensures.items ∙ ap (λ v. v ++ b ∷ []) c.in_ok-push.ensures.items in
     let ea : a ≡ laid_lane p c.args.room (i / o.ranks) (i % o.ranks) Request = c.in_ok-request.ensures
-          ∙ ap (λ m. laid_lane p c.args.room (i / m) (i % m) Request) e in
+    ∙ ap (λ m. laid_lane p c.args.room (i / m) (i % m) Request) e in
     let eb : b ≡ laid_lane p c.args.room (i / o.ranks) (i % o.ranks) Answer = c.in_ok-answer.ensures
-          ∙ ap (λ m. laid_lane p c.args.room (i / m) (i % m) Answer) e in
+    ∙ ap (λ m. laid_lane p c.args.room (i / m) (i % m) Answer) e in
     record {
       size = ap length news ∙ two-more lanes a b i before.size;
       laid = subst (λ (v : List Plain). (k : ℕ) → k < i + 1 → IsLaid f o.ranks v (plain [] 0) k) (sym news)

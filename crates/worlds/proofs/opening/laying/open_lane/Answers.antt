@@ -16,5 +16,5 @@ capacity-many-requires c =
 pub returns : goal.returns
 returns c =
     subst (λ n. IfOk c.open.result (λ l. l ≡ plain [] n)) (c.capacity-many.ensures
-        ∙ ap (λ m. room_of c.args.room m c.args.lane) c.lane.ensures)
+    ∙ ap (λ m. room_of c.args.room m c.args.lane) c.lane.ensures)
     c.open.ensures

@@ -21,7 +21,7 @@ pub overflow_mul-places : goal.overflow_mul-places
 overflow_mul-places c =
     let n = c.ranks-ranks.result in
     let e : n ≡ c.schedule-schedule.result.now.ranks = c.ranks-ranks.ensures.value
-          ∙ ap (λ (o : Outline). o.ranks) c.shape-shape.ensures.value in
+    ∙ ap (λ (o : Outline). o.ranks) c.shape-shape.ensures.value in
     let same = c.plan.ensures.ranks in
     let at_most : n ≤ 256 = let q = c.plan.ensures.sound.few_ranks in omega (arith, e, same, q) in
     let q = at_most-pairs n at_most in
@@ -46,7 +46,7 @@ returns c =
     let well : IsWellFormed o = subst IsWellFormed told c.keeps_form.ensures.shape in
     let ranks : c.ranks-ranks.result ≡ n = c.ranks-ranks.ensures.value ∙ ap (λ (s : Outline). s.ranks) told in
     let sound : SoundPlan p (length inputs) = subst (SoundPlan p) (sym ins.many)
-          (subst (λ (s : Outline). SoundPlan (plan_of s) s.inputs) same c.plan.ensures.sound) in
+    (subst (λ (s : Outline). SoundPlan (plan_of s) s.inputs) same c.plan.ensures.sound) in
     let count : p.ranks ≡ n = subst (λ (s : Outline). (plan_of s).ranks ≡ s.ranks) same c.plan.ensures.ranks in
     let at_most : n ≤ 256 = let q = sound.few_ranks in omega (arith, q, count) in
     let fit : AreInputsOf p inputs = inputs_fit o inputs well ins in
@@ -54,13 +54,13 @@ returns c =
     let fresh = c.in_ok-nodes.ensures.fresh in
     let wide : length lanes ≡ 2 * (n * n) = c.in_ok-lanes.ensures.size ∙ ap (λ (s : Outline). 2 * (s.ranks * s.ranks)) same in
     let laid = subst (λ (s : Outline). (a d : ℕ) (lane : Lane) → a < s.ranks → d < s.ranks →
-          lane_at lanes (lane_place s.ranks a d lane) ≡ fresh_lane (plan_of s) strays a d lane) same c.in_ok-lanes.ensures.laid in
+    lane_at lanes (lane_place s.ranks a d lane) ≡ fresh_lane (plan_of s) strays a d lane) same c.in_ok-lanes.ensures.laid in
     let starts = c.in_ok-starts.ensures in
     let firings = c.in_ok-firings.ensures in
     let of_starts = subst (λ (v : List NodeState). (r : ℕ) → r < length v → get_or c.in_ok-starts.starts r 0 ≡ start_count (node_at v r))
-          c.deref.ensures.value starts.counts in
+    c.deref.ensures.value starts.counts in
     let of_firings = subst (λ (v : List NodeState). (r : ℕ) → r < length v → get_or c.in_ok-firings.firings r 0 ≡ firing_count
-          (node_at v r)) c.deref-2.ensures.value firings.counts in
+    (node_at v r)) c.deref-2.ensures.value firings.counts in
     record {
       world = is-world p inputs n nodes lanes c.args.window strays at_most count sound fit c.requires.window size wide fresh laid
           c.in_ok-starts.starts c.in_ok-deliveries.deliveries c.in_ok-firings.firings

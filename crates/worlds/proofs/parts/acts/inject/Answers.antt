@@ -24,16 +24,16 @@ joined-requires-clause-right c = c.requires.world.world.counted.of_firings c.arg
 pub returns-clause-step : goal.returns-clause-step
 returns-clause-step c =
     inject_step_as c.requires.world.plan c.requires.world.inputs c.args.setting.ranks c.args.nodes.now c.args.lanes.now c.args.starts.now
-        c.args.deliveries.now c.args.firings.now c.args.setting.window c.args.setting.strays c.args.setting.spare c.requires.world.world
-        c.args.s c.args.d c.args.message c.requires.left c.requires.from c.requires.destination c.requires.stray c.put_request.new.lanes
-        c.put_request.ensures.put c.joined.new.nodes c.joined.new.deliveries c.joined.new.firings
+    c.args.deliveries.now c.args.firings.now c.args.setting.window c.args.setting.strays c.args.setting.spare c.requires.world.world
+    c.args.s c.args.d c.args.message c.requires.left c.requires.from c.requires.destination c.requires.stray c.put_request.new.lanes
+    c.put_request.ensures.put c.joined.new.nodes c.joined.new.deliveries c.joined.new.firings
     (record { gates = c.joined.ensures.gates; of_deliveries = c.joined.ensures.deliveries; of_firings = c.joined.ensures.firings })
 
 pub returns-clause-world : goal.returns-clause-world
 returns-clause-world c = λ p inputs k used.
     inject_world_as p inputs c.args.setting.ranks c.args.nodes.now c.args.lanes.now c.args.starts.now c.args.deliveries.now
-        c.args.firings.now c.args.setting.window c.args.setting.strays c.args.setting.spare k c.args.s c.args.d c.args.message
-        c.requires.left c.requires.from c.requires.destination c.requires.stray c.put_request.new.lanes c.put_request.ensures.put
-        c.joined.new.nodes c.joined.new.deliveries c.joined.new.firings
+    c.args.firings.now c.args.setting.window c.args.setting.strays c.args.setting.spare k c.args.s c.args.d c.args.message
+    c.requires.left c.requires.from c.requires.destination c.requires.stray c.put_request.new.lanes c.put_request.ensures.put
+    c.joined.new.nodes c.joined.new.deliveries c.joined.new.firings
     (record { gates = c.joined.ensures.gates; of_deliveries = c.joined.ensures.deliveries; of_firings = c.joined.ensures.firings })
-        c.requires.source c.requires.target c.put_request.ensures.kept c.requires.short used
+    c.requires.source c.requires.target c.put_request.ensures.kept c.requires.short used

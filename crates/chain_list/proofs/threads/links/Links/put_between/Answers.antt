@@ -18,6 +18,6 @@ set-requires c = omega (arith, length-nodes c.self.inside.links.items, ap length
 pub returns : goal.returns
 returns c =
     rw (← c.self.view_is) (ap nodes_of c.set.ensures.items ∙ set-nodes c.self.inside.links.items c.args.place
-        (record { thread = c.args.thread; before = c.code_of-before.result; after = c.code_of-after.result })
+    (record { thread = c.args.thread; before = c.code_of-before.result; after = c.code_of-after.result })
     ∙ (λ i. set (nodes_of c.self.inside.links.items) c.args.place
-        (Some (node c.args.thread (c.code_of-before.ensures i) (c.code_of-after.ensures i)))))
+    (Some (node c.args.thread (c.code_of-before.ensures i) (c.code_of-after.ensures i)))))

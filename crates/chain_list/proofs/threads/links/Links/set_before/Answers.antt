@@ -23,4 +23,4 @@ returns c =
     rw (← c.self.view_is) (ap nodes_of c.set.ensures.items ∙ set-nodes ls c.args.place (record found { before = c.code_of-code.result })
     ∙ ap (λ o. set (nodes_of ls) c.args.place (Some (node found.thread o (place_in found.after)))) c.code_of-code.ensures
     ∙ ap (λ n. set (nodes_of ls) c.args.place (with_before c.args.to n))
-        (sym (get-nodes ls c.args.place found lt ∙ ap node_of (sym c.at-link.ensures))))
+    (sym (get-nodes ls c.args.place found lt ∙ ap node_of (sym c.at-link.ensures))))

@@ -14,8 +14,8 @@ returns-clause-last c =
     let t = c.self.invariant.each c.args.thread lt in
     let is = c.index.ensures ∙ get_or_default c.self.inside.ends.items c.args.thread c.index.result.now no_ends lt in
     ap (λ (d : Ends). d.last) is ∙ t.last_is ∙ last-on c.args.thread None
-        (get_or (threads_of c.self.inside.links c.self.inside.ends.items) c.args.thread [])
-        ∙ ap (λ w. last_place (thread c.args.thread w)) c.self.view_is
+    (get_or (threads_of c.self.inside.links c.self.inside.ends.items) c.args.thread [])
+    ∙ ap (λ w. last_place (thread c.args.thread w)) c.self.view_is
 
 pub returns-clause-apart : goal.returns-clause-apart
 returns-clause-apart c =
@@ -23,4 +23,4 @@ returns-clause-apart c =
     let lt : c.args.thread < length c.self.inside.ends.items = omega (arith, on, c.self.invariant.long) in
     let t = c.self.invariant.each c.args.thread lt in
     subst (λ w. AreApart (thread c.args.thread w)) c.self.view_is
-        (apart-on c.args.thread (get_or (threads_of c.self.inside.links c.self.inside.ends.items) c.args.thread []) t.apart)
+    (apart-on c.args.thread (get_or (threads_of c.self.inside.links c.self.inside.ends.items) c.args.thread []) t.apart)

@@ -10,7 +10,7 @@ pub invariant_of-result : goal.invariant_of-result
 invariant_of-result c =
     let ends = c.in-Ok.ensures.items_if_clones_equal (λ y q. q) in
     settled _ _ _ (subst (λ es. IsThreads c.in_ok-links.links es (replicate c.args.count [])) (sym ends)
-        (no_threads c.in_ok-links.links c.args.count))
+    (no_threads c.in_ok-links.links c.args.count))
 
 pub returns : goal.returns
 returns c =

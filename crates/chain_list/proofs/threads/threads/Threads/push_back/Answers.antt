@@ -22,7 +22,7 @@ pub set_previous-requires-clause-after : goal.set_previous-requires-clause-after
 set_previous-requires-clause-after c =
     let within = subst (λ w. c.args.place < w.places) (sym c.self.view_is) c.requires.place in
     let long = ap length c.set_next.ensures.links ∙ length-places_after c.index.result.now.last (Some c.args.place) _
-          ∙ ap length c.put.ensures ∙ length-set c.self.inside.links c.args.place (Some (node c.args.thread None None)) in
+    ∙ ap length c.put.ensures ∙ length-set c.self.inside.links c.args.place (Some (node c.args.thread None None)) in
     omega (arith, within, long)
 
 pub set_previous-requires-clause-before : goal.set_previous-requires-clause-before
@@ -31,7 +31,7 @@ set_previous-requires-clause-before c =
     let lt : c.args.thread < length c.self.inside.ends.items = omega (arith, on, c.self.invariant.long) in
     let long = ap length c.set_next.ensures.links ∙ length-places_after c.index.result.now.last (Some c.args.place) c.put.new.self in
     subst (λ n. IfSome c.index.result.now.last (λ q. q < n)) (sym long)
-        (last-within _ _ _ _ c.args.thread c.args.place c.index.result.now _ c.self.invariant lt c.index.ensures c.put.ensures)
+    (last-within _ _ _ _ c.args.thread c.args.place c.index.result.now _ c.self.invariant lt c.index.ensures c.put.ensures)
 
 pub invariant_of-self : goal.invariant_of-self
 invariant_of-self c =
@@ -40,7 +40,7 @@ invariant_of-self c =
     let within = subst (λ w. c.args.place < w.places) (sym c.self.view_is) c.requires.place in
     let free = off-threads c.args.place _ (subst (λ w. is_threaded c.args.place w ≡ false) (sym c.self.view_is) c.requires.free) in
     let p = pushed _ _ _ _ _ _ c.args.thread c.args.place c.index.result.now
-          (record { first = c.set_previous.new.ends.first; last = Some c.args.place }) c.self.invariant lt within free c.index.ensures
+    (record { first = c.set_previous.new.ends.first; last = Some c.args.place }) c.self.invariant lt within free c.index.ensures
     c.put.ensures c.set_next.ensures.links c.set_previous.ensures.links (c.set_previous.ensures.first ∙ c.set_next.ensures.first) refl in
     settled _ _ _ p.0
 
@@ -51,7 +51,7 @@ returns c =
     let within = subst (λ w. c.args.place < w.places) (sym c.self.view_is) c.requires.place in
     let free = off-threads c.args.place _ (subst (λ w. is_threaded c.args.place w ≡ false) (sym c.self.view_is) c.requires.free) in
     let p = pushed _ _ _ _ _ _ c.args.thread c.args.place c.index.result.now
-          (record { first = c.set_previous.new.ends.first; last = Some c.args.place }) c.self.invariant lt within free c.index.ensures
+    (record { first = c.set_previous.new.ends.first; last = Some c.args.place }) c.self.invariant lt within free c.index.ensures
     c.put.ensures c.set_next.ensures.links c.set_previous.ensures.links (c.set_previous.ensures.first ∙ c.set_next.ensures.first) refl in
     let is = viewed _ _ _ p.0 in
     rw (← c.self.view_is) (λ i. woven (is i) (p.1 i))

@@ -70,11 +70,11 @@ invariant_of-self c =
     let s = seen _ _ _ on.0 c.args.place c.self.invariant on.1 in
     let l = link-seen _ _ _ _ _ _ _ _ s c.at-link.ensures in
     let u = unlinked _ _ _ _ _ _ _ c.thread.result c.before-before.result c.after-after.result c.index.result.now c.set_previous.new.ends
-          c.self.invariant s
+    c.self.invariant s
     (c.thread.ensures ∙ l.0, c.before-before.ensures ∙ l.1, c.after-after.ensures ∙ l.2) c.index.ensures c.set_next.ensures.links
-        c.set_previous.ensures.links
+    c.set_previous.ensures.links
     (c.set_previous.ensures.first ∙ c.set_next.ensures.first) (c.set_previous.ensures.last
-        ∙ ap (λ o. cond (is_some c.after-after.result) o c.before-before.result) c.set_next.ensures.last) in
+    ∙ ap (λ o. cond (is_some c.after-after.result) o c.before-before.result) c.set_next.ensures.last) in
     settled _ _ _ u.0
 
 pub returns : goal.returns
@@ -84,10 +84,10 @@ returns c =
     let s = seen _ _ _ on.0 c.args.place c.self.invariant on.1 in
     let l = link-seen _ _ _ _ _ _ _ _ s c.at-link.ensures in
     let u = unlinked _ _ _ _ _ _ _ c.thread.result c.before-before.result c.after-after.result c.index.result.now c.set_previous.new.ends
-          c.self.invariant s
+    c.self.invariant s
     (c.thread.ensures ∙ l.0, c.before-before.ensures ∙ l.1, c.after-after.ensures ∙ l.2) c.index.ensures c.set_next.ensures.links
-        c.set_previous.ensures.links
+    c.set_previous.ensures.links
     (c.set_previous.ensures.first ∙ c.set_next.ensures.first) (c.set_previous.ensures.last
-        ∙ ap (λ o. cond (is_some c.after-after.result) o c.before-before.result) c.set_next.ensures.last) in
+    ∙ ap (λ o. cond (is_some c.after-after.result) o c.before-before.result) c.set_next.ensures.last) in
     let is = viewed _ _ _ u.0 in
     rw (← c.self.view_is) (λ i. woven (is i) (u.1 i))

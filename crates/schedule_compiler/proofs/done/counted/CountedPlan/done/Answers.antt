@@ -21,7 +21,7 @@ pub at-requires : goal.at-requires
 at-requires c =
     let p = c.self.inside.plan in
     let e = length-table (λ r. length (of_key (sent_key p) (length p.links) r)) p.ranks c.self.inside.sent
-          (c.self.invariant.messages (sym c.if-remote.ensures)) in
+    (c.self.invariant.messages (sym c.if-remote.ensures)) in
     let v = ap (λ (q : Plan). q.ranks) c.self.view_is in
     let r = c.requires in
     omega (arith, e, v, r)
@@ -31,7 +31,7 @@ overflow_add-result c =
     let p = c.self.inside.plan in
     let a = counted-at_most (rank_of p) (length p.cells) p.ranks c.args.r c.self.inside.cells c.self.invariant.own in
     let b = counted-at_most (sent_key p) (length p.links) p.ranks c.args.r c.self.inside.sent
-          (c.self.invariant.messages (sym c.if-remote.ensures)) in
+    (c.self.invariant.messages (sym c.if-remote.ensures)) in
     let x = c.at-cells.ensures in
     let y = c.at.ensures in
     let f = c.self.invariant.tabled.few_together in
