@@ -58,7 +58,8 @@ pub fn request_is_served()
         (s r : ℕ) (reads : Bool) →
         length choices ≤ 2 ^ 64 → s < length choices → seat.word s < 2 ^ 64 → r < 2 ^ 64 →
         target (view slots ranks choices 0 seat) (ask_message theirs choices r (ask s reads)) ≡
-        delivers (view slots ranks choices 0 (with_word s (word_after (choice_at choices s) reads r (seat.word s)) seat)) Matched (Some (answer_message theirs choices r (answer s reads (seat.word s)))) }
+        delivers (view slots ranks choices 0 (with_word s (word_after (choice_at choices s) reads r (seat.word s)) seat)) Matched
+        (Some (answer_message theirs choices r (answer s reads (seat.word s)))) }
     ensures unseen { (slots : Slots) (ranks : ℕ) (choices : List ChoiceKind) (r : ℕ) (seat : ChoiceRank)
         (s w : ℕ) →
         view slots ranks choices r (with_phase s (served w (seat.phase s)) seat) ≡
@@ -72,5 +73,6 @@ pub fn answer_comes_home()
         a.step < length choices → IsAnswer (seat.phase a.step) a →
         (choice_at choices a.step ≡ Tickets → is_plain (seat.phase a.step) ≡ true) →
         target (view slots ranks choices r seat) (answer_message slots choices r a) ≡
-        delivers (view slots ranks choices r (with_phase a.step (at_home (choice_at choices a.step) (seat.phase a.step)) seat)) Answered None }
+        delivers (view slots ranks choices r (with_phase a.step (at_home (choice_at choices a.step) (seat.phase a.step)) seat)) Answered
+        None }
 {}

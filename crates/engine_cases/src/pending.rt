@@ -9,7 +9,8 @@ const GO: Handle = Handle { slot: 0, stamp: 4 };
 
 const AGAIN: Handle = Handle { slot: 0, stamp: 5 };
 
-/// Posts an operation where there is room. The call tells the prover nothing and asks it for nothing, so that a test is proved line by line.
+/// Posts an operation where there is room. The call tells the prover nothing and asks it for nothing, so that a test is proved line by
+/// line.
 fn posted(
     pending: &mut Pending<u8>,
     deed: u8,

@@ -48,7 +48,8 @@ impl Model for ChoiceWorld {
 
     ghost view = { λ w. record { ranks = w.ranks; kinds = w.kinds.items; seats = w.seats.items; lanes = w.lanes.items } };
 
-    ghost invariant = { λ w. AreFields (record { ranks = w.ranks; kinds = w.kinds.items; seats = w.seats.items; lanes = w.lanes.items }) w.starts w.deliveries w.firings };
+    ghost invariant = { λ w. AreFields (record { ranks = w.ranks; kinds = w.kinds.items; seats = w.seats.items; lanes = w.lanes.items })
+        w.starts w.deliveries w.firings };
 }
 
 // Written out, so that letting one go is one call: docs/DECISIONS.md, "Large types have a drop of their own".

@@ -43,7 +43,16 @@ impl Model for StepContext {
       holding = s.holding.items;
     } };
 
-    ghost invariant = { λ s. IsSite (record { members = s.members.items; first = s.first; exits = s.exits.items; sources = s.sources.items; ty = s.ty; length = s.length; holding = s.holding.items }) };
+    ghost invariant = { λ s. IsSite (record {
+      members = s.members.items;
+      first = s.first;
+      exits = s.exits.items;
+      sources =
+          s.sources.items;
+      ty = s.ty;
+      length = s.length;
+      holding = s.holding.items;
+    }) };
 }
 
 impl StepContext {

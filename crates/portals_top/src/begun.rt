@@ -35,8 +35,8 @@ pub enum Begun {
         /// What they run.
         job: Job,
     },
-    /// So many workers are to run this job, which is of the description that the number chooses, and its summary is to be written. Nothing was
-    /// read or written.
+    /// So many workers are to run this job, which is of the description that the number chooses, and its summary is to be written.
+    /// Nothing was read or written.
     Large {
         /// What chooses the values of the description, below 65,536.
         number: u32,

@@ -163,7 +163,8 @@ fn sim<K: Sink>(alloc: Global, job: &Job, seed: u64, sink: &mut K, ran: &mut Ran
     status_of(written)
 }
 
-/// Runs a job in a mode that is for one thread, writes what is due, and hands back the world. In each other mode the run is left to workers.
+/// Runs a job in a mode that is for one thread, writes what is due, and hands back the world. In each other mode the run is left to
+/// workers.
 pub(crate) fn run_alone<K: Sink>(
     alloc: Global,
     mode: Mode,

@@ -255,10 +255,10 @@ fn started<R: Threads + Sync, S: Source, K: Sink>(
     }
 }
 
-/// What of the whole program one thread does: no call in it waits, and it always returns. Words that no worker is needed for are answered, as
-/// `portals_main` says: `once`, `sim X`, `plan`, `check`, and all that get the usage line. For the others the source is read, the text is
-/// refused or compiled, and the run is left to workers: then the sink is untouched, and no world is handed back. `run W`, `trace W`, `steady W`
-/// and `json W` are read by so many threads at most, the caller among them.
+/// What of the whole program one thread does: no call in it waits, and it always returns. Words that no worker is needed for are
+/// answered, as `portals_main` says: `once`, `sim X`, `plan`, `check`, and all that get the usage line. For the others the source is
+/// read, the text is refused or compiled, and the run is left to workers: then the sink is untouched, and no world is handed back. `run
+/// W`, `trace W`, `steady W` and `json W` are read by so many threads at most, the caller among them.
 pub fn begin<R: Threads + Sync, S: Source, K: Sink>(
     rt: &R,
     alloc: Global,

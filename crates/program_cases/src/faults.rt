@@ -110,8 +110,8 @@ fn pieces_and_faults_of_both_ends(rt: HostRuntime) -> Result<(), Fail> {
     Ok(())
 }
 
-/// The sink takes a thousand bytes so many times of the first piece, and then fails while threads make lines: these bytes stand, and the run
-/// ends.
+/// The sink takes a thousand bytes so many times of the first piece, and then fails while threads make lines: these bytes stand, and the
+/// run ends.
 fn fails_after_takes(
     rt: &(impl Abort + Threads + Wait + Sync),
     alloc: Global,

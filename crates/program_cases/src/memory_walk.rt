@@ -1,5 +1,5 @@
-//! Memory may run out at any allocation: a run then writes nothing, else all that the description means. What the tests take themselves is taken
-//! before the first run, so that a refused allocation is one of a run.
+//! Memory may run out at any allocation: a run then writes nothing, else all that the description means. What the tests take themselves
+//! is taken before the first run, so that a refused allocation is one of a run.
 
 use crate::comparing::{same, same_bytes};
 use crate::runs::run_into;

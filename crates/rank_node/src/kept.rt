@@ -34,7 +34,9 @@ impl Model for NodeHandles {
           record { counters = k.counter_room; entries = k.entry_room; descriptors = k.descriptor_room };
     } };
 
-    ghost invariant = { λ k. (k.counter_room ≤ vec_capacity k.counters) × (k.entry_room ≤ vec_capacity k.entries) × (k.descriptor_room ≤ vec_capacity k.descriptors) × AreInOrder k.counters.items × AreInOrder k.entries.items × AreInOrder k.descriptors.items };
+    ghost invariant = { λ k. (k.counter_room ≤ vec_capacity k.counters) × (k.entry_room ≤ vec_capacity k.entries) ×
+        (k.descriptor_room ≤ vec_capacity k.descriptors) × AreInOrder k.counters.items × AreInOrder k.entries.items ×
+        AreInOrder k.descriptors.items };
 }
 
 impl NodeHandles {

@@ -66,7 +66,15 @@ impl Model for Node {
       closed = n.gates;
     } };
 
-    ghost invariant = { λ n. IsNode (record { task = task_from n.compiled n.began.value.list n.called.value.items; kept = n.kept; diary = n.history; nic = n.nic; strays = n.strays; closed = n.gates }) × (n.compiled.longest ≤ vec_capacity n.buffer) };
+    ghost invariant = { λ n. IsNode (record {
+      task = task_from n.compiled n.began.value.list n.called.value.items;
+      kept = n.kept;
+      diary =
+          n.history;
+      nic = n.nic;
+      strays = n.strays;
+      closed = n.gates;
+    }) × (n.compiled.longest ≤ vec_capacity n.buffer) };
 }
 
 // Written out, so that letting one go is one call: docs/DECISIONS.md, "Large types have a drop of their own".

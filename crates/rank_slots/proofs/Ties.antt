@@ -191,7 +191,8 @@ module _ (p : Plan) (inputs : Inputs) where
     strays = tied.strays;
     heard = tied.heard;
     out = λ i y a. let x = exists_at outs i (let k = within outs' i y a in let m = pairs.many in omega arith) in let ok =
-        out-same n x.0 y (pairs.each i x.0 y x.1 a) (tied.out i x.0 x.1) in record { used = ok.used; inside = ok.inside; bounds = ok.bounds; sent_is = ok.sent_is };
+        out-same n x.0 y (pairs.each i x.0 y x.1 a) (tied.out i x.0 x.1) in
+        record { used = ok.used; inside = ok.inside; bounds = ok.bounds; sent_is = ok.sent_is };
     into = λ i y a. let ok = tied.into i y a in record { bounds = ok.bounds; got_is = ok.got_is };
     outs_differ = λ i j y z a b goal lane.
         (let o = exists_at outs i (let k = within outs' i y a in let m = pairs.many in omega arith) in

@@ -243,8 +243,8 @@ impl TurnRank {
         self.receive_pending(rt, wires, mail, gate)
     }
 
-    /// Advances, and where that did nothing and something waits at an out end, says so and looks once more: what was taken out of a full wire
-    /// before that wakes nobody.
+    /// Advances, and where that did nothing and something waits at an out end, says so and looks once more: what was taken out of a full
+    /// wire before that wakes nobody.
     fn advance_or_wait<R: Wait, G: Gate>(
         &mut self,
         rt: &R,

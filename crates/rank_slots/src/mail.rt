@@ -11,8 +11,8 @@ use std::sync::atomic::{AtomicU64, Ordering};
 /// How many lanes a word tells of.
 pub(crate) const WORD: usize = 64;
 
-/// How many words there are at least from one rank's to the next one's, so that no two ranks have a cache line in common, nor two lines that
-/// are fetched together.
+/// How many words there are at least from one rank's to the next one's, so that no two ranks have a cache line in common, nor two lines
+/// that are fetched together.
 const LINE: usize = 16;
 
 /// The number of a lane among those to or from one rank.

@@ -73,8 +73,8 @@ impl TurnRank {
         }
     }
 
-    /// Notes what the slot says of its rank, of which nothing is noted yet: whether it has started, an operation that is ready if one is, and
-    /// how many messages it sent and received on each lane that the wave has for it. One that waits for room counts as sent.
+    /// Notes what the slot says of its rank, of which nothing is noted yet: whether it has started, an operation that is ready if one is,
+    /// and how many messages it sent and received on each lane that the wave has for it. One that waits for room counts as sent.
     pub fn note_in(&self, rank: Rank, wave: &mut Wave)
         requires rank { rank < length wave.old }
         requires empty { (x : RankNote) → get_elem? wave.old rank ≡ some x → x.there ≡ false }

@@ -234,8 +234,8 @@ impl TurnRank {
     }
 
     /// Makes one step of the rank and answers it: the start; else the firing of an operation that is ready; else the receipt of the oldest
-    /// message of a lane. What waits is tried again before. `None` only where there was none to make, and what was found is said of the slot
-    /// as it was and as it is. It may wait inside the wires' queues, and takes no memory.
+    /// message of a lane. What waits is tried again before. `None` only where there was none to make, and what was found is said of the
+    /// slot as it was and as it is. It may wait inside the wires' queues, and takes no memory.
     pub fn step<R: Wait, G: Gate>(
         &mut self,
         rt: &R,

@@ -114,6 +114,7 @@ at_most-messages p inputs r sound = at p.remote
   where
     at : (b : Bool) → length (links_to p r) + cond b (sends_of p r) 0 < 2 ^ 33
     at true = let f = length-filter (comes_to p r) (all_links p) in let g = count_by-le-length (comes_to p r) (all_links p) in let k =
-        length-from_to 0 (length p.links) in let s = count-out-le p r in let at_most = sound.few_together in omega (arith, f, g, k, s, at_most)
+        length-from_to 0 (length p.links) in let s = count-out-le p r in let at_most = sound.few_together in
+        omega (arith, f, g, k, s, at_most)
     at false = let f = length-filter (comes_to p r) (all_links p) in let g = count_by-le-length (comes_to p r) (all_links p) in let k =
         length-from_to 0 (length p.links) in let at_most = sound.few_together in omega (arith, f, g, k, at_most)

@@ -72,7 +72,8 @@ fn lift_wires<R: Wait>(rt: &R, wires: &[Wire], slots: &mut [TurnRank], frame: &m
     ensures lifted { (k : ℕ) (w : WireState) → get_elem? wires.now k ≡ some w →
         IsLifted w.bounds slots.old (lane_in frame.new w.bounds.source w.bounds.target w.bounds.lane) }
     ensures unused { (s d : ℕ) (lane : Lane) → s < frame.old.shape.ranks → d < frame.old.shape.ranks →
-        is_used_lane (plan_of frame.old.shape) s d lane ≡ false → lane_in frame.new s d lane ≡ frame_lane (plan_of frame.old.shape) s d lane }
+        is_used_lane (plan_of frame.old.shape) s d lane ≡ false → lane_in frame.new s d lane ≡ frame_lane (plan_of frame.old.shape) s d
+        lane }
 {
     let mut wires = wires;
     while let Some((wire, before)) = wires.split_last() {

@@ -94,8 +94,8 @@ fn numbered_text<H: ResultLists>(
     line_text(alloc, shape, held, buffer, (number % ranks) as Rank)
 }
 
-/// The lines of a result as texts, made by so many threads at most, the caller among them; each takes the next line that none has taken. There
-/// are none where that isn't worth it, and where there is no memory for one its place is empty.
+/// The lines of a result as texts, made by so many threads at most, the caller among them; each takes the next line that none has taken.
+/// There are none where that isn't worth it, and where there is no memory for one its place is empty.
 fn line_texts<R: Threads + Sync, H: ResultLists + Sync>(
     rt: &R,
     alloc: Global,
@@ -128,9 +128,10 @@ fn line_texts<R: Threads + Sync, H: ResultLists + Sync>(
     }
 }
 
-/// Writes the text of a result and finishes the sink, as `write_result` does. Where the lists that are printed are long, so many threads at most,
-/// the caller among them, make its lines before the first byte is written, in memory that they take for them; what they can't make, since memory
-/// or threads ran out, the call makes itself as it writes. Once the first byte is written no memory is taken, and no thread is started.
+/// Writes the text of a result and finishes the sink, as `write_result` does. Where the lists that are printed are long, so many threads
+/// at most, the caller among them, make its lines before the first byte is written, in memory that they take for them; what they can't
+/// make, since memory or threads ran out, the call makes itself as it writes. Once the first byte is written no memory is taken, and no
+/// thread is started.
 ///
 /// At `Failed` the count of the sink's faults rose, and a beginning of the text stands.
 pub fn write_result_by<R: Threads + Sync, K: Sink, H: ResultLists + Sync>(

@@ -378,7 +378,8 @@ module _ (at : ℕ → Option Wait) (w : Woven) (stamps : List ℕ) (h : IsHung 
             ap (λ l. l ++ thread (2 * j + 1) w) (ap (λ i. thread i w) due.1 ∙ is) ∙ append_assoc before behind (thread (2 * j + 1) w) in
             let now : thread (2 * j) new ++ thread (2 * j + 1) new ≡ before ++ p ∷ (behind ++ thread (2 * j + 1) w) =
             (λ i. first i ++ second i) ∙ append_assoc before (p ∷ behind) (thread (2 * j + 1) w) in
-            let away = λ (q : ℕ) (on : is_on q (before ++ (behind ++ thread (2 * j + 1) w)) ≡ true). two-apart j q (ap (is_on q) old ∙ on) in
+            let away = λ (q : ℕ) (on : is_on q (before ++ (behind ++ thread (2 * j + 1) w)) ≡ true). two-apart j q
+            (ap (is_on q) old ∙ on) in
             subst (Ascending with_it) (sym now) (asc-insert with_it p before (behind ++ thread (2 * j + 1) w)
             (kept_order (before ++ (behind ++ thread (2 * j + 1) w)) away (subst (Ascending at) old (h.ordered j lt)))
             (λ q on. let le = fit.due_below j (sym due.1) lt q on in let s =

@@ -93,7 +93,8 @@ times_numbers_from p a zero = let e : a + 0 ≡ a = omega arith in let f : once_
 times_numbers_from p a (suc d) = let g = sum_by-cons (λ y. cond (y == p) 1 0) a (numbers_from (suc a) d) in let h =
     times_numbers_from p
     (suc a) d in let s =
-    below_suc p a in let e : a + suc d ≡ suc a + d = omega arith in let f : once_below p (a + suc d) ≡ once_below p (suc a + d) = ap (λ n. once_below p n) e in omega arith
+    below_suc p a in let e : a + suc d ≡ suc a + d = omega arith in
+    let f : once_below p (a + suc d) ≡ once_below p (suc a + d) = ap (λ n. once_below p n) e in omega arith
 
 pub times_append : (p : ℕ) (xs ys : List ℕ) → times p (xs ++ ys) ≡ times p xs + times p ys
 times_append p xs ys = sum_by-append (λ y. cond (y == p) 1 0) xs ys

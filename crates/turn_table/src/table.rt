@@ -61,7 +61,8 @@ impl<T: Past> Model for TurnHand<T> {
 
     ghost view = { λ h. record { table = h.seat.table_id; knows = h.seat.me.0 } };
 
-    ghost invariant = { λ h. HandKeeps T.past h.seat.table_id.slots h.seat.me h.room.items (vec_capacity h.room) h.made.items h.seen.items h.found };
+    ghost invariant = { λ h. HandKeeps T.past h.seat.table_id.slots h.seat.me h.room.items (vec_capacity h.room) h.made.items h.seen.items
+        h.found };
 }
 
 /// A value that is out. It can't be let go: it must be given back.

@@ -8,8 +8,8 @@ use std::process::Abort;
 use std::sync::atomic::{AtomicU64, Ordering};
 use std::thread::Threads;
 
-// Three times each index from `from` on, of so many indices, by so many threads: so many calls are made, and give these values. A place that
-// is empty counts as 1.
+// Three times each index from `from` on, of so many indices, by so many threads: so many calls are made, and give these values. A place
+// that is empty counts as 1.
 fn thrice<R: Abort + Alloc<A = Global> + Threads + Sync>(
     rt: &R,
     threads: usize,

@@ -385,7 +385,8 @@ unlinked-all cs es xss k p e' t s f g =
                 (subst (λ d. IsThread new k d (without p (get_or xss k []))) (sym (get_or-set_same es k e' no_ends s.within))
                 (unlinked-here cs es xss k p e' s f g))
             | inr q ↦ subst (λ d. IsThread new j d (without p (get_or xss j []))) (sym (get_or-set_other es k j e' no_ends q.1))
-                (unlinked-other cs es xss k p j (get_or es j no_ends) (get_or xss j []) s (t.each j (omega (arith, length-set es k e'))) q.1)
+                (unlinked-other cs es xss k p j (get_or es j no_ends) (get_or xss j []) s
+                (t.each j (omega (arith, length-set es k e'))) q.1)
           ]);
     }
 

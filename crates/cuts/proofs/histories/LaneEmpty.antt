@@ -271,14 +271,15 @@ made-empty p k r (e ∷ es) v m h g i a = at (made_by v e) refl i
 
 prepared-no_gets : (p : Plan) (inputs : Inputs) → SoundPlan p (length inputs) → (k : Slots) (r : ℕ) →
     NoGetsIn (prepare p inputs k r).indices
-prepared-no_gets p inputs sound k r = subst (λ (v : State). NoGetsIn v.indices) (sym (prepared p inputs k r (λ n. k) (length inputs) sound)) (
-  (
-    (λ x i. absurd i),
-    (λ x i. let q = In-map_cases (area_linked p k r []) x (classes p r) i in
-        subst (λ (y : Linked). y.entry.allow_get ≡ false) q.2 refl),
-  ),
-  tt,
-)
+prepared-no_gets p inputs sound k r = subst (λ (v : State). NoGetsIn v.indices)
+    (sym (prepared p inputs k r (λ n. k) (length inputs) sound)) (
+      (
+        (λ x i. absurd i),
+        (λ x i. let q = In-map_cases (area_linked p k r []) x (classes p r) i in
+            subst (λ (y : Linked). y.entry.allow_get ≡ false) q.2 refl),
+      ),
+      tt,
+    )
 
 pub answers-empty : (p : Plan) (inputs : Inputs) → SoundPlan p (length inputs) → (k : Slots) (r : ℕ) (es : List Local) (m : Sent) →
     IsOf p k r (prepare p inputs k r) → In m (made (start_of p k r) (prepare p inputs k r) es) → is_answer m.header.kind ≡ true →

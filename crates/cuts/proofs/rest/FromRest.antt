@@ -64,7 +64,8 @@ module _ (starts : CombineStarts) (p : Plan) (inputs : Inputs) (sound : SoundPla
       record {
         early = e.early;
         is = ap (λ v. state (start_of p (slots r) r) v (w r))
-            (prepared p inputs (slots r) r slots (length inputs) sound) ∙ (simulation starts p inputs sound fit slots w cut r h).ends ∙ e.is;
+            (prepared p inputs (slots r) r slots (length inputs) sound)
+            ∙ (simulation starts p inputs sound fit slots w cut r h).ends ∙ e.is;
       }
 
   end_is : (r : ℕ) (h : r < p.ranks) → state_at (system_of p inputs slots) w r ≡ view (annex_of p (slots r) r (ended r h).early) p inputs

@@ -497,7 +497,8 @@ module _ (starts : CombineStarts) (annex : Annex) (p : Plan) (inputs : Inputs) (
       pub used : AllUsed (longest_to p r) (own_cell p r c) (length (view annex p inputs s r g).memory)
           (found_in 0 (started_entry (counter_at s (own p r) c) (own_cell p r c)) (map (arrived_of p) xs))
       pub accepted : append_fault 0 (started_entry (counter_at s (own p r) c) (own_cell p r c))
-          (parts_of (with_brought (longest_to p r) (counter_at s (own p r) c) (own_cell p r c) (partly annex p inputs s r g xs es n))) ≡ None
+          (parts_of (with_brought (longest_to p r) (counter_at s (own p r) c) (own_cell p r c)
+          (partly annex p inputs s r g xs es n))) ≡ None
       pub next : cell_started (longest_to p r) s.me (counter_at s (own p r) c) (own_cell p r c) (partly annex p inputs s r g xs es n)
           ≡ partly annex p inputs s r (took g (map early_came (here_of c xs))) (left_of c xs) (es ++ cell_linked n c ∷ []) (n + 1)
       pub sized : Sized p inputs (took g (map early_came (here_of c xs)))
@@ -761,7 +762,8 @@ module _ (starts : CombineStarts) (annex : Annex) (p : Plan) (inputs : Inputs) (
         let k = In-map_cases (counter_of p s r g) x (own p r) i in
         let h : same_handle (cell_ct p s k.0) (cell_ct p s r) ≡ true = ap (λ (y : Live Count). same_handle y.handle (cell_ct p s r)) k.2
         ∙ q in
-        let z : suc (place_in (own p (cell p k.0).rank) k.0) ≡ suc (place_in (own p (cell p r).rank) r) = eqb-true _ _ (and_parts _ _ h).0 in
+        let z : suc (place_in (own p (cell p k.0).rank) k.0) ≡ suc (place_in (own p (cell p r).rank) r) =
+        eqb-true _ _ (and_parts _ _ h).0 in
         let y : place_in (own p r) k.0 ≡ place_in (own p r) r =
         subst (λ v. place_in (own p v) k.0 ≡ place_in (own p r) r) (own-In p r k.0 k.1).1
         (subst (λ v. place_in (own p (cell p k.0).rank) k.0 ≡ place_in (own p v) r) (sound.go_needs r in_range).2 (omega arith)) in

@@ -378,7 +378,8 @@ module _ (p : Plan) (inputs : Inputs) (sound : SoundPlan p (length inputs)) (fit
         one.0,
         one.1,
         subst (λ v. AllPass k (own p r) (map f back ++ ys) v)
-            (ap (λ xs. calls_made k (own p r) xs s) (map-append f front (x ∷ [])) ∙ calls-append k (own p r) (map f front) (f x ∷ []) s) more,
+            (ap (λ xs. calls_made k (own p r) xs s) (map-append f front (x ∷ []))
+            ∙ calls-append k (own p r) (map f front) (f x ∷ []) s) more,
       )
 
   abbrev operations : List Call

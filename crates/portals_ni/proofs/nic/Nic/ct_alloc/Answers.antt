@@ -24,5 +24,6 @@ returns c =
       makes = rw (← c.self.view_is) (alloc-makes n.target n.region n.cts n.eqs n.initiator n.pending n.drops n.violations
           c.new.result c.make.new.things c.make.result c.new.ensures made.err made.unchanged made.ok made.stamp made.free made.made);
       slot =
-          rw (← c.self.view_is) (subst (λ m. IfOk c.make.result (λ h. h.slot < m)) c.self.invariant.stands.limits.counting_events made.slot);
+          rw (← c.self.view_is) (subst (λ m. IfOk c.make.result (λ h. h.slot < m)) c.self.invariant.stands.limits.counting_events
+          made.slot);
     }
