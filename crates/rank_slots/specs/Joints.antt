@@ -2,7 +2,7 @@
 use Rattle.std.specs.Prelude.{ℕ, ◌≡◌, ◌<◌, List, length}
 use mathlib.Core.Option.{some}
 use lib.ListN.{get_elem?}
-use Rattle.atomic_table.specs.ChoiceRankState.{TableId}
+use Rattle.atomic_table.specs.Seated.{TableId}
 use Rattle.pair_wires.specs.declared.bounds.Bounds.{Bounds}
 use Rattle.pair_wires.specs.Wires.{WireState}
 use Rattle.rank_slots.specs.declared.ports.OutPort.{OutPort}

@@ -13,7 +13,7 @@ use Rattle.turn_table.specs.declared.views.SlotView.{SlotView}
 use Rattle.turn_table.specs.declared.views.HandView.{HandView}
 use Rattle.std.specs.Prelude.{sum_by}
 use Rattle.turn_table.specs.Views.{times, once_below, places}
-use Rattle.turn_table.specs.Rules.{Where, home, out, value_of, Shows, SlotOk, ChoiceRankOk, Begun, KeepsTurns}
+use Rattle.turn_table.specs.Rules.{Where, home, out, value_of, Shows, SlotOk, SeatOk, Begun, KeepsTurns}
 use Rattle.turn_table.proofs.Sums.{sum_set, set_there, prefix_trans}
 
 module _ {A : Type 0} where
@@ -74,7 +74,7 @@ module _ {T N I : Type 0} (past : T → List I) (name : T → N) (start : List T
       → ((k' : ℕ) (x : T) → k' ≢ k → v.turn ≡ Some (record { slot = k'; value = x }) → w.turn ≡ Some (record { slot = k'; value = x }))
       → ((j : ℕ) (x : T) → j ≢ id → r.cells k ≡ out j x → c ≡ out j x)
       → IsPrefix (past (value_of (r.cells k))) (past (value_of c))
-      → ChoiceRankOk past name start (put r.cells k c) id w
+      → SeatOk past name start (put r.cells k c) id w
       → w.parts ≡ v.parts
       → ((p : ℕ) → times p (places w k) + once_below p (length (past (value_of (r.cells k)))) ≡ times p (places v k) + once_below p
       (length (past (value_of c))))
@@ -98,7 +98,7 @@ module _ {T N I : Type 0} (past : T → List I) (name : T → N) (start : List T
               holder = λ i x is. (let h = ok.holder i x is in stays s.views id j i x v w h.0 at h.1 h.2 (λ y. keeps j y apart)
                   (ℕ_discrete i id));
             });
-        seat_ok = λ j u e. ⊎_elim (λ (t : (j ≡ id) × (w ≡ u)). subst (λ (y : ℕ × HandView T). ChoiceRankOk past name start Cs y.0 y.1)
+        seat_ok = λ j u e. ⊎_elim (λ (t : (j ≡ id) × (w ≡ u)). subst (λ (y : ℕ × HandView T). SeatOk past name start Cs y.0 y.1)
             (λ i. (sym t.0 i, t.1 i)) mine)
             (λ (t : (j ≢ id) × (get_elem? s.views j ≡ some u)). let ok = r.seat_ok j u t.1 in record {
               alive = ok.alive;

@@ -5,7 +5,7 @@ use mathlib.Core.Option.{some}
 use mathlib.Core.List.{IsPrefix}
 use lib.ListN.{get_elem?}
 use Rattle.std.specs.Prelude.{Option}
-use Rattle.atomic_table.specs.ChoiceRankState.{TableId}
+use Rattle.atomic_table.specs.Seated.{TableId}
 use Rattle.atomic_table.specs.Table.{Me}
 use Rattle.turn_table.specs.declared.views.HandView.{HandView}
 use Rattle.turn_table.specs.Views.{adjusted, open_turn, places, busier_slot, after_busy, after_take, after_turn, after_give, after_split}

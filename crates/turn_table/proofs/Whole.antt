@@ -16,7 +16,7 @@ use Rattle.turn_table.specs.declared.views.SlotView.{SlotView}
 use Rattle.turn_table.specs.declared.views.HandView.{HandView}
 use Rattle.turn_table.specs.Views.{times, once_below, places_in, places, unseen, all_unseen, first_view, after_split, new_view, spent_view}
 use Rattle.turn_table.specs.Views.{joined_slots, after_join, open_turn}
-use Rattle.turn_table.specs.Rules.{Where, home, out, value_of, Shows, ChoiceRankOk, KeepsTurns, Ends}
+use Rattle.turn_table.specs.Rules.{Where, home, out, value_of, Shows, SeatOk, KeepsTurns, Ends}
 use Rattle.turn_table.proofs.Sums.{sum_set, sum_two, sum_alone, times_append, below_zero}
 use Rattle.turn_table.proofs.Cells.{stays}
 use Rattle.turn_table.proofs.Steps.{none_held}
@@ -126,7 +126,7 @@ module _ {T N I : Type 0} (past : T → List I) (name : T → N) (start : List T
         });
         seat_ok = λ j u e. ⊎_elim
             (λ (t : get_elem? vs j ≡ some u). ⊎_elim
-            (λ (q : (j ≡ id) × (l ≡ u)). subst (λ (y : ℕ × HandView T). ChoiceRankOk past name start r.cells y.0 y.1)
+            (λ (q : (j ≡ id) × (l ≡ u)). subst (λ (y : ℕ × HandView T). SeatOk past name start r.cells y.0 y.1)
             (λ i. (sym q.0 i, q.1 i)) record {
               alive = λ _. mine.alive some_part;
               idle = λ z. absurd (omega arith);
@@ -134,7 +134,7 @@ module _ {T N I : Type 0} (past : T → List I) (name : T → N) (start : List T
               begun = mine.begun;
             })
             (λ (q : (j ≢ id) × (get_elem? s.views j ≡ some u)). r.seat_ok j u q.1) (at_set s.views id j l u t))
-            (λ (t : f ≡ u). subst (λ (y : HandView T). ChoiceRankOk past name start r.cells j y) t record {
+            (λ (t : f ≡ u). subst (λ (y : HandView T). SeatOk past name start r.cells j y) t record {
               alive = λ _. ((mine.alive some_part).0, unseen_length v.start ∙ ap (λ (l : List T). length l) (mine.alive some_part).0);
               idle = λ z. absurd (omega arith);
               turn = λ k x q. absurd (none_held (open_turn k x) q);
@@ -176,14 +176,14 @@ module _ {T N I : Type 0} (past : T → List I) (name : T → N) (start : List T
               (ℕ_discrete j other));
         });
         seat_ok = λ j u e. ⊎_elim
-            (λ (t : (j ≡ other) × (last ≡ u)). subst (λ (y : HandView T). ChoiceRankOk past name start r.cells j y) t.1 record {
+            (λ (t : (j ≡ other) × (last ≡ u)). subst (λ (y : HandView T). SeatOk past name start r.cells j y) t.1 record {
               alive = λ z. absurd (omega arith);
               idle = λ _. (refl, λ k. refl);
               turn = λ k x q. absurd (none_held (open_turn k x) q);
               begun = λ k p i b q z. absurd (some-ne-none p (sym q));
             })
             (λ (t : (j ≢ other) × (get_elem? vs j ≡ some u)). ⊎_elim
-            (λ (q : (j ≡ id) × (b ≡ u)). subst (λ (y : ℕ × HandView T). ChoiceRankOk past name start r.cells y.0 y.1)
+            (λ (q : (j ≡ id) × (b ≡ u)). subst (λ (y : ℕ × HandView T). SeatOk past name start r.cells y.0 y.1)
             (λ i. (sym q.0 i, q.1 i)) record {
               alive = λ _. ((mine.alive some_mine).0, merged_length v.slots w.slots ∙ (mine.alive some_mine).1);
               idle = λ z. absurd (omega arith);
@@ -228,7 +228,7 @@ module _ {T N I : Type 0} (past : T → List I) (name : T → N) (start : List T
       holder = λ j x e. absurd (home_is (get_or start k d) j x e);
     });
     seat_ok = λ j v e. (let is : first_view start ≡ v = only j v e in
-        subst (λ (u : HandView T). ChoiceRankOk past name start (λ k. home (get_or start k d)) j u) is record {
+        subst (λ (u : HandView T). SeatOk past name start (λ k. home (get_or start k d)) j u) is record {
           alive = λ _. (refl, unseen_length start);
           idle = λ z. absurd (omega arith);
           turn = λ k x q. absurd (none_held (open_turn k x) q);

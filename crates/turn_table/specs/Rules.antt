@@ -40,7 +40,7 @@ module _ {T N I : Type 0} (past : T → List I) (name : T → N) where
       → IsPrefix (past t.given) (past (value_of (cells k)))
 
   -- of the seat j with the view v: a turn that it has is out with it, and what it saw at each slot begins the past there
-  pub record ChoiceRankOk (start : List T) (cells : ℕ → Where T) (j : ℕ) (v : HandView T) : Type 0 where
+  pub record SeatOk (start : List T) (cells : ℕ → Where T) (j : ℕ) (v : HandView T) : Type 0 where
     pub alive : 0 < v.parts → (v.start ≡ start) × (length v.slots ≡ length start)
     pub idle : v.parts ≡ 0 → (v.turn ≡ None) × ((k : ℕ) → places v k ≡ [])
     pub turn : (k : ℕ) (x : T) → v.turn ≡ Some (open_turn k x) → (k < length start) × (cells k ≡ out j x)
@@ -53,7 +53,7 @@ module _ {T N I : Type 0} (past : T → List I) (name : T → N) where
     pub homed : length s.homes ≡ length start
     pub parts : sum_by (λ v. v.parts) s.views ≡ 2 ^ 32
     pub slot_ok : (k : ℕ) → k < length start → SlotOk start s.words s.homes s.views k (cells k)
-    pub seat_ok : (j : ℕ) (v : HandView T) → get_elem? s.views j ≡ some v → ChoiceRankOk start cells j v
+    pub seat_ok : (j : ℕ) (v : HandView T) → get_elem? s.views j ≡ some v → SeatOk start cells j v
     pub placed : (k p : ℕ) → k < length start
         → sum_by (λ v. times p (places v k)) s.views ≡ once_below p (length (past (value_of (cells k))))
     pub long : (k : ℕ) → k < length start → sum_by (λ v. length (places v k)) s.views ≡ length (past (value_of (cells k)))

@@ -1,6 +1,6 @@
 -- What a table and a hand stand for, and what each keeps.
 use Rattle.std.specs.Prelude.{◌≡◌, ℕ, ◌<◌, ◌≤◌, List, [], ◌∷◌, length, Option, Some, None, slice_index_or}
-use Rattle.atomic_table.specs.ChoiceRankState.{TableId}
+use Rattle.atomic_table.specs.Seated.{TableId}
 use Rattle.atomic_table.specs.Table.{Me}
 use Rattle.turn_table.specs.declared.views.OpenTurn.{OpenTurn}
 use Rattle.turn_table.specs.declared.views.HandView.{HandView}

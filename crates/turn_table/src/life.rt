@@ -10,7 +10,7 @@ ghost use Rattle.turn_table.specs.Rules.{Ends};
 use crate::plays::{JoinHand, SplitHand};
 use crate::table::{TurnHand, Turns};
 use crate::views::{HandView, Past};
-use atomic_table::{ChoiceRank, Table};
+use atomic_table::{Seat, Table};
 use ptl_types::NoMemory;
 use std::alloc::{AllocError, Global};
 use std::snapshot::Snapshot;
@@ -41,7 +41,7 @@ impl<T: Past> Turns<T> {
     }
 
     // The other hand's seat is taken in.
-    fn join_into(&self, seat: &mut ChoiceRank<Option<T>, HandView<T>>, other: TurnHand<T>)
+    fn join_into(&self, seat: &mut Seat<Option<T>, HandView<T>>, other: TurnHand<T>)
         requires seat { IsFreeSeat self.now seat.old.table_id seat.old.me }
         requires other { IsFree self.now other }
         ensures known { seat.new.me.0 ≡ after_join seat.old.me.0 other.knows }
@@ -58,7 +58,7 @@ impl<T: Past> Turns<T> {
     }
 
     // The seats of all hands in one, and room for all values.
-    fn join_all(&self, hands: Vec<TurnHand<T>>) -> (ChoiceRank<Option<T>, HandView<T>>, Vec<T>)
+    fn join_all(&self, hands: Vec<TurnHand<T>>) -> (Seat<Option<T>, HandView<T>>, Vec<T>)
         requires hands { All (λ h. IsFree self.now h) hands.items }
         requires nonempty { 0 < length hands.items }
         ensures seat { IsFreeSeat self.now result.0.table_id result.0.me }
@@ -91,7 +91,7 @@ impl<T: Past> Turns<T> {
     }
 
     // The values, by the seat that has every part.
-    fn take_values(self, seat: ChoiceRank<Option<T>, HandView<T>>, mut room: Vec<T>) -> Vec<T>
+    fn take_values(self, seat: Seat<Option<T>, HandView<T>>, mut room: Vec<T>) -> Vec<T>
         requires room { (room.items ≡ []) × (length self.start ≤ vec_capacity room) }
         requires seat { (seat.table_id ≡ self.table) × (seat.me.0.parts ≡ 2 ^ 32) × (seat.me.0.turn ≡ None) }
         ensures length { length result.items ≡ length self.start }

@@ -1,7 +1,7 @@
 //! The table, its hands and its turns.
 
 use crate::views::{HandView, Past};
-use atomic_table::{ChoiceRank, Table, TableRule};
+use atomic_table::{Seat, Table, TableRule};
 use std::alloc::Global;
 use std::marker::Model;
 use std::snapshot::Snapshot;
@@ -43,7 +43,7 @@ impl<T: Past> Model for Turns<T> {
 /// places in the past that it added, and how many of its tries found the slot out.
 #[derive(Drop)]
 pub struct TurnHand<T: Past> {
-    pub(crate) seat: ChoiceRank<Option<T>, HandView<T>>,
+    pub(crate) seat: Seat<Option<T>, HandView<T>>,
     // Room for all values, at the closing.
     pub(crate) room: Vec<T>,
     // For each slot how many places it added, and how long the past was at the end of its last turn.

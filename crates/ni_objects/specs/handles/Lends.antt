@@ -3,7 +3,7 @@ use Rattle.std.specs.Prelude.{Option}
 use Rattle.std.specs.Borrow.{Lends, LendsIf, Fml, RattleType, MutBor}
 use Rattle.ptl_types.specs.declared.handles.Handle.{Handle}
 use Rattle.ni_model.specs.Tables.{Table, changed}
-use Rattle.ni_objects.specs.handles.contracts.Store.{the_row}
+use Rattle.ni_objects.specs.contracts.handles.Store.{the_row}
 
 module _ (T : RattleType) (s : MutBor (Table T.Denot)) (h : Handle) where
   abbrev pub lends_held : MutBor T.Denot → Fml
