@@ -20,11 +20,11 @@ use Rattle.worlds.specs.parts.Layout.{held_in}
 use Rattle.worlds.proofs.parts.Placed.{place_told, ranks_told}
 use Rattle.worlds.proofs.Numbered.{delivery_numbered, firing_numbered, start_numbered, total_of}
 use Rattle.worlds.proofs.Places.{lane_may_be, one_delivery, one_start}
-use Rattle.choices.specs.machine.Choices.{choice_at}
-use Rattle.choices.specs.view.Install.{ct_of}
-use Rattle.choices.specs.view.Install.Counter.{Done}
-use Rattle.choices.specs.laws.Decided.{IsDecided, result_of}
-use Rattle.choices.proofs.laws.Resting.{rest_decided, right_same}
+use Rattle.choice_texts.specs.machine.Choices.{choice_at}
+use Rattle.choice_texts.specs.view.Install.{ct_of}
+use Rattle.choice_texts.specs.view.Install.Counter.{Done}
+use Rattle.choice_texts.specs.laws.Decided.{IsDecided, result_of}
+use Rattle.choice_texts.proofs.laws.Resting.{rest_decided, right_same}
 use Rattle.plan_choice.specs.Acts.{seat_at}
 use Rattle.plan_choice.specs.World.{AreFields, ChoiceState, IsDecidedWorld, IsStanding, histories_in, ranks_in, scene_in, steps_in}
 use Rattle.plan_choice.specs.World.{value_in}

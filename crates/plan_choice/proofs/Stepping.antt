@@ -24,9 +24,9 @@ use Rattle.worlds.specs.parts.Marks.{out_with, popped, receiver}
 use Rattle.worlds.proofs.parts.Gated.{scene_by}
 use Rattle.worlds.proofs.parts.BufferCells.{held_here, held_set, set_capacity, set_other, set_size}
 use Rattle.worlds.proofs.Listed.{offered, ready_is}
-use Rattle.choices.specs.machine.Counted.{steps_due}
-use Rattle.choices.specs.laws.Traffic.{IsMade as IsSent}
-use Rattle.choices.proofs.laws.Traffic.{comes, firing_makes, receipt_makes}
+use Rattle.choice_texts.specs.machine.Counted.{steps_due}
+use Rattle.choice_texts.specs.laws.Traffic.{IsMade as IsSent}
+use Rattle.choice_texts.proofs.laws.Traffic.{comes, firing_makes, receipt_makes}
 use Rattle.plan_choice.specs.ranks.Seats.{ChoiceRankState, fired_seat, received_seat, started_seat}
 use Rattle.plan_choice.specs.Acts.{AreMarked, AreSized, IsFirst, IsStepped, MayMake, made_at, seat_at}
 use Rattle.plan_choice.specs.World.{AreFields, ChoiceState, IsLater, histories_in, ranks_in, scene_in, steps_in}

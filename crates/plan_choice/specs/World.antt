@@ -15,11 +15,11 @@ use Rattle.cuts.specs.declared.orders.Step.{Step}
 use Rattle.cuts.specs.windows.Places.{lane_place}
 use Rattle.worlds.specs.parts.Layout.{held_in, lane_at}
 use Rattle.worlds.specs.parts.Marks.{delivery_count}
-use Rattle.choices.specs.machine.Choices.{IsRight, choice_at}
-use Rattle.choices.specs.machine.Counted.{steps_due}
-use Rattle.choices.specs.view.Install.{ct_of}
-use Rattle.choices.specs.view.Install.Counter.{Done, Go}
-use Rattle.choices.specs.laws.Decided.{IsInRange, choice_system, is_choice_lane, result_of}
+use Rattle.choice_texts.specs.machine.Choices.{IsRight, choice_at}
+use Rattle.choice_texts.specs.machine.Counted.{steps_due}
+use Rattle.choice_texts.specs.view.Install.{ct_of}
+use Rattle.choice_texts.specs.view.Install.Counter.{Done, Go}
+use Rattle.choice_texts.specs.laws.Decided.{IsInRange, choice_system, is_choice_lane, result_of}
 use Rattle.plan_choice.specs.ranks.Seats.{ChoiceRankState, go_of, slots_in}
 use Rattle.plan_choice.specs.Acts.{firing_count, seat_at, start_count}
 

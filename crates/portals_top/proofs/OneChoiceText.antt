@@ -17,10 +17,10 @@ use Rattle.cuts.proofs.orders.Choosing.{below}
 use Rattle.shape_plans.specs.Footprint.{Refused as Excessive, refusal}
 use Rattle.run_text.specs.Lines.{rest_line, value_line}
 use Rattle.run_text.specs.Orders.{order_text}
-use Rattle.choices.specs.view.Install.{Slots}
-use Rattle.choices.specs.laws.Decided.{IsInRange, choice_system, result_of}
-use Rattle.choices.proofs.orders.Ending.{choice_ends}
-use Rattle.choices.proofs.orders.OneRun.{one_result, one_run}
+use Rattle.choice_texts.specs.view.Install.{Slots}
+use Rattle.choice_texts.specs.laws.Decided.{IsInRange, choice_system, result_of}
+use Rattle.choice_texts.proofs.orders.Ending.{choice_ends}
+use Rattle.choice_texts.proofs.orders.OneRun.{one_result, one_run}
 use Rattle.plan_choice.specs.ranks.Seats.{kind_of, kinds_of, slots_in}
 use Rattle.plan_choice.specs.Acts.{seat_at}
 use Rattle.plan_choice.specs.World.{ChoiceState, histories_in, nic_in, value_in}

@@ -7,8 +7,8 @@ use Rattle.coll_lang.specs.Program.{Chosen, Program}
 use Rattle.coll_lang.specs.Readable.{chosen_name}
 use Rattle.cuts.specs.histories.System.{Histories, System, state_at}
 use Rattle.cuts.specs.orders.Taking.{listed}
-use Rattle.choices.specs.view.Install.{Slots}
-use Rattle.choices.specs.laws.Decided.{choice_system, result_of}
+use Rattle.choice_texts.specs.view.Install.{Slots}
+use Rattle.choice_texts.specs.laws.Decided.{choice_system, result_of}
 use Rattle.plan_choice.specs.ranks.Seats.{kinds_of}
 use Rattle.run_text.specs.Lines.{rest_line, value_line}
 use Rattle.run_text.specs.Orders.{order_text}

@@ -4,7 +4,7 @@ ghost use Rattle.chain_list.specs.threads.Nodes.{place_in, node_of};
 ghost use Rattle.chain_list.specs.NodeMap.{node};
 ghost use Rattle.chain_list.specs.Relinked.{places_after, places_before};
 
-use chain_list::Places;
+use crate::Places;
 use ptl_types::NoMemory;
 use std::alloc::Global;
 use std::marker::Model;
