@@ -4,7 +4,8 @@
 ghost use Rattle.std.specs.Prelude.{ℕ, List, ◌≡◌, ◌<◌, ◌≤◌, ◌∷◌, true, length};
 ghost use Rattle.coll_lang.specs.declared.choices.ChoiceKind.{ChoiceKind};
 ghost use Rattle.choice_texts.specs.machine.Choices.{IsRight, choice_at};
-ghost use Rattle.choice_texts.specs.machine.Machine.{Moment, Ask, Answer, IsTold, value_of, opened, begun, fired, taken, returned, is_ready};
+ghost use Rattle.choice_texts.specs.machine.Machine.{Moment, Ask, Answer, IsTold, value_of, opened, begun, fired, taken, returned};
+ghost use Rattle.choice_texts.specs.machine.Machine.{is_ready};
 ghost use Rattle.choice_texts.specs.machine.Lawful.{IsLawful, IsResting};
 
 /// The first moment keeps what every moment keeps.

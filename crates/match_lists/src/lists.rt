@@ -68,7 +68,8 @@ impl Model for Lists {
 
     ghost Value = { Both };
 
-    ghost view = { λ l. both (values l.priority.entries) (values l.overflow.entries) l.limit l.slots (l.priority.given + l.overflow.given) };
+    ghost view = { λ l. both (values l.priority.entries) (values l.overflow.entries) l.limit l.slots
+        (l.priority.given + l.overflow.given) };
 
     ghost invariant = { λ l. IsLists l.priority l.overflow l.by_slot.items l.limit l.slots };
 }

@@ -18,7 +18,8 @@ use Rattle.plan_core.proofs.Lists.{count-append}
 use Rattle.coll_lang.specs.declared.choices.ChoiceKind.{ChoiceKind}
 use Rattle.choice_texts.specs.machine.Choices.{choice_at}
 use Rattle.coll_lang.specs.declared.choices.ChoiceKind.TheVariants.{Elect, Tickets}
-use Rattle.choice_texts.specs.machine.Machine.{Answer, Ask, Moment, Phase, ask, begun as begun_in, fired as fired_in, opened, returned, sent_at}
+use Rattle.choice_texts.specs.machine.Machine.{Answer, Ask, Moment, Phase, ask, begun as begun_in, fired as fired_in, opened, returned}
+use Rattle.choice_texts.specs.machine.Machine.{sent_at}
 use Rattle.choice_texts.specs.machine.Machine.{taken}
 use Rattle.choice_texts.specs.machine.Machine.Phase.{Answered, Asked, Idle, Learned, Read, Reading, Served, Told}
 use Rattle.choice_texts.specs.machine.Lawful.{IsLawful}

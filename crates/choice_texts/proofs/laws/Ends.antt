@@ -10,7 +10,8 @@ use Rattle.cuts.specs.histories.History.{is_start}
 use Rattle.cuts.specs.histories.Moment.{IsStill, Lanes}
 use Rattle.coll_lang.specs.declared.choices.ChoiceKind.{ChoiceKind}
 use Rattle.choice_texts.specs.machine.Counted.{steps_due, steps_made}
-use Rattle.choice_texts.proofs.machine.Counting.{answers_few, asks_few, full_idle, full_no_answers, full_no_asks, full_parts, made_all, made_le}
+use Rattle.choice_texts.proofs.machine.Counting.{answers_few, asks_few, full_idle, full_no_answers, full_no_asks, full_parts, made_all}
+use Rattle.choice_texts.proofs.machine.Counting.{made_le}
 use Rattle.choice_texts.specs.view.Install.{Slots, answer_message, ask_message, seat_of}
 use Rattle.choice_texts.proofs.view.Firings.{step_fire}
 use Rattle.cuts.specs.histories.System.{Histories, state_at}

@@ -29,7 +29,8 @@ use Rattle.choice_texts.proofs.view.StepServe.{step_serve}
 use Rattle.cuts.specs.histories.System.{Histories, System, state_at}
 use Rattle.choice_texts.specs.laws.Decided.{IsInRange, choice_system}
 use Rattle.choice_texts.proofs.laws.Agreement.{Agrees, Moved, answer_goes, answer_no_ask, both_false, dropped_one, for_answer, for_rank}
-use Rattle.choice_texts.proofs.laws.Agreement.{kept_one, left_here, left_there, lengths_next, starts_stay, state_here, state_there, taken_here}
+use Rattle.choice_texts.proofs.laws.Agreement.{kept_one, left_here, left_there, lengths_next, starts_stay, state_here, state_there}
+use Rattle.choice_texts.proofs.laws.Agreement.{taken_here}
 use Rattle.choice_texts.proofs.laws.Agreement.{taken_there, untaken}
 
 -- ---- the first of a lane

@@ -10,7 +10,8 @@ use Rattle.plan_core.proofs.Links.{Distinct-from_to, In-from_to, from_to-In}
 use Rattle.coll_lang.specs.declared.choices.ChoiceKind.{ChoiceKind}
 use Rattle.choice_texts.specs.machine.Choices.{choice_at}
 use Rattle.coll_lang.specs.declared.choices.ChoiceKind.TheVariants.{Elect, Tickets}
-use Rattle.choice_texts.specs.machine.Machine.{Answer, Ask, IsTold, Moment, Phase, advanced, at_home, begun, fired, is_ready, opened, put_in}
+use Rattle.choice_texts.specs.machine.Machine.{Answer, Ask, IsTold, Moment, Phase, advanced, at_home, begun, fired, is_ready, opened}
+use Rattle.choice_texts.specs.machine.Machine.{put_in}
 use Rattle.choice_texts.specs.machine.Machine.{returned, served, taken}
 use Rattle.choice_texts.specs.machine.Machine.Phase.{Answered, Asked, Idle, Learned, Read, Reading, Served, Told}
 use Rattle.choice_texts.specs.machine.Lawful.{Holds, IsAnswer, IsAsk, IsLawful, IsResting, answer_step, ask_step, is_plain}

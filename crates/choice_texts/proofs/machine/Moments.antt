@@ -9,7 +9,8 @@ use Rattle.plan_core.proofs.Lists.{Distinct-map, In-map_cases, all_Within, lengt
 use Rattle.coll_lang.specs.declared.choices.ChoiceKind.{ChoiceKind}
 use Rattle.choice_texts.specs.machine.Choices.{HasValue, IsRight, choice_at}
 use Rattle.coll_lang.specs.declared.choices.ChoiceKind.TheVariants.{Elect, Tickets}
-use Rattle.choice_texts.specs.machine.Machine.{Answer, Ask, IsTold, Moment, Phase, advanced, answer, at_home, begun, fired, is_ready, opened}
+use Rattle.choice_texts.specs.machine.Machine.{Answer, Ask, IsTold, Moment, Phase, advanced, answer, at_home, begun, fired, is_ready}
+use Rattle.choice_texts.specs.machine.Machine.{opened}
 use Rattle.choice_texts.specs.machine.Machine.{put, put_in, returned, sent_at, served, taken, value_of, word_after}
 use Rattle.choice_texts.specs.machine.Machine.Phase.{Answered, Asked, Idle, Learned, Read, Reading, Served, Told}
 use Rattle.choice_texts.specs.machine.Lawful.{Holds, InFlight, IsLawful, IsResting, answer_step, ask_step, has_ticket, is_past, is_plain}

@@ -17,7 +17,8 @@ use Rattle.coll_lang.specs.declared.choices.ChoiceKind.TheVariants.{Elect, Ticke
 use Rattle.choice_texts.specs.machine.Choices.{choice_at}
 use Rattle.choice_texts.specs.machine.Machine.{Phase, advanced}
 use Rattle.choice_texts.proofs.machine.Places.{put-other}
-use Rattle.choice_texts.specs.view.Install.{ChoiceRank, Slots, RankOp, deed_of, first_deed, get_args, is_told, number_of, operation, put_args}
+use Rattle.choice_texts.specs.view.Install.{ChoiceRank, Slots, RankOp, deed_of, first_deed, get_args, is_told, number_of, operation}
+use Rattle.choice_texts.specs.view.Install.{put_args}
 use Rattle.choice_texts.specs.view.Install.{view, was_fired, was_read, was_sent, rank_ops}
 use Rattle.choice_texts.specs.view.Install.Part.{Old, Result}
 use Rattle.choice_texts.specs.view.Install.RankOp.{Look, Send, ForDone}

@@ -12,7 +12,8 @@ use Rattle.choice_texts.specs.machine.Choices.{choice_at}
 use Rattle.choice_texts.specs.machine.Machine.{first_word}
 use Rattle.choice_texts.specs.view.Install.{Counter, Part, Slots, RankOp, counters_of, deed_of, descriptor_of, entries_of, four_words}
 use Rattle.choice_texts.specs.view.Install.{given_word, limits_of, parts_of, step_bytes, steps, view, word_entry, rank_ops}
-use Rattle.choice_texts.specs.view.Calls.{AllPass, Call, MayMake, blank, call_fault, call_made, calls_made, first_bytes, install, install_calls}
+use Rattle.choice_texts.specs.view.Calls.{AllPass, Call, MayMake, blank, call_fault, call_made, calls_made, first_bytes, install}
+use Rattle.choice_texts.specs.view.Calls.{install_calls}
 use Rattle.choice_texts.specs.view.Calls.{no_seat, step_calls, word_calls}
 use Rattle.choice_texts.specs.view.Calls.Call.{CtAlloc, MdBind, MeAppend, Trigger}
 use Rattle.choice_texts.proofs.view.Folds.{counters_all, entered, entries_all, fresh, made_all, operations_all, parts_all}

@@ -25,9 +25,11 @@ use Rattle.choice_texts.specs.machine.Machine.Phase.{Answered, Asked, Idle, Lear
 use Rattle.choice_texts.proofs.machine.Places.{count_as, count_put, put-other, put-same}
 use Rattle.choice_texts.proofs.machine.Words.{put_as}
 use Rattle.choice_texts.specs.view.Install.{Counter, Part, ChoiceRank, Slots, RankOp, awaits_of, awaits_result, count_of, counters, ct_of}
-use Rattle.choice_texts.specs.view.Install.{ct_stamp, deed_of, first_deed, first_header, get_args, given_word, has_first, has_result, is_out}
+use Rattle.choice_texts.specs.view.Install.{ct_stamp, deed_of, first_deed, first_header, get_args, given_word, has_first, has_result}
+use Rattle.choice_texts.specs.view.Install.{is_out}
 use Rattle.choice_texts.specs.view.Install.{is_reading, is_told, live_counter, live_part, md_of, md_stamp, none_or_one, number_of, old_of}
-use Rattle.choice_texts.specs.view.Install.{operation, parts, put_args, result_counter, step_bytes, steps, view, was_fired, was_read, was_sent}
+use Rattle.choice_texts.specs.view.Install.{operation, parts, put_args, result_counter, step_bytes, steps, view, was_fired, was_read}
+use Rattle.choice_texts.specs.view.Install.{was_sent}
 use Rattle.choice_texts.specs.view.Install.{word, work_counter, rank_ops}
 use Rattle.choice_texts.specs.view.Install.Counter.{Done, First, Go, Second}
 use Rattle.choice_texts.specs.view.Install.Part.{Given, Old, Result}
@@ -39,7 +41,8 @@ use Rattle.choice_texts.proofs.view.Named.{changed_named}
 use Rattle.choice_texts.proofs.view.Stamps.{In-given, In-old, In-result, In-steps, IsWork, counters-In, ct_one, md_one, parts-In}
 use Rattle.choice_texts.proofs.view.StepStart.{bound_for, bound_with, counts_as, memory_as, length-step, parts_as, view_with}
 use Rattle.choice_texts.proofs.view.StepFire.{IsAnswered, IsLearned, IsReadyWork, done_fetch, done_get, done_swap, left_waiting, lookup_md}
-use Rattle.choice_texts.proofs.view.StepFire.{read_answered, ready_work, sent_idle, sent_state, told_learned, true_one, one_true, work_ready}
+use Rattle.choice_texts.proofs.view.StepFire.{read_answered, ready_work, sent_idle, sent_state, told_learned, true_one, one_true}
+use Rattle.choice_texts.proofs.view.StepFire.{work_ready}
 
 -- the descriptor that awaits the first answer
 abbrev pub home_part : ChoiceKind → ℕ → Part

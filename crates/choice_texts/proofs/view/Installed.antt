@@ -21,7 +21,8 @@ use Rattle.choice_texts.proofs.machine.Places.{count_none}
 use Rattle.choice_texts.proofs.machine.Words.{length-from_to}
 use Rattle.choice_texts.specs.view.Install.{Counter, Part, Slots, RankOp, awaits_of, awaits_result, before, count_of, counters, counters_in}
 use Rattle.choice_texts.specs.view.Install.{counters_of, ct_of, ct_stamp, deed_of, descriptor_of, entries_of, entry_of, has_first, last_in}
-use Rattle.choice_texts.specs.view.Install.{live_counter, live_part, md_of, md_stamp, none_or_one, number_of, operation, parts, parts_of, steps}
+use Rattle.choice_texts.specs.view.Install.{live_counter, live_part, md_of, md_stamp, none_or_one, number_of, operation, parts, parts_of}
+use Rattle.choice_texts.specs.view.Install.{steps}
 use Rattle.choice_texts.specs.view.Install.{things_in, view, was_fired, word_entry, work_counter, rank_ops, works_of}
 use Rattle.choice_texts.specs.view.Install.Counter.{Done, First, Go, Second}
 use Rattle.choice_texts.specs.view.Install.Part.{Given, Old, Result}

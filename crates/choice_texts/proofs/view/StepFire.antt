@@ -31,7 +31,8 @@ use Rattle.coll_lang.specs.declared.choices.ChoiceKind.{ChoiceKind}
 use Rattle.coll_lang.specs.declared.choices.ChoiceKind.TheVariants.{Elect}
 use Rattle.choice_texts.specs.machine.Machine.{Phase}
 use Rattle.choice_texts.specs.machine.Machine.Phase.{Answered, Asked, Idle, Learned, Read, Reading, Served, Told}
-use Rattle.choice_texts.specs.view.Install.{Counter, Part, ChoiceRank, Slots, RankOp, count_of, counters, ct_of, ct_stamp, has_first, has_result}
+use Rattle.choice_texts.specs.view.Install.{Counter, Part, ChoiceRank, Slots, RankOp, count_of, counters, ct_of, ct_stamp, has_first}
+use Rattle.choice_texts.specs.view.Install.{has_result}
 use Rattle.choice_texts.specs.view.Install.{is_told, md_of, md_stamp, none_or_one, number_of, operation, parts, view, was_fired, was_read}
 use Rattle.choice_texts.specs.view.Install.{was_sent, work_counter, rank_ops}
 use Rattle.choice_texts.specs.view.Install.Counter.{Done, First, Go, Second}

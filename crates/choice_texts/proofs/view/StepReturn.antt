@@ -23,7 +23,8 @@ use Rattle.choice_texts.specs.machine.Lawful.{IsAnswer, is_plain}
 use Rattle.choice_texts.proofs.machine.Places.{count_as, put-other, put-same}
 use Rattle.choice_texts.proofs.machine.Words.{put_as}
 use Rattle.choice_texts.specs.view.Install.{Counter, Part, ChoiceRank, Slots, RankOp, answer_message, ask_header, awaits_of, awaits_result}
-use Rattle.choice_texts.specs.view.Install.{count_of, counters, ct_named, ct_of, ct_stamp, first_header, four_words, given_word, has_counter}
+use Rattle.choice_texts.specs.view.Install.{count_of, counters, ct_named, ct_of, ct_stamp, first_header, four_words, given_word}
+use Rattle.choice_texts.specs.view.Install.{has_counter}
 use Rattle.choice_texts.specs.view.Install.{has_first, has_result, is_out, is_reading, is_told, live_counter, live_part, md_of, md_stamp}
 use Rattle.choice_texts.specs.view.Install.{none_or_one, old_of, part_counter, part_start, parts, result_counter, step_bytes, steps, view}
 use Rattle.choice_texts.specs.view.Install.{was_fired, was_read, was_sent, word, rank_ops}

@@ -18,8 +18,10 @@ use Rattle.choice_texts.specs.machine.Machine.Phase.{Asked, Read, Reading, Serve
 use Rattle.choice_texts.proofs.machine.Places.{count_as}
 use Rattle.choice_texts.proofs.machine.Words.{put_as}
 use Rattle.choice_texts.specs.view.Install.{Counter, Part, ChoiceRank, Slots, RankOp, awaits_of, awaits_result, count_of, counters, ct_of}
-use Rattle.choice_texts.specs.view.Install.{ct_stamp, descriptor_of, four_words, given_word, has_first, has_result, is_out, is_reading, is_told}
-use Rattle.choice_texts.specs.view.Install.{none_or_one, live_counter, live_part, md_stamp, old_of, operation, parts, step_bytes, steps, view}
+use Rattle.choice_texts.specs.view.Install.{ct_stamp, descriptor_of, four_words, given_word, has_first, has_result, is_out, is_reading}
+use Rattle.choice_texts.specs.view.Install.{is_told}
+use Rattle.choice_texts.specs.view.Install.{none_or_one, live_counter, live_part, md_stamp, old_of, operation, parts, step_bytes, steps}
+use Rattle.choice_texts.specs.view.Install.{view}
 use Rattle.choice_texts.specs.view.Install.{was_fired, was_read, was_sent, rank_ops}
 use Rattle.choice_texts.specs.view.Install.Counter.{Done, First, Go, Second}
 use Rattle.choice_texts.specs.view.Install.Part.{Given, Old, Result}

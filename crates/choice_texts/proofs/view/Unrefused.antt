@@ -27,15 +27,19 @@ use Rattle.coll_lang.specs.declared.choices.ChoiceKind.{ChoiceKind}
 use Rattle.choice_texts.specs.machine.Choices.{choice_at}
 use Rattle.coll_lang.specs.declared.choices.ChoiceKind.TheVariants.{Elect, Tickets}
 use Rattle.choice_texts.proofs.machine.Words.{length-from_to}
-use Rattle.choice_texts.specs.view.Install.{Counter, Part, Slots, RankOp, before, counters, counters_in, counters_of, ct_of, ct_stamp, deed_of}
-use Rattle.choice_texts.specs.view.Install.{descriptor_of, entries_of, entry_of, first_deed, limits_of, md_of, md_stamp, number_of, operation}
-use Rattle.choice_texts.specs.view.Install.{part_start, parts, parts_of, result_counter, step_bytes, steps, things_in, word_entry, work_counter}
+use Rattle.choice_texts.specs.view.Install.{Counter, Part, Slots, RankOp, before, counters, counters_in, counters_of, ct_of, ct_stamp}
+use Rattle.choice_texts.specs.view.Install.{deed_of}
+use Rattle.choice_texts.specs.view.Install.{descriptor_of, entries_of, entry_of, first_deed, limits_of, md_of, md_stamp, number_of}
+use Rattle.choice_texts.specs.view.Install.{operation}
+use Rattle.choice_texts.specs.view.Install.{part_start, parts, parts_of, result_counter, step_bytes, steps, things_in, word_entry}
+use Rattle.choice_texts.specs.view.Install.{work_counter}
 use Rattle.choice_texts.specs.view.Install.{rank_ops, works_of}
 use Rattle.choice_texts.specs.view.Install.Counter.{Done, First, Go}
 use Rattle.choice_texts.specs.view.Install.Part.{Given, Old, Result}
 use Rattle.choice_texts.specs.view.Install.RankOp.{Look, Send, ForDone}
 use Rattle.choice_texts.specs.view.Calls.{no_seat}
-use Rattle.choice_texts.proofs.view.Folds.{counters_all, entered, entries_all, fresh, indexed, made_all, made_part, operations_all, parts_all}
+use Rattle.choice_texts.proofs.view.Folds.{counters_all, entered, entries_all, fresh, indexed, made_all, made_part, operations_all}
+use Rattle.choice_texts.proofs.view.Folds.{parts_all}
 use Rattle.choice_texts.specs.view.Install.{view}
 use Rattle.choice_texts.proofs.view.Named.{flat-In, lookup_named}
 use Rattle.choice_texts.proofs.view.Memory.{inside_step}

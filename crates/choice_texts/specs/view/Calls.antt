@@ -11,7 +11,8 @@ use Rattle.cuts.specs.view.Calls.{with_entry}
 use Rattle.coll_lang.specs.declared.choices.ChoiceKind.{ChoiceKind}
 use Rattle.choice_texts.specs.machine.Choices.{choice_at}
 use Rattle.choice_texts.specs.machine.Machine.{first_word, opened as nothing_done}
-use Rattle.choice_texts.specs.view.Install.{Counter, Part, ChoiceRank, Slots, RankOp, counters_of, ct_of, deed_of, descriptor_of, four_words}
+use Rattle.choice_texts.specs.view.Install.{Counter, Part, ChoiceRank, Slots, RankOp, counters_of, ct_of, deed_of, descriptor_of}
+use Rattle.choice_texts.specs.view.Install.{four_words}
 use Rattle.choice_texts.specs.view.Install.{given_word, limits_of, parts_of, seat_of, steps, word_entry, work_counter, rank_ops}
 use Rattle.choice_texts.specs.view.Install.Counter.{Done, Go}
 
