@@ -3,29 +3,29 @@
 #![tactic(auto)]
 
 mod adding;
-mod allgather;
-mod allreduce;
-mod alltoall;
-mod barrier;
+pub mod allgather;
+pub mod allreduce;
+pub mod alltoall;
+pub mod barrier;
 mod beginning;
-mod broadcast;
+pub mod broadcast;
 mod collective;
 mod drawing;
 mod ends;
-mod exscan;
+pub mod exscan;
 mod first_cells;
-mod gather;
-mod gatherv;
+pub mod gather;
+pub mod gatherv;
 mod incoming;
 pub mod plan_blocks;
 pub mod plan_mesh;
 pub mod plan_rounds;
 pub mod plan_tree;
-mod reduce;
-mod reducescatter;
+pub mod reduce;
+pub mod reducescatter;
 mod row;
-mod scan;
-mod scatter;
+pub mod scan;
+pub mod scatter;
 mod site;
 mod wide;
 

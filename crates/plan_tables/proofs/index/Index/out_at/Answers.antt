@@ -2,7 +2,7 @@
 use Rattle.std.proofs.Common.{◌==◌, ◌∙◌, ap, arith, get_or, length, []}
 use Rattle.plan_core.specs.Plan.{cell, link, out_links}
 use Rattle.plan_tables.proofs.Passes.{get-row, length-table}
-use Rattle.plan_tables.proofs.Indexed.{all-below, few-listed}
+use Rattle.plan_tables.proofs.Indexed.{all-below, at_most-listed}
 use Rattle.plan_tables.proofs.index.Index.out_at.Goals as goal
 
 pub at-requires : goal.at-requires
@@ -17,6 +17,6 @@ pub returns-clause-links : goal.returns-clause-links
 returns-clause-links c = λ i h. all-below (λ l. (cell c.args.plan.now (link c.args.plan.now l).source).rank == c.args.r)
     (length c.args.plan.now.links) c.at.result.now (returns-clause-value c) i h
 
-pub returns-clause-few : goal.returns-clause-few
-returns-clause-few c = few-listed (λ l. (cell c.args.plan.now (link c.args.plan.now l).source).rank == c.args.r)
+pub returns-clause-at_most : goal.returns-clause-at_most
+returns-clause-at_most c = at_most-listed (λ l. (cell c.args.plan.now (link c.args.plan.now l).source).rank == c.args.r)
     (length c.args.plan.now.links) c.at.result.now (returns-clause-value c)
