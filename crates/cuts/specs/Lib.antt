@@ -7,4 +7,5 @@ pub mod done
 pub mod orders
 pub mod windows
 pub mod interleavings
+pub mod cells
 pub mod ended

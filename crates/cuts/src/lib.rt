@@ -2,6 +2,7 @@
 //! histories and their cuts, rest, lists of steps, and what is possible under a window.
 #![tactic(auto)]
 
+pub mod cells;
 pub mod done;
 pub mod ended;
 pub mod histories;
