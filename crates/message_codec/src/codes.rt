@@ -7,6 +7,7 @@ ghost use Rattle.message_codec.specs.Codes.{kind_code, ack_code, operation_code,
 
 use ptl_types::{AckRequest, AtomicOp, ElemType, MessageKind, SwapOp};
 
+/// The code of a kind of message: from 0 in the order of its definition.
 pub fn kind_code(kind: MessageKind) -> u8
     ensures { result ≡ kind_code kind }
 {
@@ -21,6 +22,7 @@ pub fn kind_code(kind: MessageKind) -> u8
     }
 }
 
+/// The kind of message with this code; `None` where no kind has it.
 pub fn kind_of(code: u8) -> Option<MessageKind>
     ensures exact { result ≡ slice_get kinds code }
     ensures back { IfSome result (λ kind. code ≡ kind_code kind) }
@@ -37,6 +39,7 @@ pub fn kind_of(code: u8) -> Option<MessageKind>
     }
 }
 
+/// The code of how a request asks for an acknowledgement: none 0, counted 1, with an event 2.
 pub fn ack_code(ack: AckRequest) -> u8
     ensures { result ≡ ack_code ack }
 {
@@ -47,6 +50,7 @@ pub fn ack_code(ack: AckRequest) -> u8
     }
 }
 
+/// How a request with this code asks for an acknowledgement; `None` where the code is of none.
 pub fn ack_of(code: u8) -> Option<AckRequest>
     ensures exact { result ≡ slice_get acks code }
     ensures back { IfSome result (λ ack. code ≡ ack_code ack) }
@@ -59,6 +63,7 @@ pub fn ack_of(code: u8) -> Option<AckRequest>
     }
 }
 
+/// The code of an operation: 0 where there is none, else from 1 in the order of its definition.
 pub fn operation_code(op: Option<AtomicOp>) -> u8
     ensures { result ≡ operation_code op }
 {
@@ -77,6 +82,7 @@ pub fn operation_code(op: Option<AtomicOp>) -> u8
     }
 }
 
+/// The operation with this code, none for 0; `None` where the code is of no operation.
 pub fn operation_of(code: u8) -> Option<Option<AtomicOp>>
     ensures exact { result ≡ slice_get operations code }
     ensures back { IfSome result (λ op. code ≡ operation_code op) }
@@ -97,6 +103,7 @@ pub fn operation_of(code: u8) -> Option<Option<AtomicOp>>
     }
 }
 
+/// The code of a swap: 0 where there is none, plain 1, conditional 2, masked 3.
 pub fn swap_code(swap: Option<SwapOp>) -> u8
     ensures { result ≡ swap_code swap }
 {
@@ -108,6 +115,7 @@ pub fn swap_code(swap: Option<SwapOp>) -> u8
     }
 }
 
+/// The swap with this code, none for 0; `None` where the code is of no swap.
 pub fn swap_of(code: u8) -> Option<Option<SwapOp>>
     ensures exact { result ≡ slice_get swaps code }
     ensures back { IfSome result (λ swap. code ≡ swap_code swap) }
@@ -121,6 +129,7 @@ pub fn swap_of(code: u8) -> Option<Option<SwapOp>>
     }
 }
 
+/// The code of an element's type: from 0 in the order of its definition.
 pub fn type_code(ty: ElemType) -> u8
     ensures { result ≡ type_code ty }
 {
@@ -136,6 +145,7 @@ pub fn type_code(ty: ElemType) -> u8
     }
 }
 
+/// The type with this code; `None` where no type has it.
 pub fn type_of(code: u8) -> Option<ElemType>
     ensures exact { result ≡ slice_get types code }
     ensures back { IfSome result (λ ty. code ≡ type_code ty) }
@@ -153,12 +163,14 @@ pub fn type_of(code: u8) -> Option<ElemType>
     }
 }
 
+/// The code of a flag: 1 where it is set, else 0.
 pub fn flag_code(flag: bool) -> u8
     ensures { result ≡ flag_code flag }
 {
     if flag { 1 } else { 0 }
 }
 
+/// The flag with this code; `None` where the code is neither 0 nor 1.
 pub fn flag_of(code: u8) -> Option<bool>
     ensures exact { result ≡ slice_get flags code }
     ensures back { IfSome result (λ flag. code ≡ flag_code flag) }
