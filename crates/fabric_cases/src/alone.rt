@@ -22,7 +22,7 @@ fn step_at<R: Wait>(
     rank: Rank,
 ) -> Option<LocalStep>
     requires hand { IsFree fabric.now.turns hand.old }
-    requires rank { rank < fabric.now.job.shape.ranks }
+    requires rank { rank < fabric.now.job.schedule.plan.ranks }
     ensures hand { IsFree fabric.now.turns hand.new }
     ensures parts { hand.new.knows.parts ≡ hand.old.knows.parts }
 {
@@ -38,7 +38,7 @@ fn steps_at<R: Wait + Abort>(
     rank: Rank,
 ) -> Vec<LocalStep>
     requires hand { IsFree fabric.now.turns hand.old }
-    requires ranks { fabric.now.job.shape.ranks ≡ 2 }
+    requires ranks { fabric.now.job.schedule.plan.ranks ≡ 2 }
     requires rank { rank < 2 }
     ensures hand { IsFree fabric.now.turns hand.new }
     ensures parts { hand.new.knows.parts ≡ hand.old.knows.parts }
@@ -109,7 +109,7 @@ fn check_begun(rt: &impl Abort, steps: &[LocalStep], count: usize, rest: &[Local
 /// Every step of a barrier, made by one hand.
 fn make_barrier<R: Wait + Abort>(rt: &R, alloc: Global, fabric: &Fabric<OpenGate>, hand: &mut Hand)
     requires hand { IsFree fabric.now.turns hand.old }
-    requires ranks { fabric.now.job.shape.ranks ≡ 2 }
+    requires ranks { fabric.now.job.schedule.plan.ranks ≡ 2 }
     ensures hand { IsFree fabric.now.turns hand.new }
     ensures parts { hand.new.knows.parts ≡ hand.old.knows.parts }
 {
@@ -136,7 +136,7 @@ fn one_hand_makes_every_step_of_a_barrier(rt: HostRuntime) {
 /// Lets each of two ranks in turn make the steps that it has, three times.
 fn sweep<R: Wait + Abort>(rt: &R, alloc: Global, fabric: &Fabric<OpenGate>, hand: &mut Hand)
     requires hand { IsFree fabric.now.turns hand.old }
-    requires ranks { fabric.now.job.shape.ranks ≡ 2 }
+    requires ranks { fabric.now.job.schedule.plan.ranks ≡ 2 }
     ensures hand { IsFree fabric.now.turns hand.new }
     ensures parts { hand.new.knows.parts ≡ hand.old.knows.parts }
 {
@@ -148,11 +148,11 @@ fn sweep<R: Wait + Abort>(rt: &R, alloc: Global, fabric: &Fabric<OpenGate>, hand
 
 /// Whether a buffer of a world holds these bytes at each rank.
 fn holds(world: &World, buffer: u32, bytes: &[u8]) -> bool {
-    let shape = world.schedule().shape();
-    if shape.buffers().len() <= buffer as usize {
+    let schedule = world.schedule();
+    if schedule.buffers() <= buffer {
         return false;
     }
-    for rank in 0..shape.ranks() {
+    for rank in 0..schedule.ranks() {
         if world.result(buffer, rank) != bytes {
             return false;
         }
@@ -200,7 +200,7 @@ fn left_by_hints<R: Wait>(
     hand: &mut Hand,
 ) -> [Option<LocalStep>; 2]
     requires hand { IsFree fabric.now.turns hand.old }
-    requires ranks { fabric.now.job.shape.ranks ≡ 2 }
+    requires ranks { fabric.now.job.schedule.plan.ranks ≡ 2 }
     ensures hand { IsFree fabric.now.turns hand.new }
     ensures parts { hand.new.knows.parts ≡ hand.old.knows.parts }
 {

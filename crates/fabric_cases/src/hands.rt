@@ -22,7 +22,7 @@ fn opened<R: Threads + Sync, G: Gate + Drop>(
 ) -> Result<(Fabric<G>, Vec<Hand>), NoMemory>
     requires { 0 < count }
     ensures job { IfOk result (λ r. r.0.job ≡ job.now) }
-    ensures ranks { IfOk result (λ r. length r.0.turns.start ≡ job.now.shape.ranks) }
+    ensures ranks { IfOk result (λ r. length r.0.turns.start ≡ job.now.schedule.plan.ranks) }
     ensures count { IfOk result (λ r. length r.1.items ≡ count) }
     ensures hands { IfOk result (λ r. All (λ h. IsFree r.0.turns h) r.1.items) }
     ensures parts { IfOk result (λ r. parts_of r.1.items ≡ 2 ^ 32) }
@@ -40,7 +40,7 @@ pub(crate) fn must_open<R: Threads + Sync + Abort, G: Gate + Drop>(
 ) -> (Fabric<G>, Vec<Hand>)
     requires { 0 < count }
     ensures job { result.0.job ≡ job.now }
-    ensures ranks { length result.0.turns.start ≡ job.now.shape.ranks }
+    ensures ranks { length result.0.turns.start ≡ job.now.schedule.plan.ranks }
     ensures count { length result.1.items ≡ count }
     ensures hands { All (λ h. IsFree result.0.turns h) result.1.items }
     ensures parts { parts_of result.1.items ≡ 2 ^ 32 }

@@ -3,11 +3,10 @@
 ghost use Rattle.std.specs.Prelude.{true, ◌≡◌, IsTrue};
 ghost use Rattle.ptl_types.specs.declared.headers.Lane.TheVariants.{Request};
 ghost use Rattle.plan_calls.specs.Lanes.{is_used_lane};
-ghost use Rattle.shape_plans.specs.Drawing.{plan_of};
 
 use coll_lang::parse;
 use ptl_types::Lane;
-use schedule_compiler::{Job, compile};
+use schedule_compiler::{Job, compile, shape_job};
 use std::alloc::Global;
 use std::process::Abort;
 
@@ -30,7 +29,7 @@ pub(crate) fn job_of<A: Abort>(rt: &A, alloc: Global, text: &[u8]) -> Job {
     let Ok(schedule) = compile(alloc, &shape) else {
         panic!(rt; "a schedule")
     };
-    let Ok(job) = Job::new(alloc, schedule, inputs) else {
+    let Ok(job) = shape_job(alloc, &shape, schedule, inputs) else {
         panic!(rt; "a job")
     };
     job
@@ -38,11 +37,11 @@ pub(crate) fn job_of<A: Abort>(rt: &A, alloc: Global, text: &[u8]) -> Job {
 
 /// Whether there are two ranks, of which the first sends requests to the second.
 fn is_pair(job: &Job) -> bool
-    ensures ranks { IsTrue result → job.now.shape.ranks ≡ 2 }
-    ensures lane { IsTrue result → is_used_lane (plan_of job.now.shape) 0 1 Request ≡ true }
+    ensures ranks { IsTrue result → job.now.schedule.plan.ranks ≡ 2 }
+    ensures lane { IsTrue result → is_used_lane job.now.schedule.plan 0 1 Request ≡ true }
 {
     let schedule = job.schedule();
-    if schedule.shape().ranks() != 2 {
+    if schedule.ranks() != 2 {
         return false;
     }
     0 < schedule.lane(0, 1, Lane::Request)
@@ -50,8 +49,8 @@ fn is_pair(job: &Job) -> bool
 
 /// The job of a text of two ranks, of which the first sends requests to the second.
 pub(crate) fn pair_of<A: Abort>(rt: &A, alloc: Global, text: &[u8]) -> Job
-    ensures ranks { result.shape.ranks ≡ 2 }
-    ensures lane { is_used_lane (plan_of result.shape) 0 1 Request ≡ true }
+    ensures ranks { result.schedule.plan.ranks ≡ 2 }
+    ensures lane { is_used_lane result.schedule.plan 0 1 Request ≡ true }
 {
     let job = job_of(rt, alloc, text);
     assert!(rt; is_pair(&job));

@@ -3,7 +3,6 @@
 ghost use Rattle.std.specs.Prelude.{true, ◌≡◌, length};
 ghost use Rattle.ptl_types.specs.declared.headers.Lane.TheVariants.{Request};
 ghost use Rattle.plan_calls.specs.Lanes.{is_used_lane};
-ghost use Rattle.shape_plans.specs.Drawing.{plan_of};
 ghost use Rattle.turn_table.specs.Hands.{IsFree};
 
 use crate::answers::gives;
@@ -33,9 +32,9 @@ pub(crate) fn script<R: Wait>(
 ) -> Answers
     requires one { IsFree fabric.now.turns one.old }
     requires two { IsFree fabric.now.turns two.old }
-    requires ranks { fabric.now.job.shape.ranks ≡ 2 }
+    requires ranks { fabric.now.job.schedule.plan.ranks ≡ 2 }
     requires slots { length fabric.now.turns.start ≡ 2 }
-    requires lane { is_used_lane (plan_of fabric.now.job.shape) 0 1 Request ≡ true }
+    requires lane { is_used_lane fabric.now.job.schedule.plan 0 1 Request ≡ true }
     ensures one { IsFree fabric.now.turns one.new × (one.new.knows.parts ≡ one.old.knows.parts) }
     ensures two { IsFree fabric.now.turns two.new × (two.new.knows.parts ≡ two.old.knows.parts) }
 {
@@ -55,7 +54,7 @@ pub(crate) fn script<R: Wait>(
 
 /// Whether each rank counted so many successes, and no failure.
 pub(crate) fn all_done(world: &World, count: u64) -> bool {
-    for rank in 0..world.schedule().shape().ranks() {
+    for rank in 0..world.schedule().ranks() {
         let done = world.done(rank);
         if done.success != count || done.failure != 0 {
             return false;

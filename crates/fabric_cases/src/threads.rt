@@ -16,7 +16,7 @@ use worlds::World;
 /// How many steps the ranks of a world made.
 fn steps(world: &World) -> u64 {
     let mut steps = 0u64;
-    for rank in 0..world.schedule().shape().ranks() {
+    for rank in 0..world.schedule().ranks() {
         steps = steps.wrapping_add(world.history(rank).len() as u64);
     }
     steps
@@ -53,18 +53,18 @@ fn start_both<R: Threads + Wait + Sync, G: Gate + Drop>(
     two: Hand,
 ) -> (Hand, Hand)
     requires hands { IsFree fabric.now.turns one × IsFree fabric.now.turns two }
-    requires ranks { 1 < fabric.now.job.shape.ranks }
+    requires ranks { 1 < fabric.now.job.schedule.plan.ranks }
     ensures hands { IsFree fabric.now.turns result.0 × IsFree fabric.now.turns result.1 }
     ensures parts { (result.0.knows.parts ≡ one.knows.parts) × (result.1.knows.parts ≡ two.knows.parts) }
 {
     thread::join(
         rt,
         move ||
-            requires { IsFree fabric.now.turns one × (1 < fabric.now.job.shape.ranks) }
+            requires { IsFree fabric.now.turns one × (1 < fabric.now.job.schedule.plan.ranks) }
             ensures { IsFree fabric.entry.now.turns result × (result.knows.parts ≡ one.knows.parts) }
         { start(rt, fabric, one, 0) },
         move ||
-            requires { IsFree fabric.now.turns two × (1 < fabric.now.job.shape.ranks) }
+            requires { IsFree fabric.now.turns two × (1 < fabric.now.job.schedule.plan.ranks) }
             ensures { IsFree fabric.entry.now.turns result × (result.knows.parts ≡ two.knows.parts) }
         { start(rt, fabric, two, 1) },
     )
@@ -73,7 +73,7 @@ fn start_both<R: Threads + Wait + Sync, G: Gate + Drop>(
 // Starts a rank.
 fn start<R: Wait, G: Gate + Drop>(rt: &R, fabric: &Fabric<G>, hand: Hand, rank: u32) -> Hand
     requires hand { IsFree fabric.now.turns hand }
-    requires rank { rank < fabric.now.job.shape.ranks }
+    requires rank { rank < fabric.now.job.schedule.plan.ranks }
     ensures hand { IsFree fabric.now.turns result }
     ensures parts { result.knows.parts ≡ hand.knows.parts }
 {

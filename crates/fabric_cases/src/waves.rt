@@ -4,7 +4,6 @@ ghost use Rattle.std.specs.Prelude.{true, ◌≡◌, IfOk, length};
 ghost use Rattle.ptl_types.specs.declared.headers.Lane.TheVariants.{Request};
 ghost use Rattle.plan_calls.specs.Lanes.{is_used_lane};
 ghost use Rattle.rest_probe.specs.Waves.{IsFor};
-ghost use Rattle.shape_plans.specs.Drawing.{plan_of};
 ghost use Rattle.turn_table.specs.Hands.{IsFree};
 
 use crate::answers::gives;
@@ -21,7 +20,7 @@ use std::sync::Wait;
 /// The room of a wave for a fabric of this job.
 fn room(alloc: Global, fabric: &Fabric<OpenGate>, job: &Job) -> Result<Wave, NoMemory>
     requires { fabric.now.job ≡ job.now }
-    ensures { IfOk result (λ w. IsFor (plan_of fabric.now.job.shape) w) }
+    ensures { IfOk result (λ w. IsFor fabric.now.job.schedule.plan w) }
 {
     Wave::open(alloc, job.schedule())
 }
@@ -36,10 +35,10 @@ fn waves<R: Wait>(
 ) -> [WaveAnswer; 2]
     requires one { IsFree fabric.now.turns one.old }
     requires two { IsFree fabric.now.turns two.old }
-    requires ranks { fabric.now.job.shape.ranks ≡ 2 }
+    requires ranks { fabric.now.job.schedule.plan.ranks ≡ 2 }
     requires slots { length fabric.now.turns.start ≡ 2 }
-    requires lane { is_used_lane (plan_of fabric.now.job.shape) 0 1 Request ≡ true }
-    requires wave { IsFor (plan_of fabric.now.job.shape) wave.old }
+    requires lane { is_used_lane fabric.now.job.schedule.plan 0 1 Request ≡ true }
+    requires wave { IsFor fabric.now.job.schedule.plan wave.old }
 {
     let _ = script(rt, fabric, one, two);
     fabric.probe_all(rt, one, wave);

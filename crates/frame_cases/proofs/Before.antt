@@ -9,10 +9,8 @@ use Rattle.cuts.specs.histories.Plans.{start_of}
 use Rattle.cuts.specs.orders.Chosen.{first_scene}
 use Rattle.cuts.specs.view.Calls.{prepare}
 use Rattle.cuts.specs.windows.Places.{lane_place}
-use Rattle.coll_shape.specs.Outline.{Outline}
 use Rattle.rank_node.specs.Node.{NodeState}
 use Rattle.schedule_compiler.specs.Jobs.{JobOf}
-use Rattle.shape_plans.specs.Drawing.{plan_of}
 use Rattle.worlds.specs.parts.Layout.{lane_at, node_at, scene_of}
 use Rattle.worlds.specs.opening.Fresh.{IsFresh}
 use Rattle.worlds.specs.opening.Frames.{frame_window}
@@ -21,32 +19,35 @@ use Rattle.worlds.specs.FrameState.{FrameState}
 use Rattle.worlds.specs.Frames.{IsClosed, IsFrameOf, MayClose, lane_in}
 use Rattle.worlds.specs.Later.{IsOpened}
 use Rattle.worlds.specs.World.{WorldState}
+use Rattle.schedule_compiler.specs.Schedules.{ScheduleOf}
 
 -- a lane of an opened frame
-pub laid_empty : (job : JobOf) (f : FrameState) → IsFrameOf job f → (s d : ℕ) (lane : Lane) → s < job.shape.ranks → d < job.shape.ranks
+pub laid_empty : (job : JobOf) (f : FrameState) → IsFrameOf job f → (s d : ℕ) (lane : Lane) → s < job.schedule.plan.ranks
+    → d < job.schedule.plan.ranks
     → length (lane_in f s d lane).messages ≡ 0
 laid_empty job f is s d lane hs hd =
-    ap (λ (o : Outline). length (lane_at f.lanes (lane_place o.ranks s d lane)).messages) is.shape
+    ap (λ (o : ScheduleOf). length (lane_at f.lanes (lane_place o.plan.ranks s d lane)).messages) is.schedule
     ∙ ap (λ (l : Plain). length l.messages) (is.lanes s d lane hs hd)
 
-abbrev frame_by : List Plain → Outline → Inputs → FrameState
-frame_by lanes shape inputs = record { shape = shape; inputs = inputs; lanes = lanes }
+abbrev frame_by : List Plain → ScheduleOf → Inputs → FrameState
+frame_by lanes schedule inputs = record { schedule = schedule; inputs = inputs; lanes = lanes }
 
-module _ (job : JobOf) (f : FrameState) (nodes : List NodeState) (is : IsFrameOf job f) (size : length nodes ≡ job.shape.ranks)
-    (fresh : (r : ℕ) → r < job.shape.ranks → IsFresh (plan_of job.shape) job.inputs job.shape.ranks 0 r (node_at nodes r)) where
+module _ (job : JobOf) (f : FrameState) (nodes : List NodeState) (is : IsFrameOf job f) (size : length nodes ≡ job.schedule.plan.ranks)
+    (fresh : (r : ℕ) → r < job.schedule.plan.ranks
+    → IsFresh job.schedule.plan job.inputs job.schedule.plan.ranks 0 r (node_at nodes r)) where
   abbrev p : Plan
-  p = plan_of job.shape
+  p = job.schedule.plan
 
   abbrev n : ℕ
-  n = job.shape.ranks
+  n = job.schedule.plan.ranks
 
-  same : f ≡ frame_by f.lanes job.shape job.inputs
-  same = ap₂ (λ s i. frame_by f.lanes s i) is.shape is.inputs
+  same : f ≡ frame_by f.lanes job.schedule job.inputs
+  same = ap₂ (λ s i. frame_by f.lanes s i) is.schedule is.inputs
 
   empty : (s d : ℕ) (lane : Lane) → s < n → d < n → (lane_at f.lanes (lane_place n s d lane)).messages ≡ []
   empty s d lane hs hd = ap (λ (l : Plain). l.messages) (is.lanes s d lane hs hd)
 
-  may : MayClose (frame_by f.lanes job.shape job.inputs) nodes
+  may : MayClose (frame_by f.lanes job.schedule job.inputs) nodes
   may = record {
     of_job = record { size = size; compiled = λ r h. (fresh r h).compiled; strays = λ r h. (fresh r h).strays };
     sources = λ r s lane h past. ap (λ es. got es s lane) (fresh r h).locals;
@@ -66,10 +67,10 @@ module _ (job : JobOf) (f : FrameState) (nodes : List NodeState) (is : IsFrameOf
   is_opened w c =
       let first : scene_of n nodes f.lanes ≡ first_scene = first-by n nodes f.lanes size (λ r h. (fresh r h).locals) empty in
       record {
-        shape = c.shape ∙ is.shape;
+        schedule = c.schedule ∙ is.schedule;
         inputs = c.inputs ∙ is.inputs;
         window = c.window;
         strays = c.strays;
         spare = c.spare;
-        scene = c.scene ∙ ap (λ (s : Outline). scene_of s.ranks nodes f.lanes) is.shape ∙ first;
+        scene = c.scene ∙ ap (λ (s : ScheduleOf). scene_of s.plan.ranks nodes f.lanes) is.schedule ∙ first;
       }

@@ -2,13 +2,12 @@
 
 ghost use Rattle.std.specs.Prelude.{true, ◌≡◌, ◌<◌, IfOk, IfSome, length};
 ghost use Rattle.plan_calls.specs.Lanes.{is_used_lane};
-ghost use Rattle.shape_plans.specs.Drawing.{plan_of};
 ghost use Rattle.worlds.specs.Frames.{lane_in};
 ghost use Rattle.worlds.specs.Later.{IsOpened};
 
 use coll_lang::parse;
 use ptl_types::{Lane, NoMemory, Rank};
-use schedule_compiler::{Job, compile};
+use schedule_compiler::{Job, compile, shape_job};
 use std::alloc::Global;
 use std::process::Abort;
 use worlds::opening::install_all;
@@ -26,7 +25,7 @@ fn job_of(alloc: Global, text: &[u8]) -> Option<Job> {
     let Ok(schedule) = compile(alloc, &shape) else {
         return None;
     };
-    match Job::new(alloc, schedule, inputs) {
+    match shape_job(alloc, &shape, schedule, inputs) {
         Ok(job) => Some(job),
         Err(_) => None,
     }
@@ -34,9 +33,9 @@ fn job_of(alloc: Global, text: &[u8]) -> Option<Job> {
 
 /// How many messages lie in a lane that is lent; the frame is as it was.
 fn held(frame: &mut Frame, s: Rank, d: Rank, lane: Lane) -> u32
-    requires source { s < frame.old.shape.ranks }
-    requires target { d < frame.old.shape.ranks }
-    requires used { is_used_lane (plan_of frame.old.shape) s d lane ≡ true }
+    requires source { s < frame.old.schedule.plan.ranks }
+    requires target { d < frame.old.schedule.plan.ranks }
+    requires used { is_used_lane frame.old.schedule.plan s d lane ≡ true }
     ensures count { result ≡ length (lane_in frame.old s d lane).messages }
     ensures same { frame.new ≡ frame.old }
 {
@@ -52,7 +51,7 @@ fn held_first(alloc: Global, job: &Job) -> Option<u32>
         return None;
     };
     let schedule = job.schedule();
-    if schedule.shape().ranks() < 2 || schedule.lane(0, 1, Lane::Request) == 0 {
+    if schedule.ranks() < 2 || schedule.lane(0, 1, Lane::Request) == 0 {
         return None;
     }
     Some(held(&mut frame, 0, 1, Lane::Request))
@@ -74,8 +73,8 @@ fn run(world: &mut World) {
 }
 
 fn bytes_at(world: &World, buffer: u32, r: Rank) -> Option<&[u8]> {
-    let shape = world.schedule().shape();
-    if (buffer as usize) < shape.buffers().len() && r < shape.ranks() {
+    let schedule = world.schedule();
+    if buffer < schedule.buffers() && r < schedule.ranks() {
         Some(world.result(buffer, r))
     } else {
         None

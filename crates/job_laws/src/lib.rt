@@ -1,10 +1,10 @@
-//! Laws of the cuts of compiled shapes: at rest each buffer at each rank is what the description means, and so it is at a rank that is
-//! done; the steps of a rank follow each other, and barriers are kept.
+//! Where plans and shapes meet: laws of the cuts of compiled shapes. At rest each buffer at each rank is what the description means, and
+//! so it is at a rank that is done; the steps of a rank follow each other, and barriers are kept.
 #![tactic(auto)]
 
 pub mod interleavings;
 
-ghost use Rattle.std.specs.Prelude.{ℕ, None, ◌<◌, ◌≡◌};
+ghost use Rattle.std.specs.Prelude.{ℕ, List, None, ◌<◌, ◌≡◌};
 ghost use Rattle.plan_core.specs.Values.{Inputs};
 ghost use Rattle.cuts.specs.view.Slots.{Slots};
 ghost use Rattle.cuts.specs.histories.Cut.{IsAtRest, IsCut};
@@ -16,6 +16,7 @@ ghost use Rattle.coll_shape.specs.WellFormed.{IsWellFormed};
 ghost use Rattle.shape_plans.specs.Drawing.{plan_of};
 ghost use Rattle.shape_plans.specs.Footprint.{refusal};
 ghost use Rattle.cuts.specs.done.Done.{IsDone};
+ghost use Rattle.cuts.specs.cells.Cells.{AreCellsInOrder, AreValues, AreValuesAt};
 ghost use Rattle.job_laws.specs.Barriers.{AreBarriersKept, AreStepsInOrder};
 ghost use Rattle.job_laws.specs.Results.{AreMeant, AreMeantAt};
 
@@ -53,4 +54,24 @@ pub fn barriers_are_kept()
     ensures { (o : Outline) (inputs : Inputs) (slots : ℕ → Slots) (world : Histories) →
         IsWellFormed o → refusal o ≡ None → AreInputs o inputs →
         IsCut (system_of (plan_of o) inputs slots) world → AreBarriersKept o inputs slots world }
+{}
+
+/// In memories in which each cell of the plan of a shape holds its value each buffer is what the shape means of the inputs: at all ranks,
+/// and at one.
+pub fn values_are_meant()
+    ensures all { (o : Outline) (inputs : Inputs) (memory : ℕ → List ℕ) → IsWellFormed o → AreInputs o inputs →
+        AreValues (plan_of o) inputs memory → AreMeant o inputs memory }
+    ensures at_rank { (o : Outline) (inputs : Inputs) (r : ℕ) (memory : List ℕ) → IsWellFormed o → AreInputs o inputs → r < o.ranks →
+        AreValuesAt (plan_of o) inputs r memory → AreMeantAt o inputs r memory }
+{}
+
+/// Where the cells of the plan of a shape that isn't refused are reached after those that lead to them, the steps of each rank follow each
+/// other, and each barrier is kept.
+pub fn order_is_kept()
+    ensures steps { (o : Outline) (inputs : Inputs) (slots : ℕ → Slots) (world : Histories) →
+        IsWellFormed o → refusal o ≡ None →
+        AreCellsInOrder (plan_of o) inputs slots world → AreStepsInOrder o inputs slots world }
+    ensures barriers { (o : Outline) (inputs : Inputs) (slots : ℕ → Slots) (world : Histories) →
+        IsWellFormed o → refusal o ≡ None →
+        AreCellsInOrder (plan_of o) inputs slots world → AreBarriersKept o inputs slots world }
 {}

@@ -18,7 +18,7 @@ use Rattle.cuts.specs.orders.Reached.IsReached.{Begun}
 use Rattle.cuts.specs.orders.Taking.{IsNext, Lists, listed}
 use Rattle.cuts.specs.orders.Verdict.{IsWhole}
 use Rattle.cuts.proofs.orders.Ending.{longer_list, untaken-less}
-use Rattle.coll_shape.specs.Outline.{Outline}
+use Rattle.schedule_compiler.specs.Schedules.{ScheduleOf}
 use Rattle.worlds.specs.Later.{IsLater}
 use Rattle.worlds.specs.Standing.{IsStanding}
 use Rattle.worlds.specs.World.{WorldState, histories_in, ranks_in, scene_in}
@@ -87,7 +87,7 @@ WaitsNot lists w r q = (lane : Lane) → IsNext lists w q (Receives r lane) → 
 -- the rank to which a message of rank r went is named if it waits for it
 abbrev pub IsWaiter : WorldState → Lists → ℕ → Option ℕ → Option ℕ → Type 0
 IsWaiter w lists r to named =
-    (q : ℕ) → q < w.shape.ranks → to ≡ Some q → (named ≡ Some q) ⊎ WaitsNot lists (histories_in w) r q
+    (q : ℕ) → q < w.schedule.plan.ranks → to ≡ Some q → (named ≡ Some q) ⊎ WaitsNot lists (histories_in w) r q
 
 other_step : (r : ℕ) (e : LocalStep) (lane : Lane) → is_from r e ≡ false → e ≡ Receives r lane → ⊥
 other_step r e lane differs same =
@@ -143,27 +143,27 @@ pub less_behind_nothing : (w : WorldState) (lists : Lists) (r : ℕ) (queue : Li
     → work_left w lists queue < work_left w lists (queue ++ r ∷ [])
 less_behind_nothing w lists r queue = let a = length-append queue (r ∷ []) in omega (arith, a)
 
-pub looked_at : (w : WorldState) (lists : Lists) (r : ℕ) (queue : List ℕ) → IsWork w lists (queue ++ r ∷ []) → r < w.shape.ranks
+pub looked_at : (w : WorldState) (lists : Lists) (r : ℕ) (queue : List ℕ) → IsWork w lists (queue ++ r ∷ []) → r < w.schedule.plan.ranks
 looked_at w lists r queue work = work.known r (In-append_right r queue (r ∷ []) (inl refl))
 
 -- ---- a look that takes a step
 module _ (w v : WorldState) (lists : Lists) (r : ℕ) (e : LocalStep) (queue : List ℕ) (work : IsWork w lists (queue ++ r ∷ []))
     (next : IsNext lists (histories_in w) r e) (allows : IsOpen w r e) (stood : IsStanding v) (later : IsLater w v) (made : IsMade r e w v)
   where
-    hr : r < w.shape.ranks
+    hr : r < w.schedule.plan.ranks
     hr = looked_at w lists r queue work
 
     pub driven_behind : IsDriven v lists
     driven_behind = driven_on w v lists work.driven r hr e allows stood later made next
 
-    before : (q : ℕ) → q < v.shape.ranks → q < w.shape.ranks
-    before q h = let a = ap (λ (o : Outline). o.ranks) later.shape in omega (arith, a, h)
+    before : (q : ℕ) → q < v.schedule.plan.ranks → q < w.schedule.plan.ranks
+    before q h = let a = ap (λ (o : ScheduleOf). o.plan.ranks) later.schedule in omega (arith, a, h)
 
-    behind : (q : ℕ) → q < w.shape.ranks → q < v.shape.ranks
-    behind q h = let a = ap (λ (o : Outline). o.ranks) later.shape in omega (arith, a, h)
+    behind : (q : ℕ) → q < w.schedule.plan.ranks → q < v.schedule.plan.ranks
+    behind q h = let a = ap (λ (o : ScheduleOf). o.plan.ranks) later.schedule in omega (arith, a, h)
 
     -- another rank that was stuck is stuck, unless it waits for the message
-    stays : (q : ℕ) → q < w.shape.ranks → (r ≡ q → ⊥) → IsStuckIn w lists q
+    stays : (q : ℕ) → q < w.schedule.plan.ranks → (r ≡ q → ⊥) → IsStuckIn w lists q
         → ((message_for w r e ≡ Some q) → WaitsNot lists (histories_in v) r q) → IsStuckIn v lists q
     stays q hq n stuck not f other opened =
         elim (opened_by w v lists work.driven r hr e allows stood later made q hq n f opened) [
@@ -179,11 +179,11 @@ module _ (w v : WorldState) (lists : Lists) (r : ℕ) (e : LocalStep) (queue : L
     is_it None q = inr (λ x. cc)
     is_it (Some d) q = elim (cases_eq d q) [ inl i ↦ inl (ap (λ a. Some a) i) | inr n ↦ inr (λ x. n (cc)) ]
 
-    pub take_one : (waiter : Option ℕ) → IfSome waiter (λ d. d < v.shape.ranks) → IsWaiter v lists r (message_for w r e) waiter
+    pub take_one : (waiter : Option ℕ) → IfSome waiter (λ d. d < v.schedule.plan.ranks) → IsWaiter v lists r (message_for w r e) waiter
         → IsWork v lists (queued waiter (queue ++ r ∷ []))
     take_one waiter known waits = record {
       driven = driven_behind;
-      known = λ q i. queued-known waiter (queue ++ r ∷ []) q (λ a. a < v.shape.ranks) (λ j. behind q (work.known q j)) known i;
+      known = λ q i. queued-known waiter (queue ++ r ∷ []) q (λ a. a < v.schedule.plan.ranks) (λ j. behind q (work.known q j)) known i;
       looked = λ q h. elim (cases_eq r q) [
         | inl i ↦ inl (queued-old waiter (queue ++ r ∷ []) q (In-append_right q queue (r ∷ []) (inl i)))
         | inr n ↦ elim (work.looked q (before q h)) [
@@ -196,21 +196,22 @@ module _ (w v : WorldState) (lists : Lists) (r : ℕ) (e : LocalStep) (queue : L
       ];
     }
       where
-        unnamed : (q : ℕ) → q < v.shape.ranks → (waiter ≡ Some q → ⊥) → message_for w r e ≡ Some q → WaitsNot lists (histories_in v) r q
+        unnamed : (q : ℕ) → q < v.schedule.plan.ranks → (waiter ≡ Some q → ⊥) → message_for w r e ≡ Some q
+            → WaitsNot lists (histories_in v) r q
         unnamed q h o t = elim (waits q h t) [ inl i ↦ absurd (o i) | inr x ↦ x ]
 
     pub less_behind_one : (waiter : Option ℕ) → work_left v lists (queued waiter (queue ++ r ∷ [])) < work_left w lists (queue ++ r ∷ [])
     less_behind_one waiter =
         let g = grown w v lists work.driven r hr e allows stood later made in
-        let a = untaken-less lists (histories_in w) r g.step w.shape.ranks hr (longer_list lists (histories_in w) r e next) in
-        let b = ap (λ h. untaken lists h w.shape.ranks) (histories_are w v lists work.driven r hr e allows stood later made) in
-        let d = ap (λ (o : Outline). untaken lists (histories_in v) o.ranks) later.shape in
+        let a = untaken-less lists (histories_in w) r g.step w.schedule.plan.ranks hr (longer_list lists (histories_in w) r e next) in
+        let b = ap (λ h. untaken lists h w.schedule.plan.ranks) (histories_are w v lists work.driven r hr e allows stood later made) in
+        let d = ap (λ (o : ScheduleOf). untaken lists (histories_in v) o.plan.ranks) later.schedule in
         let c = length-queued waiter (queue ++ r ∷ []) in
         omega (arith, a, b, c, d)
 
 -- ---- the beginning
 pub first_work : (w : WorldState) (lists : Lists) (queue : List ℕ) → IsStanding w → w.window ≡ widest → scene_in w ≡ first_scene
-    → ((r : ℕ) → r < w.shape.ranks → In r queue) → ((r : ℕ) → In r queue → r < w.shape.ranks) → IsWork w lists queue
+    → ((r : ℕ) → r < w.schedule.plan.ranks → In r queue) → ((r : ℕ) → In r queue → r < w.schedule.plan.ranks) → IsWork w lists queue
 first_work w lists queue is wide fresh all known = record {
   driven = record {
     standing = is;

@@ -21,7 +21,6 @@ use Rattle.cuts.specs.declared.orders.Step.TheVariants.{Deliver}
 use Rattle.cuts.proofs.orders.Parts.{same-front}
 use Rattle.cuts.proofs.orders.Steps.{beyond, may, reached_moves}
 use Rattle.cuts.proofs.windows.Listed.{enabled_listed}
-use Rattle.shape_plans.proofs.Final.{fine-shape}
 use Rattle.worlds.specs.Standing.{IsStanding}
 use Rattle.worlds.specs.World.{AreSlots, WorldState, histories_in, ranks_in, scene_in, steps_in}
 use Rattle.worlds.proofs.Listed.{IsOffered, offered, ready_is}
@@ -42,14 +41,14 @@ module _ (w : WorldState) (is : IsStanding w) (slots : ℕ → Slots) (agree : A
   abbrev z : Scene
   z = scene_in w
 
-  pub known_there : (r : ℕ) → r < w.shape.ranks → r < k.count
-  known_there r h = let c = (fine-shape w.shape is.formed).ranks in omega (arith, h, c)
+  pub known_there : (r : ℕ) → r < w.schedule.plan.ranks → r < k.count
+  known_there r h = h
 
-  pub known_here : (r : ℕ) → r < k.count → r < w.shape.ranks
-  known_here r h = let c = (fine-shape w.shape is.formed).ranks in omega (arith, h, c)
+  pub known_here : (r : ℕ) → r < k.count → r < w.schedule.plan.ranks
+  known_here r h = h
 
   -- ---- what is allowed is listed, and nothing else
-  pub enabled_at : (r : ℕ) (e : LocalStep) → r < w.shape.ranks → IsOpen w r e → In (step_at r e) (enabled_steps k z)
+  pub enabled_at : (r : ℕ) (e : LocalStep) → r < w.schedule.plan.ranks → IsOpen w r e → In (step_at r e) (enabled_steps k z)
   enabled_at r Starts h allows = enabled_listed k z r Start (known_there r h) allows
   enabled_at r (Fires t) h allows =
       enabled_listed k z r (Fire t) (known_there r h) (subst (λ s. IsTrue (is_ready s t)) (is.nic slots agree r h) allows)
@@ -59,35 +58,37 @@ module _ (w : WorldState) (is : IsStanding w) (slots : ℕ → Slots) (agree : A
       at [] q = let a = ap length q in let b = allows.1 in absurd (omega (arith, a, b))
       at (m ∷ later) q = enabled_listed k z r (Receive s lane m) (known_there r h) (known_there s allows.0, (later, q))
 
-  pub is_listed : w.window ≡ widest → (r : ℕ) (e : LocalStep) → r < w.shape.ranks → IsOpen w r e → In (step_at r e) (steps_in w slots)
+  pub is_listed : w.window ≡ widest → (r : ℕ) (e : LocalStep) → r < w.schedule.plan.ranks → IsOpen w r e
+      → In (step_at r e) (steps_in w slots)
   is_listed wide r e h allows =
       subst (λ xs. In (step_at r e) xs) (sym (all_enabled w slots is agree (omega (arith, wide)))) (enabled_at r e h allows)
 
-  open_at : (r : ℕ) (e : LocalStep) → r < w.shape.ranks → IsOffered k z (step_at r e) → IsOpen w r e
+  open_at : (r : ℕ) (e : LocalStep) → r < w.schedule.plan.ranks → IsOffered k z (step_at r e) → IsOpen w r e
   open_at r Starts h o = o.1
   open_at r (Receives s lane) h o = (known_here s o.0, o.2)
   open_at r (Fires t) h o =
       subst (λ s. IsTrue (is_ready s t)) (sym (is.nic slots agree r h)) (ready_is (state_at k z.world r) t o.1)
 
-  pub is_allowed : w.window ≡ widest → (r : ℕ) (e : LocalStep) → r < w.shape.ranks → In (step_at r e) (steps_in w slots) → IsOpen w r e
+  pub is_allowed : w.window ≡ widest → (r : ℕ) (e : LocalStep) → r < w.schedule.plan.ranks → In (step_at r e) (steps_in w slots)
+      → IsOpen w r e
   is_allowed wide r e h i =
       open_at r e h (offered k z (step_at r e)
       (subst (λ xs. In (step_at r e) xs) (all_enabled w slots is agree (omega (arith, wide))) i))
 
   -- ---- by histories alone
-  allowed_by : (r : ℕ) (x : Local) → r < w.shape.ranks → IsEnabled k z.world z.held r x → IsOpen w r (listed x)
+  allowed_by : (r : ℕ) (x : Local) → r < w.schedule.plan.ranks → IsEnabled k z.world z.held r x → IsOpen w r (listed x)
   allowed_by r Start h e = e
   allowed_by r (Fire t) h e = subst (λ s. IsTrue (is_ready s t)) (sym (is.nic slots agree r h)) e
   allowed_by r (Receive s lane m) h e = (known_here s e.0, (let q = ap length e.1.1 in omega (arith, q)))
 
   module _ (reached : IsReached k z.world z.held) where
-    pub may_allowed : (r : ℕ) (x : Local) → r < w.shape.ranks → MayTake k (histories_in w) r x → IsOpen w r (listed x)
+    pub may_allowed : (r : ℕ) (x : Local) → r < w.schedule.plan.ranks → MayTake k (histories_in w) r x → IsOpen w r (listed x)
     may_allowed r x h m =
         let so = reached_moves k z.world z.held reached in
         let e = may k so.moves r x z.held so.balanced (subst (λ (v : Histories). MayTake k v r x) so.same m) (beyond k so.moves so.made) in
         allowed_by r x h (subst (λ (v : Histories). IsEnabled k v z.held r x) (sym so.same) e)
 
-    pub rests_by : (r : ℕ) → r < w.shape.ranks → IsQuiet w r → Rests k (histories_in w) r
+    pub rests_by : (r : ℕ) → r < w.schedule.plan.ranks → IsQuiet w r → Rests k (histories_in w) r
     rests_by r h quiet = record {
       started = quiet.started;
       idle = λ t. subst (λ s. is_ready s t ≡ false) (is.nic slots agree r h) (quiet.idle t);
@@ -95,7 +96,7 @@ module _ (w : WorldState) (is : IsStanding w) (slots : ℕ → Slots) (agree : A
           ∙ ap (λ v. got (histories_in w r) s lane ++ v) (sym (quiet.hears s (known_here s l) lane)) ∙ balanced k z reached s r lane;
     }
 
-    pub quiet_by : (r : ℕ) → r < w.shape.ranks → Rests k (histories_in w) r → IsQuiet w r
+    pub quiet_by : (r : ℕ) → r < w.schedule.plan.ranks → Rests k (histories_in w) r → IsQuiet w r
     quiet_by r h rests = record {
       started = rests.started;
       idle = λ t. subst (λ s. is_ready s t ≡ false) (sym (is.nic slots agree r h)) (rests.idle t);
@@ -112,7 +113,7 @@ none_in : (ms : List Sent) → (0 < length ms → ⊥) → ms ≡ []
 none_in [] h = refl
 none_in (m ∷ ms) h = absurd (h (omega arith))
 
-pub not_waiting : (w : WorldState) (r s : ℕ) (lane : Lane) → s < w.shape.ranks → (IsOpen w r (Receives s lane) → ⊥)
+pub not_waiting : (w : WorldState) (r s : ℕ) (lane : Lane) → s < w.schedule.plan.ranks → (IsOpen w r (Receives s lane) → ⊥)
     → (scene_in w).held s r lane ≡ []
 not_waiting w r s lane h closed = none_in ((scene_in w).held s r lane) (λ some. closed (h, some))
 

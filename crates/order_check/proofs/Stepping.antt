@@ -31,10 +31,7 @@ use Rattle.cuts.proofs.orders.Choosing.{listed_made}
 use Rattle.cuts.proofs.orders.Ending.{elsewhere, here}
 use Rattle.cuts.proofs.orders.Parts.{same-front}
 use Rattle.rank_node.proofs.Sending.{fired-target, rank_of}
-use Rattle.shape_plans.proofs.Final.{inputs_fit}
-use Rattle.shape_plans.specs.Drawing.{plan_of}
-use Rattle.job_laws.proofs.Cuts.{sound_for}
-use Rattle.coll_shape.specs.Outline.{Outline}
+use Rattle.schedule_compiler.specs.Schedules.{ScheduleOf}
 use Rattle.worlds.specs.Later.{IsLater}
 use Rattle.worlds.specs.Standing.{IsStanding}
 use Rattle.worlds.specs.World.{AreSlots, WorldState, histories_in, nic_in, ranks_in, scene_in}
@@ -52,7 +49,7 @@ pub record IsGrown (k : System) (z : Scene) (r : ℕ) (e : LocalStep) : Type 0 w
   pub world : (step_made k (step_at r e) z).world ≡ with_step r step z.world
 
 pub grown_by : (k : System) (w : WorldState) (r : ℕ) (e : LocalStep) → IsOpen w r e
-    → ((s : ℕ) → s < w.shape.ranks → s < k.count) → nic_in w r ≡ state_at k (histories_in w) r → IsGrown k (scene_in w) r e
+    → ((s : ℕ) → s < w.schedule.plan.ranks → s < k.count) → nic_in w r ≡ state_at k (histories_in w) r → IsGrown k (scene_in w) r e
 grown_by k w r Starts allows known nic = record { step = Start; named = refl; enabled = allows; world = refl }
 grown_by k w r (Fires t) allows known nic = record {
   step = Fire t;
@@ -72,12 +69,12 @@ grown_by k w r (Receives s lane) allows known nic = at ((scene_in w).held s r la
     }
 
 -- ---- whom its message is for
-module _ (w : WorldState) (is : IsStanding w) (slots : ℕ → Slots) (agree : AreSlots w slots) (r : ℕ) (hr : r < w.shape.ranks) where
+module _ (w : WorldState) (is : IsStanding w) (slots : ℕ → Slots) (agree : AreSlots w slots) (r : ℕ) (hr : r < w.schedule.plan.ranks) where
   source_is : (s : ℕ) (lane : Lane) (m : Sent) → IsEnabled (ranks_in w slots) (scene_in w).world (scene_in w).held r (Receive s lane m)
       → m.header.source ≡ s
   source_is s lane m e =
-      (next_held combined-starts (plan_of w.shape) w.inputs (sound_for w.shape w.inputs is.formed is.accepted is.given)
-      (inputs_fit w.shape w.inputs is.formed is.given) (combined-swaps op_laws) slots (scene_in w).world (scene_in w).held
+      (next_held combined-starts w.schedule.plan w.inputs is.sound
+      is.fit (combined-swaps op_laws) slots (scene_in w).world (scene_in w).held
       (is.moment slots agree) false r s lane m e.1.0 (known_there w is slots agree r hr) e.0 e.1.1).0
 
   pub told_is : (x : Local) (m : Sent) → IsEnabled (ranks_in w slots) (scene_in w).world (scene_in w).held r x
@@ -111,13 +108,13 @@ is_told None q = inr (λ e. cc)
 is_told (Some d) q = elim (cases_eq d q) [ inl e ↦ inl (ap (λ v. Some v) e) | inr n ↦ inr (λ e. n (cc)) ]
 
 same_ranks : (w v : WorldState) (slots : ℕ → Slots) → IsLater w v → ranks_in v slots ≡ ranks_in w slots
-same_ranks w v slots on = ap₂ (λ o given. system_of (plan_of o) given slots) on.shape on.inputs
+same_ranks w v slots on = ap₂ (λ (o : ScheduleOf) given. system_of o.plan given slots) on.schedule on.inputs
 
 -- the step was made
 abbrev pub IsMade : ℕ → LocalStep → WorldState → WorldState → Type 0
 IsMade r e w v = (slots : ℕ → Slots) → AreSlots v slots → scene_in v ≡ step_made (ranks_in w slots) (step_at r e) (scene_in w)
 
-module _ (w v : WorldState) (lists : Lists) (driven : IsDriven w lists) (r : ℕ) (hr : r < w.shape.ranks) (e : LocalStep)
+module _ (w v : WorldState) (lists : Lists) (driven : IsDriven w lists) (r : ℕ) (hr : r < w.schedule.plan.ranks) (e : LocalStep)
     (allows : IsOpen w r e) (stood : IsStanding v) (later : IsLater w v) (made : IsMade r e w v) where
   abbrev slots : ℕ → Slots
   slots = given_slots v
@@ -153,10 +150,10 @@ module _ (w v : WorldState) (lists : Lists) (driven : IsDriven w lists) (r : ℕ
       (Stepped (driven.reached s old) (listed_made (ranks_in w s) (scene_in w) (step_at r e) i)))
 
   -- ---- another rank
-  module _ (q : ℕ) (hq : q < w.shape.ranks) (n : r ≡ q → ⊥) where
+  module _ (q : ℕ) (hq : q < w.schedule.plan.ranks) (n : r ≡ q → ⊥) where
     nic_same : nic_in v q ≡ nic_in w q
     nic_same =
-        stood.nic slots agrees q (let a = ap (λ (o : Outline). o.ranks) later.shape in omega (arith, hq, a))
+        stood.nic slots agrees q (let a = ap (λ (o : ScheduleOf). o.plan.ranks) later.schedule in omega (arith, hq, a))
         ∙ ap (λ j. state_at j (histories_in v) q) (same_ranks w v slots later)
         ∙ ap (λ h. state (k.go q) (k.first q) h) (same_at q n)
         ∙ sym (driven.standing.nic slots agreed q hq)
@@ -185,9 +182,9 @@ module _ (w v : WorldState) (lists : Lists) (driven : IsDriven w lists) (r : ℕ
     opened_by Starts o = inl (subst (λ h. count_by is_start h ≡ 0) (same_at q n) o)
     opened_by (Fires t) o = inl (subst (λ s. IsTrue (is_ready s t)) nic_same o)
     opened_by (Receives s lane) o =
-        let a = ap (λ (o : Outline). o.ranks) later.shape in
+        let a = ap (λ (o : ScheduleOf). o.plan.ranks) later.schedule in
         let b = o.0 in
-        let known : s < w.shape.ranks = omega (arith, a, b) in
+        let known : s < w.schedule.plan.ranks = omega (arith, a, b) in
         elim (cases_eq r s) [
           | inr d ↦ inl (known, subst (λ ms. 0 < length ms) (held_same s lane (elsewhere_sent s lane d)) o.1)
           | inl i ↦ elim (is_told (message_for w r e) q) [
@@ -212,10 +209,10 @@ module _ (w v : WorldState) (lists : Lists) (driven : IsDriven w lists) (r : ℕ
         ∙ next.1,
   )
 
-  listed_on : IsNext lists (histories_in w) r e → (q : ℕ) → q < v.shape.ranks → IsListed lists (histories_in v) q
+  listed_on : IsNext lists (histories_in w) r e → (q : ℕ) → q < v.schedule.plan.ranks → IsListed lists (histories_in v) q
   listed_on next q h = elim (cases_eq r q) [
     | inl i ↦ subst (λ a. IsListed lists (histories_in v) a) i (listed_here next)
-    | inr n ↦ (let p = driven.listed q (let a = ap (λ (o : Outline). o.ranks) later.shape in omega (arith, a, h)) in
+    | inr n ↦ (let p = driven.listed q (let a = ap (λ (o : ScheduleOf). o.plan.ranks) later.schedule in omega (arith, a, h)) in
         (p.0, ap (λ h. map listed h ++ p.0) (same_at q n) ∙ p.1))
   ]
 

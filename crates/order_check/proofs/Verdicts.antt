@@ -15,11 +15,9 @@ use Rattle.cuts.proofs.orders.Holding.{are_listed}
 use Rattle.cuts.proofs.orders.Slotless.{slotless}
 use Rattle.cuts.proofs.orders.Steps.{reached_moves}
 use Rattle.schedule_compiler.specs.Jobs.{JobOf}
-use Rattle.shape_plans.proofs.Final.{inputs_fit}
-use Rattle.shape_plans.specs.Drawing.{plan_of}
-use Rattle.job_laws.proofs.Cuts.{sound_for}
 use Rattle.worlds.specs.World.{AreSlots, WorldState, histories_in, ranks_in, scene_in}
 use Rattle.worlds.proofs.Ends.{given_slots, slots_given}
+use Rattle.schedule_compiler.specs.Schedules.{ScheduleOf}
 use Rattle.order_check.specs.Listing.{IsListed}
 use Rattle.order_check.specs.Open.{IsQuiet}
 use Rattle.order_check.specs.Work.{IsUnfinished, IsWork}
@@ -61,24 +59,24 @@ module _ (w : WorldState) (lists : Lists) (work : IsWork w lists []) where
 
   -- whatever slots are given out
   pub verdict_on : (v : Verdict) → Says k lists (histories_in w) v → (others : ℕ → Slots)
-      → IsVerdict (system_of (plan_of w.shape) w.inputs others) lists v
+      → IsVerdict (system_of w.schedule.plan w.inputs others) lists v
   verdict_on v says others =
       let is = work.driven.standing in
-      slotless combined-starts (plan_of w.shape) w.inputs (sound_for w.shape w.inputs is.formed is.accepted is.given)
-      (inputs_fit w.shape w.inputs is.formed is.given) (combined-swaps op_laws) slots others lists v (said v says)
+      slotless combined-starts w.schedule.plan w.inputs is.sound
+      is.fit (combined-swaps op_laws) slots others lists v (said v says)
 
   pub unfinished_says : (v : Verdict) → IsUnfinished w lists v → Says k lists (histories_in w) v
   unfinished_says v u =
       subst (Says k lists (histories_in w)) (sym u.says)
       (known_there w work.driven.standing slots agree u.rank u.known, refl, inl (u.step, u.stops, refl))
 
-  module _ (whole : (r : ℕ) → r < w.shape.ranks → IsWhole lists (histories_in w) r) where
-    pub quiet_says : ((r : ℕ) → r < w.shape.ranks → IsQuiet w r) → Says k lists (histories_in w) Holds
+  module _ (whole : (r : ℕ) → r < w.schedule.plan.ranks → IsWhole lists (histories_in w) r) where
+    pub quiet_says : ((r : ℕ) → r < w.schedule.plan.ranks → IsQuiet w r) → Says k lists (histories_in w) Holds
     quiet_says quiet r h =
         let here = known_here w work.driven.standing slots agree r h in
         (whole r here, rests_by w work.driven.standing slots agree (work.driven.reached slots agree) r here (quiet r here))
 
-    pub restless_says : (r : ℕ) → r < w.shape.ranks → ((q : ℕ) → q < r → IsQuiet w q) → (IsQuiet w r → ⊥)
+    pub restless_says : (r : ℕ) → r < w.schedule.plan.ranks → ((q : ℕ) → q < r → IsQuiet w q) → (IsQuiet w r → ⊥)
         → Says k lists (histories_in w) (Fails r (length (histories_in w r) + 1) NotAtRest)
     restless_says r h lower restless = (
       known_there w work.driven.standing slots agree r h,
@@ -93,12 +91,12 @@ module _ (w : WorldState) (lists : Lists) (work : IsWork w lists []) where
           restless = λ rests. restless (quiet_by w work.driven.standing slots agree (work.driven.reached slots agree) r h rests);
         }
           where
-            below : (q : ℕ) → q < r → q < w.shape.ranks
+            below : (q : ℕ) → q < r → q < w.schedule.plan.ranks
             below q l = omega (arith, l, h)
 
 -- of a job
-pub of_job : (w : WorldState) (job : JobOf) (lists : Lists) (v : Verdict) → w.shape ≡ job.shape → w.inputs ≡ job.inputs
-    → ((slots : ℕ → Slots) → IsVerdict (system_of (plan_of w.shape) w.inputs slots) lists v)
-    → (slots : ℕ → Slots) → IsVerdict (system_of (plan_of job.shape) job.inputs slots) lists v
-of_job w job lists v shape inputs h slots =
-    subst (λ k. IsVerdict k lists v) (ap₂ (λ o given. system_of (plan_of o) given slots) shape inputs) (h slots)
+pub of_job : (w : WorldState) (job : JobOf) (lists : Lists) (v : Verdict) → w.schedule ≡ job.schedule → w.inputs ≡ job.inputs
+    → ((slots : ℕ → Slots) → IsVerdict (system_of w.schedule.plan w.inputs slots) lists v)
+    → (slots : ℕ → Slots) → IsVerdict (system_of job.schedule.plan job.inputs slots) lists v
+of_job w job lists v schedule inputs h slots =
+    subst (λ k. IsVerdict k lists v) (ap₂ (λ (o : ScheduleOf) given. system_of o.plan given slots) schedule inputs) (h slots)

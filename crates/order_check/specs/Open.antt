@@ -22,7 +22,7 @@ step_at r (Fires t) = Fire r t
 -- there was no start; the lane from a rank holds a message; the operation is ready
 abbrev pub IsOpen : WorldState → ℕ → LocalStep → Type 0
 IsOpen w r Starts = count_by is_start (histories_in w r) ≡ 0
-IsOpen w r (Receives s lane) = (s < w.shape.ranks) × (0 < length ((scene_in w).held s r lane))
+IsOpen w r (Receives s lane) = (s < w.schedule.plan.ranks) × (0 < length ((scene_in w).held s r lane))
 IsOpen w r (Fires t) = IsTrue (is_ready (nic_in w r) t)
 
 -- the rank that the message of a step is for, if it makes one: an answer goes back to the source
@@ -43,4 +43,4 @@ HearsNothing w r n = (s : ℕ) → s < n → HearsNoneOf w r s
 pub record IsQuiet (w : WorldState) (r : ℕ) : Type 0 where
   pub started : 0 < count_by is_start (histories_in w r)
   pub idle : (t : ℕ) → is_ready (nic_in w r) t ≡ false
-  pub hears : HearsNothing w r w.shape.ranks
+  pub hears : HearsNothing w r w.schedule.plan.ranks

@@ -20,7 +20,7 @@ pub record IsDriven (w : WorldState) (lists : Lists) : Type 0 where
   pub standing : IsStanding w
   pub wide : w.window ≡ widest
   pub reached : (slots : ℕ → Slots) → AreSlots w slots → IsReached (ranks_in w slots) (scene_in w).world (scene_in w).held
-  pub listed : (r : ℕ) → r < w.shape.ranks → IsListed lists (histories_in w) r
+  pub listed : (r : ℕ) → r < w.schedule.plan.ranks → IsListed lists (histories_in w) r
 
 -- rank r's next listed step isn't allowed, or there is none
 abbrev pub IsStuckIn : WorldState → Lists → ℕ → Type 0
@@ -29,12 +29,12 @@ IsStuckIn w lists r = (e : LocalStep) → IsNext lists (histories_in w) r e → 
 -- a rank that isn't queued is stuck
 pub record IsWork (w : WorldState) (lists : Lists) (queue : List ℕ) : Type 0 where
   pub driven : IsDriven w lists
-  pub known : (r : ℕ) → In r queue → r < w.shape.ranks
-  pub looked : (r : ℕ) → r < w.shape.ranks → In r queue ⊎ IsStuckIn w lists r
+  pub known : (r : ℕ) → In r queue → r < w.schedule.plan.ranks
+  pub looked : (r : ℕ) → r < w.schedule.plan.ranks → In r queue ⊎ IsStuckIn w lists r
 
 -- each step that isn't taken can bring one look more than it is itself
 abbrev pub work_left : WorldState → Lists → List ℕ → ℕ
-work_left w lists queue = 2 * untaken lists (histories_in w) w.shape.ranks + length queue
+work_left w lists queue = 2 * untaken lists (histories_in w) w.schedule.plan.ranks + length queue
 
 -- the receipt of a message from rank r
 abbrev pub is_from : ℕ → LocalStep → Bool
@@ -45,6 +45,6 @@ is_from r _ = false
 pub record IsUnfinished (w : WorldState) (lists : Lists) (v : Verdict) : Type 0 where
   pub rank : ℕ
   pub step : LocalStep
-  pub known : rank < w.shape.ranks
+  pub known : rank < w.schedule.plan.ranks
   pub stops : Stops lists (histories_in w) rank step
   pub says : v ≡ Fails rank (length (histories_in w rank) + 1) (cause_of step)

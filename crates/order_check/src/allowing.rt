@@ -11,9 +11,9 @@ use worlds::World;
 
 /// How many ranks there are.
 pub fn ranks(world: &World) -> u32
-    ensures { result ≡ world.now.shape.ranks }
+    ensures { result ≡ world.now.schedule.plan.ranks }
 {
-    world.schedule().shape().ranks()
+    world.schedule().ranks()
 }
 
 /// The step of a world that a rank's local step is.
@@ -29,7 +29,7 @@ pub fn step_at(r: Rank, step: LocalStep) -> Step
 
 /// Whether the world allows a rank's local step.
 pub fn is_open(world: &World, r: Rank, step: LocalStep) -> bool
-    requires rank { r < world.now.shape.ranks }
+    requires rank { r < world.now.schedule.plan.ranks }
     requires standing { IsStanding world.now }
     requires wide { world.now.window ≡ widest }
     ensures { IsTrue result ↔ IsOpen world.now r step }
@@ -39,7 +39,7 @@ pub fn is_open(world: &World, r: Rank, step: LocalStep) -> bool
 
 /// The rank that the message of a step is for, if it makes one: an answer goes back to the source.
 pub fn message_for(world: &World, r: Rank, step: LocalStep) -> Option<Rank>
-    requires { r < world.now.shape.ranks }
+    requires { r < world.now.schedule.plan.ranks }
     ensures { result ≡ message_for world.now r step }
 {
     match step {
@@ -58,8 +58,8 @@ fn receipt(source: Rank, lane: Lane) -> LocalStep
 
 /// Whether no message from a rank waits for another.
 fn hears_none_of(world: &World, r: Rank, source: Rank) -> bool
-    requires rank { r < world.now.shape.ranks }
-    requires source { source < world.now.shape.ranks }
+    requires rank { r < world.now.schedule.plan.ranks }
+    requires source { source < world.now.schedule.plan.ranks }
     requires standing { IsStanding world.now }
     requires wide { world.now.window ≡ widest }
     ensures { IsTrue result ↔ HearsNoneOf world.now r source }
@@ -75,10 +75,10 @@ fn hears_none_of(world: &World, r: Rank, source: Rank) -> bool
 
 /// Whether no message waits for the rank.
 fn hears_nothing(world: &World, r: Rank) -> bool
-    requires rank { r < world.now.shape.ranks }
+    requires rank { r < world.now.schedule.plan.ranks }
     requires standing { IsStanding world.now }
     requires wide { world.now.window ≡ widest }
-    ensures { IsTrue result ↔ HearsNothing world.now r world.now.shape.ranks }
+    ensures { IsTrue result ↔ HearsNothing world.now r world.now.schedule.plan.ranks }
 {
     for source in 0..ranks(world) {
         if !hears_none_of(world, r, source) {
@@ -90,7 +90,7 @@ fn hears_nothing(world: &World, r: Rank) -> bool
 
 /// Whether the rank has started, no operation is ready there, and no message waits for it.
 pub fn is_quiet(world: &World, r: Rank) -> bool
-    requires rank { r < world.now.shape.ranks }
+    requires rank { r < world.now.schedule.plan.ranks }
     requires standing { IsStanding world.now }
     requires wide { world.now.window ≡ widest }
     ensures { IsTrue result ↔ IsQuiet world.now r }

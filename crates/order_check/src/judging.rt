@@ -5,7 +5,6 @@ ghost use Rattle.cuts.specs.view.Slots.{Slots};
 ghost use Rattle.cuts.specs.histories.Plans.{system_of};
 ghost use Rattle.cuts.specs.orders.Verdict.{IsVerdict, IsWhole, cause_of};
 ghost use Rattle.cuts.specs.declared.orders.Verdict.TheVariants.{Fails};
-ghost use Rattle.shape_plans.specs.Drawing.{plan_of};
 ghost use Rattle.worlds.specs.World.{histories_in};
 ghost use Rattle.order_check.specs.Listing.{lists_of};
 ghost use Rattle.worlds.specs.Standing.{IsStanding};
@@ -34,7 +33,7 @@ fn cause(step: LocalStep) -> Cause
 
 /// A failure at the place after the steps that a rank made.
 fn fails(world: &World, r: Rank, cause: Cause) -> Verdict
-    requires { r < world.now.shape.ranks }
+    requires { r < world.now.schedule.plan.ranks }
     ensures { result ≡ Fails r (length (histories_in world.now r) + 1) cause }
 {
     Verdict::Fails {
@@ -46,9 +45,9 @@ fn fails(world: &World, r: Rank, cause: Cause) -> Verdict
 
 /// The failure of the lowest rank whose list isn't wholly taken.
 fn unfinished(world: &World, orders: &Orders) -> Option<Verdict>
-    requires lists { length orders.now ≡ world.now.shape.ranks }
+    requires lists { length orders.now ≡ world.now.schedule.plan.ranks }
     requires driven { IsDriven world.now (lists_of orders.now) }
-    ensures { MatchOption result ((r : ℕ) → r < world.now.shape.ranks → IsWhole (lists_of orders.now) (histories_in world.now) r)
+    ensures { MatchOption result ((r : ℕ) → r < world.now.schedule.plan.ranks → IsWhole (lists_of orders.now) (histories_in world.now) r)
         (λ v. IsUnfinished world.now (lists_of orders.now) v) }
 {
     for r in 0..ranks(world) {
@@ -63,8 +62,8 @@ fn unfinished(world: &World, orders: &Orders) -> Option<Verdict>
 fn restless(world: &World) -> Option<Rank>
     requires standing { IsStanding world.now }
     requires wide { world.now.window ≡ widest }
-    ensures { MatchOption result ((r : ℕ) → r < world.now.shape.ranks → IsQuiet world.now r)
-        (λ r. (r < world.now.shape.ranks) × ((q : ℕ) → q < r → IsQuiet world.now q) × (IsQuiet world.now r → ⊥)) }
+    ensures { MatchOption result ((r : ℕ) → r < world.now.schedule.plan.ranks → IsQuiet world.now r)
+        (λ r. (r < world.now.schedule.plan.ranks) × ((q : ℕ) → q < r → IsQuiet world.now q) × (IsQuiet world.now r → ⊥)) }
 {
     for r in 0..ranks(world) {
         if !is_quiet(world, r) {
@@ -81,10 +80,10 @@ fn restless(world: &World) -> Option<Rank>
 ///
 /// There was no memory for the job's world, or for the ranks to look at.
 pub fn check(alloc: Global, job: &Job, orders: &Orders) -> Result<Verdict, NoMemory>
-    requires { length orders.now ≡ job.now.shape.ranks }
+    requires { length orders.now ≡ job.now.schedule.plan.ranks }
     // It is so whatever slots the tables of the interfaces give out.
     ensures exact { IfOk result (λ verdict. (slots : ℕ → Slots) →
-        IsVerdict (system_of (plan_of job.now.shape) job.now.inputs slots) (lists_of orders.now) verdict) }
+        IsVerdict (system_of job.now.schedule.plan job.now.inputs slots) (lists_of orders.now) verdict) }
 {
     let mut world = World::open(alloc, job)?;
     take_all(alloc, &mut world, orders)?;

@@ -21,8 +21,8 @@ use worlds::World;
 
 /// The next step of a rank's list; none where the list is wholly taken.
 pub fn next_listed(world: &World, orders: &Orders, r: Rank) -> Option<LocalStep>
-    requires rank { r < world.now.shape.ranks }
-    requires lists { length orders.now ≡ world.now.shape.ranks }
+    requires rank { r < world.now.schedule.plan.ranks }
+    requires lists { length orders.now ≡ world.now.schedule.plan.ranks }
     requires listed { IsListed (lists_of orders.now) (histories_in world.now) r }
     ensures { MatchOption result (IsWhole (lists_of orders.now) (histories_in world.now) r)
         (λ e. IsNext (lists_of orders.now) (histories_in world.now) r e) }
@@ -38,8 +38,8 @@ pub fn next_listed(world: &World, orders: &Orders, r: Rank) -> Option<LocalStep>
 
 /// The next step of a rank's list, where it is enabled.
 fn next_enabled(world: &World, orders: &Orders, r: Rank) -> Option<LocalStep>
-    requires rank { r < world.now.shape.ranks }
-    requires lists { length orders.now ≡ world.now.shape.ranks }
+    requires rank { r < world.now.schedule.plan.ranks }
+    requires lists { length orders.now ≡ world.now.schedule.plan.ranks }
     requires driven { IsDriven world.now (lists_of orders.now) }
     ensures { MatchOption result (IsStuckIn world.now (lists_of orders.now) r)
         (λ e. IsNext (lists_of orders.now) (histories_in world.now) r e × IsOpen world.now r e) }
@@ -68,10 +68,10 @@ fn is_from(r: Rank, step: LocalStep) -> bool
 
 /// Of the rank to which a message of rank r went: itself, if its next listed step is a receipt from rank r.
 fn waiter(world: &World, orders: &Orders, r: Rank, to: Option<Rank>) -> Option<Rank>
-    requires lists { length orders.now ≡ world.now.shape.ranks }
+    requires lists { length orders.now ≡ world.now.schedule.plan.ranks }
     requires driven { IsDriven world.now (lists_of orders.now) }
-    ensures known { IfSome result (λ d. d < world.now.shape.ranks) }
-    ensures others { (q : ℕ) → q < world.now.shape.ranks → to ≡ Some q → ((result ≡ Some q)
+    ensures known { IfSome result (λ d. d < world.now.schedule.plan.ranks) }
+    ensures others { (q : ℕ) → q < world.now.schedule.plan.ranks → to ≡ Some q → ((result ≡ Some q)
         ⊎ ((lane : Lane) → IsNext (lists_of orders.now) (histories_in world.now) q (Receive r lane) → ⊥)) }
 {
     match to {
@@ -101,7 +101,7 @@ fn look_again(queue: &mut Vec<Rank>, r: Rank) -> Result<(), NoMemory>
 
 /// Looks at a rank: takes its next listed step where it is enabled, and queues it again, and the rank that waited for its message.
 fn look(world: &mut World, orders: &Orders, r: Rank, queue: &mut Vec<Rank>) -> Result<(), NoMemory>
-    requires lists { length orders.now ≡ world.old.shape.ranks }
+    requires lists { length orders.now ≡ world.old.schedule.plan.ranks }
     requires work { IsWork world.old (lists_of orders.now) (queue.old.items ++ r ∷ []) }
     ensures later { IsLater world.old world.new }
     ensures work { IfOk result (λ _. IsWork world.new (lists_of orders.now) queue.new.items) }
@@ -137,7 +137,7 @@ fn all_ranks(alloc: Global, count: u32) -> Result<Vec<Rank>, NoMemory>
 
 /// Takes of each list what can be taken, in a world in which nothing was done.
 pub fn take_all(alloc: Global, world: &mut World, orders: &Orders) -> Result<(), NoMemory>
-    requires lists { length orders.now ≡ world.old.shape.ranks }
+    requires lists { length orders.now ≡ world.old.schedule.plan.ranks }
     requires wide { world.old.window ≡ widest }
     requires fresh { scene_in world.old ≡ first_scene }
     ensures later { IsLater world.old world.new }

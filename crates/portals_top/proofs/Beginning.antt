@@ -7,7 +7,7 @@ use Rattle.coll_lang.specs.Program.{Chosen, Program}
 use Rattle.coll_lang.specs.declared.whole.TheConstants.{LONGEST_TEXT}
 use Rattle.coll_shape.specs.Outline.{Outline}
 use Rattle.coll_shape.specs.Meaning.{Lists}
-use Rattle.schedule_compiler.specs.Jobs.{JobOf}
+use Rattle.schedule_compiler.specs.Jobs.{ShapeJobOf}
 use Rattle.shape_plans.specs.Footprint.{Refused as Excessive, refusal}
 use Rattle.portals_top.specs.declared.begun.Begun.{Begun}
 use Rattle.portals_top.specs.declared.begun.Begun.TheVariants as begun
@@ -34,7 +34,7 @@ use Rattle.portals_top.proofs.Answering.{answered-read, leaves}
 use Rattle.portals_top.proofs.Told.{Told, read-long, same-read, short-text}
 
 -- a text that is left to workers isn't refused, so it isn't too long
-left-short : (task : Task) (text : List ℕ) (crew : Crew) (job : JobOf) → IsLeftOf task.command (read_as task.format text) crew job
+left-short : (task : Task) (text : List ℕ) (crew : Crew) (job : ShapeJobOf) → IsLeftOf task.command (read_as task.format text) crew job
     → length text ≤ LONGEST_TEXT
 left-short task text crew job left =
     short-text LONGEST_TEXT text (λ long. subst (λ r. IsLeftOf task.command r crew job) (read-long task.format text long) left)
@@ -60,19 +60,19 @@ begun-read task text source source' sink sink' ran (begun.Run crew job) told lef
 begun-read task text source source' sink sink' ran (begun.Large number workers job) told none = absurd none
 
 -- ---- what workers leave is what is owed
-module _ (crew : Crew) (job : JobOf) (ran : Ran) (sink sink' : Outflow) (status : Status)
+module _ (crew : Crew) (job : ShapeJobOf) (ran : Ran) (sink sink' : Outflow) (status : Status)
     (written : Written (done (mode_text (mode_of crew) job.shape job.inputs ran.world)) sink sink' status)
     (handed : HandsBack status Done (LeavesWorld (Execute (mode_of crew)) job.shape job.inputs) ran) where
   -- for the job of this shape and these inputs, in the crew's mode
-  of-job : (mode : Mode) (o : Outline) (inputs : Lists) (j : JobOf) → mode ≡ mode_of crew → job ≡ j →
-      j ≡ record { shape = o; inputs = inputs }
+  of-job : (mode : Mode) (o : Outline) (inputs : Lists) (j : ShapeJobOf) → mode ≡ mode_of crew → job ≡ j
+      → j ≡ record { shape = o; inputs = inputs }
       → Written (done (mode_text mode o inputs ran.world)) sink sink' status × HandsBack status Done (LeavesWorld (Execute mode) o inputs)
       ran
   of-job mode o inputs j same is parts =
       subst (λ m. Written (done (mode_text m o inputs ran.world)) sink sink' status ×
       HandsBack status Done (LeavesWorld (Execute m) o inputs) ran)
       (sym same)
-      (subst (λ (x : JobOf). Written (done (mode_text (mode_of crew) x.shape x.inputs ran.world)) sink sink' status
+      (subst (λ (x : ShapeJobOf). Written (done (mode_text (mode_of crew) x.shape x.inputs ran.world)) sink sink' status
       × HandsBack status Done (LeavesWorld (Execute (mode_of crew)) x.shape x.inputs) ran) (subst (λ x. job ≡ x) parts is)
       (written, handed))
 
@@ -106,7 +106,7 @@ stays-read NoMemory source' rest read = tt
 -- the answer of a run that was left to workers
 pub answered-left : (r : Option Request) (bytes : List ℕ) (source source' : Inflow) (sink between sink' : Outflow) (ran : Ran)
     (status : Status)
-    (crew : Crew) (job : JobOf) → IsLeftRun r bytes source' crew job → between ≡ sink
+    (crew : Crew) (job : ShapeJobOf) → IsLeftRun r bytes source' crew job → between ≡ sink
     → Written (done (mode_text (mode_of crew) job.shape job.inputs ran.world)) between sink' status
     → HandsBack status Done (LeavesWorld (Execute (mode_of crew)) job.shape job.inputs) ran
     → AnswersTo r bytes source source' sink sink' ran status
@@ -129,7 +129,7 @@ answered-left r bytes source source' sink between sink' ran status crew job left
 -- the answer of a run of the generated description
 pub answered-large : (r : Option Request) (bytes : List ℕ) (source source' : Inflow) (sink between sink' : Outflow) (ran : Ran)
     (status : Status)
-    (number workers : ℕ) (job : JobOf) → IsLeftLarge r source source' number workers job → between ≡ sink
+    (number workers : ℕ) (job : ShapeJobOf) → IsLeftLarge r source source' number workers job → between ≡ sink
     → Written (done (summary_text number)) between sink' status
     → HandsBack status Done (LeavesWorld (Execute (Run workers)) (generated number).shape (generated number).inputs) ran
     → AnswersTo r bytes source source' sink sink' ran status

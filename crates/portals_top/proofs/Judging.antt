@@ -65,13 +65,12 @@ found-none finds WriteFault none = none
 found-none finds NoMemory none = refl
 
 -- ---- a shape that was compiled, and one that wasn't
-pub judged-compiled : (o s : Outline) (inputs : Lists) (orders : List (List LocalStep)) (r : Option Excessive) (sink sink' : Outflow)
-    (status : Status) → r ≡ None → s ≡ o
-    → Judges (λ found. due_verdict found) (λ found. FindsFor s inputs orders None found) sink sink' status
+pub judged-compiled : (o : Outline) (inputs : Lists) (orders : List (List LocalStep)) (r : Option Excessive) (sink sink' : Outflow)
+    (status : Status) → r ≡ None
+    → Judges (λ found. due_verdict found) (λ found. FindsFor o inputs orders None found) sink sink' status
     → Judges (λ found. due_judged o found r) (λ found. FindsFor o inputs orders r found) sink sink' status
-judged-compiled o s inputs orders r sink sink' status none same j =
-    subst (λ x. Judges (λ found. due_judged o found x) (λ found. FindsFor o inputs orders x found) sink sink' status) (sym none)
-    (subst (λ x. Judges (λ found. due_verdict found) (λ found. FindsFor x inputs orders None found) sink sink' status) same j)
+judged-compiled o inputs orders r sink sink' status none j =
+    subst (λ x. Judges (λ found. due_judged o found x) (λ found. FindsFor o inputs orders x found) sink sink' status) (sym none) j
 
 pub judged-refused : (o : Outline) (inputs : Lists) (orders : List (List LocalStep)) (r : Option Excessive) (command : Command)
     (given : Lists)

@@ -8,7 +8,6 @@ use Rattle.number_lists.specs.Numbers.{from_to}
 use Rattle.coll_lang.specs.Program.{Chosen, Program}
 use Rattle.coll_lang.proofs.Coming.{comes}
 use Rattle.coll_shape.specs.Meaning.{Lists}
-use Rattle.coll_shape.specs.Outline.{Outline}
 use Rattle.plan_core.proofs.Flat.{flat-same}
 use Rattle.cuts.specs.view.Slots.{Slots}
 use Rattle.cuts.specs.histories.Plans.{system_of}
@@ -20,7 +19,8 @@ use Rattle.cuts.proofs.orders.Ends.{chosen_ends}
 use Rattle.cuts.proofs.orders.OneChosen.{one_chosen}
 use Rattle.shape_plans.specs.Drawing.{plan_of}
 use Rattle.shape_plans.specs.Footprint.{Refused as Excessive, refusal}
-use Rattle.shape_plans.proofs.Final.{inputs_fit}
+use Rattle.shape_plans.proofs.Final.{fine-shape, inputs_fit}
+use Rattle.schedule_compiler.specs.Schedules.{ScheduleOf}
 use Rattle.job_laws.proofs.Cuts.{rank_of, sound_for}
 use Rattle.run_text.specs.Lines.{result_text}
 use Rattle.run_text.specs.Orders.{order_line, order_text}
@@ -59,8 +59,9 @@ module _ (bytes : List ℕ) (d : Program) (slots : ℕ → Slots) (seed : ℕ) (
       let here = left.1.1 own (slots_given w left.0.standing) in
       let as_d : IsChosen (ranks_of d own) (word seed) (histories_in w) =
       subst (λ (i : Lists). IsChosen (system_of (plan_of d.shape) i own) (word seed) (histories_in w)) left.0.inputs
-      (subst (λ (o : Outline). IsChosen (system_of (plan_of o) w.inputs own) (word seed) (histories_in w)) left.0.shape here) in
-      ap (λ (o : Outline). order_text o.ranks (λ r. map listed (histories_in w r))) left.0.shape
+      (subst (λ (s : ScheduleOf). IsChosen (system_of s.plan w.inputs own) (word seed) (histories_in w)) left.0.of_shape.schedule here) in
+      ap (λ (s : ScheduleOf). order_text s.plan.ranks (λ r. map listed (histories_in w r))) left.0.of_shape.schedule
+      ∙ ap (λ n. order_text n (λ r. map listed (histories_in w r))) (fine-shape d.shape ok.formed).ranks
       ∙ same-orders d.shape.ranks (λ r. map listed (histories_in w r)) (λ r. map listed (run r))
       (λ r h. one_chosen combined-starts (plan_of d.shape) d.inputs (sound_for d.shape d.inputs ok.formed planned.accepted ok.given)
       (inputs_fit d.shape d.inputs ok.formed ok.given) (combined-swaps op_laws) own slots (word seed) (histories_in w) run as_d chosen r

@@ -6,6 +6,7 @@ use Rattle.coll_shape.specs.Outline.{Outline}
 use Rattle.coll_shape.specs.WellFormed.{IsWellFormed}
 use Rattle.plan_steps.specs.Rounds.{rounds}
 use Rattle.schedule_compiler.specs.Answers.{Compiles}
+use Rattle.schedule_compiler.specs.Schedules.{ScheduleOf}
 use Rattle.shape_plans.specs.declared.faults.CompileFault.{CompileFault}
 use Rattle.shape_plans.specs.declared.faults.CompileFault.TheVariants.{TooMany, TooLarge, NoMemory}
 use Rattle.shape_plans.specs.Footprint.{refusal}
@@ -23,8 +24,8 @@ accepted d o k is same formed =
     ap refusal (same ∙ ap (λ (x : Program). x.shape) is) ∙ fits (subst (λ (x : Program). IsWellFormed x.shape) is formed)
 
 -- so a compiler that answers it with a fault had no memory
-pub no-excess : (o : Outline) (r : Result Outline CompileFault) (f : CompileFault) → refusal o ≡ None → Compiles o r → r ≡ Err f →
-    f ≡ NoMemory
+pub no-excess : (o : Outline) (r : Result ScheduleOf CompileFault) (f : CompileFault) → refusal o ≡ None → Compiles o r → r ≡ Err f
+    → f ≡ NoMemory
 no-excess o r (TooMany k) none compiles is =
     let over : refusal o ≡ Some (record { step = k; name = Links }) = subst (λ x. Compiles o x) is compiles in absurd (cc)
 no-excess o r (TooLarge k) none compiles is =

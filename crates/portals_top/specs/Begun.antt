@@ -6,7 +6,7 @@ use Rattle.coll_shape.specs.Meaning.{Lists}
 use Rattle.coll_lang.specs.declared.fault.Refusal.{Refusal}
 use Rattle.coll_lang.specs.Generated.{generated}
 use Rattle.coll_lang.specs.Program.{Chosen, Program}
-use Rattle.schedule_compiler.specs.Jobs.{JobOf}
+use Rattle.schedule_compiler.specs.Jobs.{ShapeJobOf}
 use Rattle.shape_plans.specs.Footprint.{Refused as Excessive, refusal}
 use Rattle.portals_top.specs.declared.begun.Begun.{Begun}
 use Rattle.portals_top.specs.declared.begun.Begun.TheVariants as begun
@@ -36,37 +36,37 @@ mode_of (crews.Trace workers) = Trace workers
 mode_of (crews.Steady workers) = Steady workers
 
 -- The workers are those whom the command asks for, there is one, and the job is that of the description, whose plan isn't too large.
-abbrev pub IsLeft : Command → Outline → Lists → Option Excessive → Crew → JobOf → Type 0
+abbrev pub IsLeft : Command → Outline → Lists → Option Excessive → Crew → ShapeJobOf → Type 0
 IsLeft (Execute mode) o inputs None crew job =
     (mode ≡ mode_of crew) × HasWorkers (mode_of crew) × (job ≡ record { shape = o; inputs = inputs })
 IsLeft (Execute mode) o inputs (Some r) crew job = ⊥
 IsLeft Plan o inputs r crew job = ⊥
 
 -- no choice text is left to workers, and no text that is refused
-abbrev pub IsLeftOfDescribed : Command → Program → Option Chosen → Crew → JobOf → Type 0
+abbrev pub IsLeftOfDescribed : Command → Program → Option Chosen → Crew → ShapeJobOf → Type 0
 IsLeftOfDescribed c d None crew job = IsLeft c d.shape d.inputs (refusal d.shape) crew job
 IsLeftOfDescribed c d (Some choices) crew job = ⊥
 
-abbrev pub IsLeftOf : Command → Result Program (ℕ × Refusal) → Crew → JobOf → Type 0
+abbrev pub IsLeftOf : Command → Result Program (ℕ × Refusal) → Crew → ShapeJobOf → Type 0
 IsLeftOf c (Ok d) crew job = IsLeftOfDescribed c d d.choices crew job
 IsLeftOf c (Err refusal) crew job = ⊥
 
 -- What a part of a call gives that reads nothing: an answer, or a run that is left to workers, and then nothing is written.
-abbrev pub Begins : (Ran → Due) → (Ran → Type 0) → (Crew → JobOf → Type 0) → Outflow → Outflow → Ran → Begun → Type 0
+abbrev pub Begins : (Ran → Due) → (Ran → Type 0) → (Crew → ShapeJobOf → Type 0) → Outflow → Outflow → Ran → Begun → Type 0
 Begins owed leaves left sink sink' ran (begun.Answered status) =
     Written (owed ran) sink sink' status × HandsBack status (owed ran).status leaves ran
 Begins owed leaves left sink sink' ran (begun.Run crew job) = left crew job × (sink' ≡ sink) × (ran ≡ nothing_ran)
 Begins owed leaves left sink sink' ran (begun.Large number workers job) = ⊥
 
 -- A run of the text is left to workers, as the words ask: the source was read to its end.
-pub record IsLeftRun (r : Option Request) (bytes : List ℕ) (source' : Inflow) (crew : Crew) (job : JobOf) : Type 0 where
+pub record IsLeftRun (r : Option Request) (bytes : List ℕ) (source' : Inflow) (crew : Crew) (job : ShapeJobOf) : Type 0 where
   pub task : Task
   pub asked : r ≡ Some (Do task)
   pub left : IsLeftOf task.command (read_as task.format bytes) crew job
   pub read : Leaves Done source' (unread (Some task) bytes)
 
 -- The run of the description that a number chooses is left to workers, as the words ask: nothing was read.
-pub record IsLeftLarge (r : Option Request) (source source' : Inflow) (number workers : ℕ) (job : JobOf) : Type 0 where
+pub record IsLeftLarge (r : Option Request) (source source' : Inflow) (number workers : ℕ) (job : ShapeJobOf) : Type 0 where
   pub asked : r ≡ Some (Large number workers)
   pub possible : CanAnswer (Large number workers)
   pub shape : job.shape ≡ (generated number).shape

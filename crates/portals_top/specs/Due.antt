@@ -57,7 +57,7 @@ excess_name Bytes = TooLarge
 -- the steps that each rank of a world made
 abbrev pub orders_of : Option WorldState → List ℕ
 orders_of None = []
-orders_of (Some w) = order_text w.shape.ranks (λ r. map listed (histories_in w r))
+orders_of (Some w) = order_text w.schedule.plan.ranks (λ r. map listed (histories_in w r))
 
 -- What is written of a run, which leaves a world.
 abbrev pub mode_text : Mode → Outline → Lists → Option WorldState → List ℕ

@@ -10,7 +10,6 @@ use Rattle.cuts.specs.histories.Cut.{IsAtRest}
 use Rattle.cuts.specs.histories.Plans.{IsComplete}
 use Rattle.cuts.specs.orders.Chosen.{IsChosen}
 use Rattle.cuts.specs.orders.Reached.{IsReached}
-use Rattle.shape_plans.specs.Drawing.{plan_of}
 use Rattle.job_laws.specs.Results.{AreMeant}
 use Rattle.turn_table.specs.Hands.{parts_of}
 use Rattle.turn_table.specs.States.{HandState}
@@ -21,11 +20,12 @@ use Rattle.rank_threads.specs.Fabrics.{FabricState}
 use Rattle.worlds.specs.Later.{IsLater}
 use Rattle.worlds.specs.Standing.{IsStanding}
 use Rattle.worlds.specs.World.{AreSlots, WorldState, histories_in, memory_in, ranks_in, scene_in, steps_in}
+use Rattle.portals_top.specs.Resting.{IsOfShape}
 
--- A world of this shape and these inputs, at rest: whatever slots agree with what its ranks' tables gave, no step is left and every rank
--- is complete; and each buffer at each rank is what the description means.
+-- A world of the plan of this shape, which isn't refused, and of these inputs of it, at rest: whatever slots agree with what its ranks'
+-- tables gave, no step is left and every rank is complete; and each buffer at each rank is what the description means.
 pub record IsRun (o : Outline) (given : Lists) (w : WorldState) : Type 0 where
-  pub shape : w.shape ≡ o
+  pub of_shape : IsOfShape o w
   pub inputs : w.inputs ≡ given
   -- its histories are a cut
   pub standing : IsStanding w
@@ -33,9 +33,9 @@ pub record IsRun (o : Outline) (given : Lists) (w : WorldState) : Type 0 where
   pub own : w.spare ≡ 0
   pub none : (slots : ℕ → Slots) → AreSlots w slots → steps_in w slots ≡ []
   pub rest : (slots : ℕ → Slots) → AreSlots w slots → IsAtRest (ranks_in w slots) (histories_in w)
-  pub complete : (slots : ℕ → Slots) → AreSlots w slots → (r : ℕ) → r < w.shape.ranks →
-      IsComplete (plan_of w.shape) w.inputs slots (histories_in w) r
-  pub meant : AreMeant w.shape w.inputs (memory_in w)
+  pub complete : (slots : ℕ → Slots) → AreSlots w slots → (r : ℕ) → r < w.schedule.plan.ranks →
+      IsComplete w.schedule.plan w.inputs slots (histories_in w) r
+  pub meant : AreMeant o given (memory_in w)
 
 -- Its histories and lanes are those of a moment to which local steps of its ranks led, one after the other, from the beginning on.
 abbrev pub IsReachedWorld : WorldState → Type 0

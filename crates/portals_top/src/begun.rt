@@ -1,7 +1,7 @@
 //! How far a call comes by one thread.
 
 use crate::status::Status;
-use schedule_compiler::Job;
+use schedule_compiler::ShapeJob;
 
 /// The workers that run a description, how they find the end, and what is written of the run.
 #[derive(Clone, Copy, Debug, PartialEq, Eq)]
@@ -33,7 +33,7 @@ pub enum Begun {
         /// Which workers.
         crew: Crew,
         /// What they run.
-        job: Job,
+        job: ShapeJob,
     },
     /// So many workers are to run this job, which is of the description that the number chooses, and its summary is to be written.
     /// Nothing was read or written.
@@ -43,6 +43,6 @@ pub enum Begun {
         /// How many workers there are, from 1 to 16.
         workers: u32,
         /// What they run.
-        job: Job,
+        job: ShapeJob,
     },
 }

@@ -6,20 +6,21 @@ ghost use Rattle.order_lines.specs.Check.{read_check};
 ghost use Rattle.run_text.specs.Orders.{fails_line};
 ghost use Rattle.run_text.specs.Putting.{EndsWith};
 ghost use Rattle.shape_plans.specs.Footprint.{refusal};
+ghost use Rattle.schedule_compiler.specs.Schedules.{schedule_of};
 ghost use Rattle.portals_top.specs.Explained.{NotesVerdict, Tells};
 ghost use Rattle.portals_top.specs.Checked.{FindsFor, FindsIn, IsVerdictOn, Judges, due_checked, due_judged, due_verdict};
 
 use crate::refusing::{refuse_plan, refuse_with};
 use crate::status::Status;
 use coll_lang::{Description, ParseFault};
-use coll_shape::Inputs;
+use coll_shape::{Inputs, Shape};
 use cuts::orders::Verdict;
 use order_check::check;
 use order_lines::{Orders, parse_check};
 use port_io::{Failed, Sink};
 use ptl_types::{Cause, NoMemory, Rank};
 use run_text::{Pieces, fails_line, write_short};
-use schedule_compiler::{Job, Schedule, compile};
+use schedule_compiler::{Schedule, compile, shape_job, shape_schedules};
 use std::alloc::Global;
 use text_notes::notes::Note;
 use text_notes::{explain_fails, explain_text};
@@ -62,18 +63,22 @@ fn status_of(verdict: Verdict) -> Status
     }
 }
 
-/// The verdict on orders of a schedule's ranks with these inputs.
+/// The verdict on orders of the ranks of a shape's plan with these inputs.
 fn verdict_on(
     alloc: Global,
+    shape: &Shape,
     schedule: Schedule,
     inputs: Inputs,
     orders: &Orders,
 ) -> Result<Verdict, NoMemory>
-    requires given { AreInputs schedule inputs }
-    requires lists { length orders.now ≡ schedule.ranks }
-    ensures { IfOk result (λ verdict. IsVerdictOn schedule inputs orders.now verdict) }
+    requires schedule { schedule ≡ schedule_of shape.now }
+    requires given { AreInputs shape.now inputs }
+    requires lists { length orders.now ≡ shape.now.ranks }
+    ensures { IfOk result (λ verdict. IsVerdictOn shape.now inputs orders.now verdict) }
 {
-    let job = Job::new(alloc, schedule, inputs)?;
+    shape.keeps_form();
+    shape_schedules();
+    let job = shape_job(alloc, shape, schedule, inputs)?;
     check(alloc, &job, orders)
 }
 
@@ -87,9 +92,10 @@ fn note_of(text: &[u8], verdict: Verdict) -> Option<Note>
     }
 }
 
-/// Finds the verdict on orders of a schedule's ranks, and writes it.
+/// Finds the verdict on orders of the ranks of a shape's plan, and writes it.
 fn judge<K: Sink>(
     alloc: Global,
+    shape: &Shape,
     schedule: Schedule,
     inputs: Inputs,
     orders: &Orders,
@@ -97,16 +103,17 @@ fn judge<K: Sink>(
     sink: &mut K,
     told: &mut Option<Note>,
 ) -> Status
-    requires given { AreInputs schedule inputs }
-    requires lists { length orders.now ≡ schedule.ranks }
-    ensures judged { Judges (λ found. due_verdict found) (λ found. FindsFor schedule inputs orders.now None found) (K.outflow sink.old)
-        (K.outflow sink.new) result }
+    requires schedule { schedule ≡ schedule_of shape.now }
+    requires given { AreInputs shape.now inputs }
+    requires lists { length orders.now ≡ shape.now.ranks }
+    ensures judged { Judges (λ found. due_verdict found) (λ found. FindsFor shape.now inputs orders.now None found)
+        (K.outflow sink.old) (K.outflow sink.new) result }
     ensures told { Tells result (K.outflow sink.old) (K.outflow sink.new) told.new }
 {
     let Ok(mut out) = Pieces::open(alloc) else {
         return Status::NoMemory;
     };
-    let Ok(verdict) = verdict_on(alloc, schedule, inputs, orders) else {
+    let Ok(verdict) = verdict_on(alloc, shape, schedule, inputs, orders) else {
         return Status::NoMemory;
     };
     *told = note_of(text, verdict);
@@ -132,7 +139,7 @@ fn compiled<K: Sink>(
 {
     let (shape, inputs) = d.into_parts();
     match compile(alloc, &shape) {
-        Ok(schedule) => judge(alloc, schedule, inputs, orders, text, sink, told),
+        Ok(schedule) => judge(alloc, &shape, schedule, inputs, orders, text, sink, told),
         Err(fault) => refuse_plan(alloc, sink, &shape, fault, told),
     }
 }

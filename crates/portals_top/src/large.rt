@@ -18,20 +18,20 @@ use port_io::Sink;
 use ptl_types::NoMemory;
 use rank_threads::Gate;
 use run_text::Pieces;
-use schedule_compiler::{CompileFault, Job, compile};
+use schedule_compiler::{CompileFault, ShapeJob, compile};
 use std::alloc::Global;
 use std::sync::Wait;
 use std::thread::Threads;
 
 /// The job of the description that a number chooses.
-pub(crate) fn generated_job(alloc: Global, number: u32) -> Result<Job, NoMemory>
+pub(crate) fn generated_job(alloc: Global, number: u32) -> Result<ShapeJob, NoMemory>
     requires { number < 65536 }
     ensures shape { IfOk result (λ job. job.shape ≡ (generated number).shape) }
     ensures inputs { IfOk result (λ job. job.inputs ≡ (generated number).inputs) }
 {
     let (shape, inputs) = generated(alloc, number)?.into_parts();
     match compile(alloc, &shape) {
-        Ok(schedule) => Job::new(alloc, schedule, inputs),
+        Ok(schedule) => ShapeJob::new(alloc, shape, schedule, inputs),
         Err(CompileFault::NoMemory) => Err(NoMemory),
         // Its plan is within the limits.
         Err(CompileFault::TooMany { .. }) => unreachable!(),
@@ -46,7 +46,7 @@ pub(crate) fn large<R: Threads + Wait + Sync, G: Gate, K: Sink>(
     gate: &G,
     number: u32,
     workers: u32,
-    job: &Job,
+    job: &ShapeJob,
     sink: &mut K,
     ran: &mut Ran,
 ) -> Status
@@ -64,9 +64,9 @@ pub(crate) fn large<R: Threads + Wait + Sync, G: Gate, K: Sink>(
     let Ok((world, spent)) = run_by_workers(rt, alloc, gate, workers, job) else {
         return Status::NoMemory;
     };
-    let rested = Rested(world);
+    let rested = Rested(world, job.shape());
     let written = write_sums(&mut out, sink, number, &rested);
-    let Rested(world) = rested;
+    let Rested(world, _) = rested;
     ran.world = Some(world);
     ran.spent = Some(spent);
     status_of(written)

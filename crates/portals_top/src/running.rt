@@ -3,7 +3,7 @@
 ghost use Rattle.std.specs.Prelude.{◌≡◌, ◌<◌, ◌^◌, All, IfOk, None, Some, length};
 ghost use Rattle.cuts.specs.orders.Chosen.{first_scene};
 ghost use Rattle.rest_probe.specs.Waves.{IsFor};
-ghost use Rattle.shape_plans.specs.Drawing.{plan_of};
+ghost use Rattle.schedule_compiler.specs.Schedules.{schedule_of};
 ghost use Rattle.turn_table.specs.Hands.{IsFree, parts_of};
 ghost use Rattle.worlds.specs.Later.{IsLater};
 ghost use Rattle.worlds.specs.World.{scene_in};
@@ -26,37 +26,41 @@ use ptl_types::NoMemory;
 use rank_threads::{Fabric, Gate, Hand, SpentWires, run_keeping, run_steady};
 use rest_probe::Wave;
 use run_text::Pieces;
-use schedule_compiler::Job;
+use schedule_compiler::ShapeJob;
 use std::alloc::Global;
 use std::sync::Wait;
 use std::thread::Threads;
 use worlds::{World, runs_by_words};
 
-/// Makes all that is left of a world.
-fn finished(world: World) -> World
-    requires { world.spare ≡ 0 }
-    ensures run { IsRun world.shape world.inputs result }
+/// Makes all that is left of a world of a job.
+fn finished(world: World, job: &ShapeJob) -> World
+    requires own { world.spare ≡ 0 }
+    requires schedule { world.schedule ≡ schedule_of job.now.shape }
+    requires inputs { world.inputs ≡ job.now.inputs }
+    ensures run { IsRun job.now.shape job.now.inputs result }
     ensures reached { scene_in world ≡ first_scene → IsReachedWorld result }
     ensures later { IsLater world result }
 {
     let mut world = world;
+    let _ = job.job();
     world.run_to_rest();
     let _ = world.enabled();
     world
 }
 
 /// Runs a job on one thread in the program's own order.
-fn run_once(alloc: Global, job: &Job) -> Result<World, NoMemory>
+fn run_once(alloc: Global, job: &ShapeJob) -> Result<World, NoMemory>
     ensures { IfOk result (λ w. IsRun job.now.shape job.now.inputs w × IsReachedWorld w) }
 {
-    Ok(finished(World::open(alloc, job)?))
+    let world = World::open(alloc, job.job())?;
+    Ok(finished(world, job))
 }
 
 /// Runs a job on one thread in the order that the words of a generator choose.
-fn run_chosen(alloc: Global, job: &Job, seed: u64) -> Result<World, NoMemory>
+fn run_chosen(alloc: Global, job: &ShapeJob, seed: u64) -> Result<World, NoMemory>
     ensures { IfOk result (λ w. IsRun job.now.shape job.now.inputs w × (IsReachedWorld w × IsInOrder seed w)) }
 {
-    let mut world = World::open(alloc, job)?;
+    let mut world = World::open(alloc, job.job())?;
     let mut words = Words::of(seed);
     world.run_chosen(&mut words);
     runs_by_words::<Words>();
@@ -71,14 +75,14 @@ pub(crate) fn run_by_workers<R: Threads + Wait + Sync, G: Gate>(
     alloc: Global,
     gate: &G,
     workers: u32,
-    job: &Job,
+    job: &ShapeJob,
 ) -> Result<(World, SpentWires), NoMemory>
     requires { 0 < workers }
     ensures { IfOk result (λ left. IsRun job.now.shape job.now.inputs left.0 × IsOfWorkers workers left.0) }
 {
-    let (fabric, hands) = Fabric::open(rt, alloc, job, workers, gate)?;
+    let (fabric, hands) = Fabric::open(rt, alloc, job.job(), workers, gate)?;
     let (world, spent) = run_keeping(rt, fabric, hands);
-    let world = finished(world);
+    let world = finished(world, job);
     Ok((world, spent))
 }
 
@@ -93,8 +97,8 @@ fn close_steady<R: Threads + Wait + Sync, G: Gate + Drop>(
     requires all { parts_of hands.items ≡ 2 ^ 32 }
     requires nonempty { 0 < length hands.items }
     requires at_most { length hands.items < 2 ^ 32 }
-    requires lanes { IsFor (plan_of fabric.job.shape) wave }
-    ensures shape { result.0.shape ≡ fabric.job.shape }
+    requires lanes { IsFor fabric.job.schedule.plan wave }
+    ensures schedule { result.0.schedule ≡ fabric.job.schedule }
     ensures inputs { result.0.inputs ≡ fabric.job.inputs }
     ensures own { result.0.spare ≡ 0 }
     ensures rested { IsRested fabric (length hands.items) result.0 }
@@ -112,19 +116,20 @@ fn run_steadily<R: Threads + Wait + Sync, G: Gate>(
     alloc: Global,
     gate: &G,
     workers: u32,
-    job: &Job,
+    job: &ShapeJob,
 ) -> Result<(World, SpentWires), NoMemory>
     requires { 0 < workers }
     ensures { IfOk result (λ left. IsRun job.now.shape job.now.inputs left.0 × IsOfSteady workers left.0) }
 {
-    let wave = Wave::open(alloc, job.schedule())?;
-    let (fabric, hands) = Fabric::open(rt, alloc, job, workers, gate)?;
+    let own = job.job();
+    let wave = Wave::open(alloc, own.schedule())?;
+    let (fabric, hands) = Fabric::open(rt, alloc, own, workers, gate)?;
     let (world, spent) = close_steady(rt, fabric, hands, wave);
-    Ok((finished(world), spent))
+    Ok((finished(world, job), spent))
 }
 
 /// Runs a job on one thread in the program's own order, writes its results, and hands back the world.
-fn once<K: Sink>(alloc: Global, job: &Job, sink: &mut K, ran: &mut Ran) -> Status
+fn once<K: Sink>(alloc: Global, job: &ShapeJob, sink: &mut K, ran: &mut Ran) -> Status
     requires none { ran.old ≡ nothing_ran }
     ensures written { Written (done (mode_text Mode.Once job.now.shape job.now.inputs ran.new.world)) (K.outflow sink.old)
         (K.outflow sink.new) result }
@@ -136,15 +141,15 @@ fn once<K: Sink>(alloc: Global, job: &Job, sink: &mut K, ran: &mut Ran) -> Statu
     let Ok(world) = run_once(alloc, job) else {
         return Status::NoMemory;
     };
-    let rested = Rested(world);
+    let rested = Rested(world, job.shape());
     let written = write_results(&mut out, sink, &rested);
-    let Rested(world) = rested;
+    let Rested(world, _) = rested;
     ran.world = Some(world);
     status_of(written)
 }
 
 /// Runs a job on one thread in the order that a seed chooses, writes its results and that order, and hands back the world.
-fn sim<K: Sink>(alloc: Global, job: &Job, seed: u64, sink: &mut K, ran: &mut Ran) -> Status
+fn sim<K: Sink>(alloc: Global, job: &ShapeJob, seed: u64, sink: &mut K, ran: &mut Ran) -> Status
     requires none { ran.old ≡ nothing_ran }
     ensures written { Written (done (mode_text (Mode.Sim seed) job.now.shape job.now.inputs ran.new.world)) (K.outflow sink.old)
         (K.outflow sink.new) result }
@@ -156,9 +161,9 @@ fn sim<K: Sink>(alloc: Global, job: &Job, seed: u64, sink: &mut K, ran: &mut Ran
     let Ok(world) = run_chosen(alloc, job, seed) else {
         return Status::NoMemory;
     };
-    let rested = Rested(world);
+    let rested = Rested(world, job.shape());
     let written = write_ordered(&mut out, sink, &rested);
-    let Rested(world) = rested;
+    let Rested(world, _) = rested;
     ran.world = Some(world);
     status_of(written)
 }
@@ -168,7 +173,7 @@ fn sim<K: Sink>(alloc: Global, job: &Job, seed: u64, sink: &mut K, ran: &mut Ran
 pub(crate) fn run_alone<K: Sink>(
     alloc: Global,
     mode: Mode,
-    job: Job,
+    job: ShapeJob,
     sink: &mut K,
     ran: &mut Ran,
 ) -> Begun
@@ -202,7 +207,7 @@ fn run_by<R: Threads + Wait + Sync, G: Gate>(
     alloc: Global,
     gate: &G,
     crew: Crew,
-    job: &Job,
+    job: &ShapeJob,
 ) -> Result<(World, SpentWires), NoMemory>
     requires { HasWorkers (mode_of crew) }
     ensures { IfOk result (λ left. LeavesRun (mode_of crew) job.now.shape job.now.inputs (Some left.0)) }
@@ -225,7 +230,7 @@ pub(crate) fn run<R: Threads + Wait + Sync, G: Gate, K: Sink>(
     alloc: Global,
     gate: &G,
     crew: Crew,
-    job: &Job,
+    job: &ShapeJob,
     sink: &mut K,
     ran: &mut Ran,
 ) -> Status
@@ -241,9 +246,9 @@ pub(crate) fn run<R: Threads + Wait + Sync, G: Gate, K: Sink>(
     let Ok((world, spent)) = run_by(rt, alloc, gate, crew, job) else {
         return Status::NoMemory;
     };
-    let rested = Rested(world);
+    let rested = Rested(world, job.shape());
     let written = write_run(rt, alloc, &mut out, sink, crew, &rested);
-    let Rested(world) = rested;
+    let Rested(world, _) = rested;
     ran.world = Some(world);
     ran.spent = Some(spent);
     status_of(written)

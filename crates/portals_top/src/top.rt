@@ -34,7 +34,7 @@ use port_io::{Sink, Source};
 use rank_threads::{Gate, OpenGate};
 use run_text::write_short;
 use schedule_compiler::done::counted_shape;
-use schedule_compiler::{Job, compile};
+use schedule_compiler::{ShapeJob, compile};
 use std::alloc::Global;
 use std::sync::Wait;
 use std::thread::Threads;
@@ -84,7 +84,7 @@ fn executed<K: Sink>(
 {
     let (shape, inputs) = d.into_parts();
     match compile(alloc, &shape) {
-        Ok(schedule) => match Job::new(alloc, schedule, inputs) {
+        Ok(schedule) => match ShapeJob::new(alloc, shape, schedule, inputs) {
             Ok(job) => run_alone(alloc, mode, job, sink, ran),
             Err(_) => Begun::Answered(Status::NoMemory),
         },

@@ -4,14 +4,13 @@ ghost use Rattle.std.specs.Prelude.{ℕ, List, ◌≡◌, ◌<◌, ◌++◌, Som
 ghost use Rattle.ptl_types.specs.declared.steps.LocalStep.{LocalStep};
 ghost use Rattle.coll_lang.specs.Generated.{generated};
 ghost use Rattle.coll_shape.specs.WellFormed.{IsWellFormed};
-ghost use Rattle.job_laws.specs.Results.{AreMeant};
 ghost use Rattle.run_text.specs.Lines.{result_text};
 ghost use Rattle.run_text.specs.Orders.{order_text};
 ghost use Rattle.run_text.specs.Putting.{EndsWith, Puts};
-ghost use Rattle.worlds.specs.World.{memory_in};
 ghost use Rattle.portals_top.specs.Begun.{mode_of};
 ghost use Rattle.portals_top.specs.Due.{mode_text, orders_of};
 ghost use Rattle.portals_top.specs.Large.{summary_text};
+ghost use Rattle.portals_top.specs.Resting.{IsResting};
 ghost use Rattle.portals_top.specs.Words.{HasWorkers};
 ghost use Rattle.portals_top.specs.Written.{status_of};
 
@@ -28,20 +27,19 @@ use std::alloc::Global;
 use std::thread::Threads;
 use worlds::World;
 
-/// A world whose buffers are what the description means of the inputs.
+/// A world at rest of the plan of a shape, with the shape.
 #[derive(Drop)]
-pub(crate) struct Rested(pub(crate) World);
+pub(crate) struct Rested<'a>(pub(crate) World, pub(crate) &'a Shape);
 
-impl ResultLists for Rested {
+impl<'a> ResultLists for Rested<'a> {
     ghost use Rattle.std.specs.Prelude.{◌<◌, length};
     ghost use Rattle.coll_shape.specs.Meaning.{meaning_of};
-    ghost use Rattle.job_laws.specs.Results.{AreMeant};
-    ghost use Rattle.worlds.specs.World.{memory_in};
+    ghost use Rattle.portals_top.specs.Resting.{IsResting};
 
-    ghost lists = { λ rested. meaning_of rested.0.shape rested.0.inputs };
+    ghost lists = { λ rested. meaning_of rested.1.now rested.0.inputs };
 
     ghost can_give = { λ rested b r.
-        AreMeant rested.0.shape rested.0.inputs (memory_in rested.0) × (b < length rested.0.shape.buffers) × (r < rested.0.shape.ranks) };
+        IsResting rested.1.now rested.0 × (b < length rested.1.now.buffers) × (r < rested.1.now.ranks) };
 
     fn list(&self, buffer: u32, rank: Rank) -> &[u8] {
         self.0.result(buffer, rank)
@@ -71,12 +69,12 @@ impl Histories for World {
     ghost use Rattle.cuts.specs.orders.Taking.{listed};
     ghost use Rattle.worlds.specs.World.{histories_in};
 
-    ghost count = { λ w. w.shape.ranks };
+    ghost count = { λ w. w.schedule.plan.ranks };
 
     ghost steps = { λ w r. map listed (histories_in w r) };
 
     fn rank_count(&self) -> u32 {
-        self.schedule().shape().ranks()
+        self.schedule().ranks()
     }
 
     fn steps_of(&self, r: Rank) -> &[LocalStep] {
@@ -115,11 +113,11 @@ pub(crate) fn put_orders<K: Sink, H: Histories>(
 }
 
 /// The shape that was run.
-fn shape_of(rested: &Rested) -> &Shape
-    ensures value { result.now ≡ rested.now.0.shape }
+fn shape_of<'a>(rested: &Rested<'a>) -> &'a Shape
+    ensures value { result.now ≡ rested.now.1.now }
     ensures formed { IsWellFormed result.now }
 {
-    let shape = rested.0.schedule().shape();
+    let shape = rested.1;
     shape.keeps_form();
     shape
 }
@@ -131,8 +129,8 @@ pub(crate) fn write_results<K: Sink>(
     rested: &Rested,
 ) -> Result<(), Failed>
     requires empty { out.old ≡ [] }
-    requires meant { AreMeant rested.now.0.shape rested.now.0.inputs (memory_in rested.now.0) }
-    ensures { EndsWith (K.outflow sink.old) (K.outflow sink.new) (result_text rested.now.0.shape rested.now.0.inputs) result }
+    requires resting { IsResting rested.now.1.now rested.now.0 }
+    ensures { EndsWith (K.outflow sink.old) (K.outflow sink.new) (result_text rested.now.1.now rested.now.0.inputs) result }
 {
     let shape = shape_of(rested);
     write_result(out, sink, shape, rested)
@@ -149,8 +147,8 @@ fn write_results_by<R: Threads + Sync, K: Sink>(
 ) -> Result<(), Failed>
     requires threads { 0 < threads }
     requires empty { out.old ≡ [] }
-    requires meant { AreMeant rested.now.0.shape rested.now.0.inputs (memory_in rested.now.0) }
-    ensures { EndsWith (K.outflow sink.old) (K.outflow sink.new) (result_text rested.now.0.shape rested.now.0.inputs) result }
+    requires resting { IsResting rested.now.1.now rested.now.0 }
+    ensures { EndsWith (K.outflow sink.old) (K.outflow sink.new) (result_text rested.now.1.now rested.now.0.inputs) result }
 {
     let shape = shape_of(rested);
     write_result_by(rt, alloc, threads, out, sink, shape, rested)
@@ -163,9 +161,9 @@ pub(crate) fn write_ordered<K: Sink>(
     rested: &Rested,
 ) -> Result<(), Failed>
     requires empty { out.old ≡ [] }
-    requires meant { AreMeant rested.now.0.shape rested.now.0.inputs (memory_in rested.now.0) }
+    requires resting { IsResting rested.now.1.now rested.now.0 }
     ensures { EndsWith (K.outflow sink.old) (K.outflow sink.new)
-        (result_text rested.now.0.shape rested.now.0.inputs ++ orders_of (Some rested.now.0)) result }
+        (result_text rested.now.1.now rested.now.0.inputs ++ orders_of (Some rested.now.0)) result }
 {
     let shape = shape_of(rested);
     put_result(out, sink, shape, rested)?;
@@ -184,9 +182,9 @@ pub(crate) fn write_run<R: Threads + Sync, K: Sink>(
 ) -> Result<(), Failed>
     requires workers { HasWorkers (mode_of crew) }
     requires empty { out.old ≡ [] }
-    requires meant { AreMeant rested.now.0.shape rested.now.0.inputs (memory_in rested.now.0) }
+    requires resting { IsResting rested.now.1.now rested.now.0 }
     ensures { EndsWith (K.outflow sink.old) (K.outflow sink.new)
-        (mode_text (mode_of crew) rested.now.0.shape rested.now.0.inputs (Some rested.now.0)) result }
+        (mode_text (mode_of crew) rested.now.1.now rested.now.0.inputs (Some rested.now.0)) result }
 {
     match crew {
         Crew::Run { workers } | Crew::Steady { workers } => {
@@ -204,9 +202,9 @@ pub(crate) fn write_sums<K: Sink>(
     rested: &Rested,
 ) -> Result<(), Failed>
     requires empty { out.old ≡ [] }
-    requires shape { rested.now.0.shape ≡ (generated number).shape }
+    requires shape { rested.now.1.now ≡ (generated number).shape }
     requires inputs { rested.now.0.inputs ≡ (generated number).inputs }
-    requires meant { AreMeant rested.now.0.shape rested.now.0.inputs (memory_in rested.now.0) }
+    requires resting { IsResting rested.now.1.now rested.now.0 }
     ensures { EndsWith (K.outflow sink.old) (K.outflow sink.new) (summary_text number) result }
 {
     let shape = shape_of(rested);

@@ -3,7 +3,6 @@ use Rattle.std.specs.Prelude.{ℕ, false, ◌≡◌, ◌==◌, List, [], ◌∷�
 use mathlib.Core.Option.{some}
 use lib.ListN.{get_elem?}
 use Rattle.ptl_types.specs.declared.headers.Lane.TheVariants.{Request}
-use Rattle.shape_plans.specs.Drawing.{plan_of}
 use Rattle.rank_slots.specs.declared.slot.TurnRank.{TurnRank}
 use Rattle.rank_slots.specs.declared.ports.OutPort.{OutPort}
 use Rattle.rank_slots.specs.declared.ports.InPort.{InPort}
@@ -13,12 +12,12 @@ use Rattle.rank_slots.specs.Slots.{InOk, OutOk}
 -- ---- what may come to a slot
 -- a further out end tells what the history says, of another lane than the others, and the node knows whether a request waits there
 pub record MayGainOut (x : TurnRank) (p : OutPort) : Type 0 where
-  pub ok : OutOk (plan_of x.job.shape) x.job.inputs x.node.value p
+  pub ok : OutOk x.job.schedule.plan x.job.inputs x.node.value p
   pub apart : Each (λ (q : OutPort). q.target ≡ p.target → q.lane ≡ p.lane → ⊥) x.outs.items
   pub gated : p.lane ≡ Request → slice_index_or x.node.value.closed p.target false ≡ p.end.waits
 
 pub record MayGainIn (x : TurnRank) (p : InPort) : Type 0 where
-  pub ok : InOk (plan_of x.job.shape) x.node.value p
+  pub ok : InOk x.job.schedule.plan x.node.value p
   pub apart : Each (λ (q : InPort). q.source ≡ p.source → q.lane ≡ p.lane → ⊥) x.ins.items
 
 -- ---- what becomes of the slots, one by one

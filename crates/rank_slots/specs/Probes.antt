@@ -17,7 +17,6 @@ use Rattle.rest_probe.specs.declared.notes.ProbeNote.{ProbeNote}
 use Rattle.rest_probe.specs.Counted.{cleared}
 use Rattle.rest_probe.specs.Waves.{SameLanes}
 use Rattle.schedule_compiler.specs.Jobs.{JobOf}
-use Rattle.shape_plans.specs.Drawing.{plan_of}
 use Rattle.rank_slots.specs.declared.ports.InPort.{InPort}
 use Rattle.rank_slots.specs.declared.ports.OutPort.{OutPort}
 use Rattle.rank_slots.specs.declared.slot.TurnRank.{TurnRank}
@@ -26,10 +25,10 @@ use Rattle.rank_slots.specs.Names.{history}
 
 -- ---- what a history of rank r says, under slots k
 abbrev pub state_after : JobOf → ℕ → Slots → List Local → State
-state_after job r k h = state (start_of (plan_of job.shape) k r) (prepare (plan_of job.shape) job.inputs k r) h
+state_after job r k h = state (start_of job.schedule.plan k r) (prepare job.schedule.plan job.inputs k r) h
 
 abbrev pub sent_on : JobOf → ℕ → Slots → List Local → ℕ → Lane → ℕ
-sent_on job r k h d lane = length (sent (start_of (plan_of job.shape) k r) (prepare (plan_of job.shape) job.inputs k r) h d lane)
+sent_on job r k h d lane = length (sent (start_of job.schedule.plan k r) (prepare job.schedule.plan job.inputs k r) h d lane)
 
 -- the number of a lane from the rank is how many messages the history sent on it
 abbrev pub CountsSent : JobOf → ℕ → List Local → Handles → LaneCount → Type 0

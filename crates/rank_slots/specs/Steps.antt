@@ -17,7 +17,6 @@ use Rattle.cuts.specs.histories.Plans.{system_of}
 use Rattle.cuts.specs.histories.System.{state_at}
 use Rattle.rank_node.specs.Copies.{has_start, listed}
 use Rattle.rank_node.specs.Handles.{Agrees}
-use Rattle.shape_plans.specs.Drawing.{plan_of}
 use Rattle.schedule_compiler.specs.Jobs.{JobOf}
 use Rattle.rank_slots.specs.declared.gate.StartAnswer.{StartAnswer}
 use Rattle.rank_slots.specs.declared.gate.StartAnswer.TheVariants.{Started, AlreadyStarted}
@@ -68,7 +67,7 @@ PassedOver s Answer old new = IsEmpty s Answer old new ⊎ (is_awaited old.nic.m
 -- the interface that was taken is that of the history
 abbrev pub IsOfHistory : JobOf → ℕ → Mark → Type 0
 IsOfHistory job r a =
-    (slots : ℕ → Slots) → Agrees (slots r) a.1.kept → a.1.nic ≡ state_at (system_of (plan_of job.shape) job.inputs slots) (λ q. a.0) r
+    (slots : ℕ → Slots) → Agrees (slots r) a.1.kept → a.1.nic ≡ state_at (system_of job.schedule.plan job.inputs slots) (λ q. a.0) r
 
 -- rank r had started, nothing that was ready found room for its message, and each lane to it was passed over
 pub record IsIdle (job : JobOf) (r : ℕ) (a b : Mark) : Type 0 where
@@ -76,7 +75,7 @@ pub record IsIdle (job : JobOf) (r : ℕ) (a b : Mark) : Type 0 where
   pub started : has_start a.0 ≡ true
   pub interface : IsOfHistory job r a
   pub none_fires : NoneFires a.1 b.1
-  pub over : (s : ℕ) (lane : Lane) → s < (plan_of job.shape).ranks → is_used_lane (plan_of job.shape) s r lane ≡ true
+  pub over : (s : ℕ) (lane : Lane) → s < job.schedule.plan.ranks → is_used_lane job.schedule.plan s r lane ≡ true
       → PassedOver s lane a.1 b.1
 
 -- ---- what the calls answer

@@ -3,7 +3,6 @@
 ghost use Rattle.std.specs.Prelude.{◌≡◌, ◌<◌, ◌++◌, ◌∷◌, [], length, IfOk};
 ghost use mathlib.Core.Option.{some};
 ghost use lib.ListN.{get_elem?};
-ghost use Rattle.shape_plans.specs.Drawing.{plan_of};
 ghost use Rattle.rank_slots.specs.declared.slot.TurnRank.{TurnRank};
 ghost use Rattle.rank_slots.specs.Slots.{InOk, OutOk};
 ghost use Rattle.rank_slots.specs.Moves.{GainsIn, LosesIn, LosesOut, MayGainIn, MayGainOut, SameNode, Slotwise};
@@ -54,7 +53,7 @@ impl TurnRank {
         ensures node { self.new.node.value ≡ self.old.node.value }
         ensures ins { self.new.ins ≡ self.old.ins }
         ensures outs { self.old.outs.items ≡ self.new.outs.items ++ result ∷ [] }
-        ensures port { OutOk (plan_of self.old.job.shape) self.old.job.inputs self.old.node.value result }
+        ensures port { OutOk self.old.job.schedule.plan self.old.job.inputs self.old.node.value result }
     {
         match self.outs.pop() {
             Some(port) => port,
@@ -69,7 +68,7 @@ impl TurnRank {
         ensures node { self.new.node.value ≡ self.old.node.value }
         ensures outs { self.new.outs ≡ self.old.outs }
         ensures ins { self.old.ins.items ≡ self.new.ins.items ++ result ∷ [] }
-        ensures port { InOk (plan_of self.old.job.shape) self.old.node.value result }
+        ensures port { InOk self.old.job.schedule.plan self.old.node.value result }
     {
         match self.ins.pop() {
             Some(port) => port,
@@ -98,7 +97,7 @@ pub fn pull_out(slots: &mut [TurnRank], rank: Rank) -> OutPort
     requires rank { rank < length slots.old }
     requires nonempty { (x : TurnRank) → get_elem? slots.old rank ≡ some x → 0 < length x.outs.items }
     ensures count { length slots.new ≡ length slots.old }
-    ensures port { (x : TurnRank) → get_elem? slots.old rank ≡ some x → OutOk (plan_of x.job.shape) x.job.inputs x.node.value result }
+    ensures port { (x : TurnRank) → get_elem? slots.old rank ≡ some x → OutOk x.job.schedule.plan x.job.inputs x.node.value result }
     ensures pulled { Slotwise (LosesOut rank result) slots.old slots.new }
 {
     slots[rank as usize].take_out()
@@ -109,7 +108,7 @@ pub fn pull_in(slots: &mut [TurnRank], rank: Rank) -> InPort
     requires rank { rank < length slots.old }
     requires nonempty { (x : TurnRank) → get_elem? slots.old rank ≡ some x → 0 < length x.ins.items }
     ensures count { length slots.new ≡ length slots.old }
-    ensures port { (x : TurnRank) → get_elem? slots.old rank ≡ some x → InOk (plan_of x.job.shape) x.node.value result }
+    ensures port { (x : TurnRank) → get_elem? slots.old rank ≡ some x → InOk x.job.schedule.plan x.node.value result }
     ensures pulled { Slotwise (LosesIn rank result) slots.old slots.new }
 {
     slots[rank as usize].take_in()

@@ -1,6 +1,5 @@
 //! What a slot of the table holds.
 
-ghost use Rattle.shape_plans.specs.Drawing.{plan_of};
 ghost use Rattle.rank_slots.specs.Slots.{Tied};
 
 use crate::hints::Hints;
@@ -21,5 +20,5 @@ pub struct TurnRank {
     pub ins: Vec<InPort>,
     /// Where ends and messages are likely to be.
     pub hints: Box<Hints>,
-    pub ghost tied: { Tied (plan_of job.shape) job.inputs node.value outs.items ins.items },
+    pub ghost tied: { Tied job.schedule.plan job.inputs node.value outs.items ins.items },
 }

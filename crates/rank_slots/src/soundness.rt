@@ -9,7 +9,6 @@ pub fn sound(job: &Job)
     ensures { IsSound job.now }
 {
     let schedule = job.schedule();
-    schedule.shape().keeps_form();
     let _ = schedule.plan();
     let _ = job.inputs();
 }

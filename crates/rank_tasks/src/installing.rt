@@ -3,7 +3,6 @@
 ghost use Rattle.std.specs.Prelude.{ℕ, [], false, ◌≡◌, ◌<◌, IfOk, replicate};
 ghost use Rattle.cuts.specs.histories.Plans.{system_of};
 ghost use Rattle.cuts.specs.view.Slots.{Slots};
-ghost use Rattle.shape_plans.specs.Drawing.{plan_of};
 ghost use Rattle.rank_node.specs.Handles.{Agrees};
 ghost use Rattle.rank_node.specs.Node.{IsNode};
 ghost use Rattle.rank_node.specs.Plans.{IsCompiledFor};
@@ -22,15 +21,15 @@ use std::alloc::Global;
 ///
 /// There was no memory for it. The job is as it was.
 pub fn install(alloc: Global, job: &Job, r: Rank, strays: u32) -> Result<Node, NoMemory>
-    requires { r < job.now.shape.ranks }
-    ensures compiled { IfOk result (λ n. IsCompiledFor (plan_of job.now.shape) job.now.inputs r n.task) }
+    requires { r < job.now.schedule.plan.ranks }
+    ensures compiled { IfOk result (λ n. IsCompiledFor job.now.schedule.plan job.now.inputs r n.task) }
     ensures node { IfOk result (λ n. IsNode n) }
     ensures history { IfOk result (λ n. n.diary.locals ≡ []) }
     ensures steps { IfOk result (λ n. n.diary.steps ≡ []) }
     ensures strays { IfOk result (λ n. n.strays ≡ strays) }
-    ensures gates { IfOk result (λ n. n.closed ≡ replicate job.now.shape.ranks false) }
+    ensures gates { IfOk result (λ n. n.closed ≡ replicate job.now.schedule.plan.ranks false) }
     ensures first { IfOk result (λ n. (slots : ℕ → Slots) → Agrees (slots r) n.kept →
-        n.nic ≡ (system_of (plan_of job.now.shape) job.now.inputs slots).first r) }
+        n.nic ≡ (system_of job.now.schedule.plan job.now.inputs slots).first r) }
 {
     let _ = job.schedule().plan();
     let _ = job.inputs();

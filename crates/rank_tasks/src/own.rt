@@ -2,7 +2,6 @@
 
 ghost use Rattle.std.specs.Prelude.{ℕ, Some, ◌≡◌, ◌<◌, IfOk, length};
 ghost use Rattle.plan_calls.specs.Calls.{append_call, late_calls, own_cell, own_cells};
-ghost use Rattle.shape_plans.specs.Drawing.{plan_of};
 
 use plan_calls::OwnCell;
 use plan_core::Plan;
@@ -45,9 +44,9 @@ pub(crate) fn own_cells(
     r: Rank,
     late: &[Call],
 ) -> Result<Vec<OwnCell>, NoMemory>
-    requires rank { r < schedule.now.ranks }
-    requires late { late.now ≡ late_calls (plan_of schedule.now) r }
-    ensures { IfOk result (λ cells. cells.items ≡ own_cells (plan_of schedule.now) r) }
+    requires rank { r < schedule.now.plan.ranks }
+    requires late { late.now ≡ late_calls schedule.now.plan r }
+    ensures { IfOk result (λ cells. cells.items ≡ own_cells schedule.now.plan r) }
 {
     let plan = schedule.plan();
     let _ = r;

@@ -5,7 +5,6 @@ ghost use Rattle.plan_core.specs.Plan.{link};
 ghost use Rattle.plan_calls.specs.Areas.{links_to};
 ghost use Rattle.plan_calls.specs.RankOps.{sends_of};
 ghost use Rattle.plan_tables.specs.Installed.{installed};
-ghost use Rattle.shape_plans.specs.Drawing.{plan_of};
 
 use ptl_types::Rank;
 use schedule_compiler::{RankTable, Schedule};
@@ -13,10 +12,10 @@ use schedule_compiler::{RankTable, Schedule};
 /// How many messages come to a rank: its interface has room for the header of each request, and its done counter counts each
 /// answer beside the own cells.
 pub(crate) fn receipts_of(schedule: &Schedule, r: Rank, table: &RankTable) -> u64
-    requires rank { r < schedule.now.ranks }
-    requires table { table.now ≡ installed (plan_of schedule.now) r }
-    ensures { result ≡ length (links_to (plan_of schedule.now) r) +
-        (if (plan_of schedule.now).remote then sends_of (plan_of schedule.now) r else 0) }
+    requires rank { r < schedule.now.plan.ranks }
+    requires table { table.now ≡ installed schedule.now.plan r }
+    ensures { result ≡ length (links_to schedule.now.plan r) +
+        (if schedule.now.plan.remote then sends_of schedule.now.plan r else 0) }
 {
     let _ = schedule.plan();
     let _ = r;
@@ -27,8 +26,8 @@ pub(crate) fn receipts_of(schedule: &Schedule, r: Rank, table: &RankTable) -> u6
 
 /// How many bytes these messages have together. Answers carry none.
 pub(crate) fn bytes_to(schedule: &Schedule, r: Rank) -> u64
-    requires { r < schedule.now.ranks }
-    ensures { result ≡ sum_by (λ l. (link (plan_of schedule.now) l).length) (links_to (plan_of schedule.now) r) }
+    requires { r < schedule.now.plan.ranks }
+    ensures { result ≡ sum_by (λ l. (link schedule.now.plan l).length) (links_to schedule.now.plan r) }
 {
     let mut bytes = 0;
     for source in 0..schedule.plan().ranks() {

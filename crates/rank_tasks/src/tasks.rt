@@ -1,7 +1,6 @@
 //! What is compiled for a rank of a job.
 
 ghost use Rattle.std.specs.Prelude.{◌<◌, IfOk};
-ghost use Rattle.shape_plans.specs.Drawing.{plan_of};
 ghost use Rattle.rank_node.specs.Node.{task_of};
 ghost use Rattle.rank_node.specs.Plans.{IsCompiledFor};
 
@@ -19,8 +18,8 @@ use std::alloc::Global;
 ///
 /// There was no memory for it. The job is as it was.
 pub fn task_of(alloc: Global, job: &Job, r: Rank) -> Result<Compiled, NoMemory>
-    requires { r < job.now.shape.ranks }
-    ensures { IfOk result (λ c. IsCompiledFor (plan_of job.now.shape) job.now.inputs r (task_of c)) }
+    requires { r < job.now.schedule.plan.ranks }
+    ensures { IfOk result (λ c. IsCompiledFor job.now.schedule.plan job.now.inputs r (task_of c)) }
 {
     let schedule = job.schedule();
     let table = schedule.rank(alloc, r)?;

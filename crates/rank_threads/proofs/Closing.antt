@@ -24,7 +24,6 @@ use Rattle.cuts.proofs.histories.Clean.{made-clean}
 use Rattle.cuts.proofs.histories.Fronts.{owned-all}
 use Rattle.cuts.proofs.rest.LaneCuts.{unused_sent}
 use Rattle.cuts.specs.windows.Places.{lane_place}
-use Rattle.shape_plans.specs.Drawing.{plan_of}
 use Rattle.schedule_compiler.specs.Jobs.{JobOf}
 use Rattle.rank_node.specs.Node.{IsNode, NodeState}
 use Rattle.rank_node.specs.Plans.{IsCompiledFor}
@@ -67,23 +66,24 @@ pub record IsNodeOf (slots : List TurnRank) (nodes : List NodeState) (r : ℕ) :
 record IsTiedAt (job : JobOf) (r : ℕ) (n : NodeState) : Type 0 where
   outs : List OutPort
   ins : List InPort
-  tied : Tied (plan_of job.shape) job.inputs n outs ins
+  tied : Tied job.schedule.plan job.inputs n outs ins
   rank : n.task.rank ≡ r
 
 module _ (job : JobOf) (sound : IsSound job) (slots : List TurnRank) (wires : List WireState) (nodes : List NodeState) (ls : List Plain)
-    (size : length nodes ≡ job.shape.ranks) (kept : (r : ℕ) → r < job.shape.ranks → IsNode (node_at nodes r))
-    (node : (r : ℕ) → r < job.shape.ranks → IsNodeOf slots nodes r)
+    (size : length nodes ≡ job.schedule.plan.ranks) (kept : (r : ℕ) → r < job.schedule.plan.ranks → IsNode (node_at nodes r))
+    (node : (r : ℕ) → r < job.schedule.plan.ranks → IsNodeOf slots nodes r)
     (named : (r : ℕ) (x : TurnRank) → get_elem? slots r ≡ some x → IsNamed job wires r (plate x))
-    (lanes : AreLanes (plan_of job.shape) (bounds_of wires))
-    (lifted : (k : ℕ) (w : WireState) → get_elem? wires k ≡ some w →
-    IsLifted w.bounds slots (lane_at ls (lane_place job.shape.ranks w.bounds.source w.bounds.target w.bounds.lane)))
-    (unused : (s d : ℕ) (lane : Lane) → s < job.shape.ranks → d < job.shape.ranks → is_used_lane (plan_of job.shape) s d lane ≡ false
-    → lane_at ls (lane_place job.shape.ranks s d lane) ≡ frame_lane (plan_of job.shape) s d lane) where
+    (lanes : AreLanes job.schedule.plan (bounds_of wires))
+    (lifted : (k : ℕ) (w : WireState) → get_elem? wires k ≡ some w
+    → IsLifted w.bounds slots (lane_at ls (lane_place job.schedule.plan.ranks w.bounds.source w.bounds.target w.bounds.lane)))
+    (unused : (s d : ℕ) (lane : Lane) → s < job.schedule.plan.ranks → d < job.schedule.plan.ranks
+    → is_used_lane job.schedule.plan s d lane ≡ false
+    → lane_at ls (lane_place job.schedule.plan.ranks s d lane) ≡ frame_lane job.schedule.plan s d lane) where
   abbrev p : Plan
-  p = plan_of job.shape
+  p = job.schedule.plan
 
   abbrev n : ℕ
-  n = job.shape.ranks
+  n = job.schedule.plan.ranks
 
   abbrev w : Histories
   w = (scene_of n nodes ls).world
@@ -97,7 +97,7 @@ module _ (job : JobOf) (sound : IsSound job) (slots : List TurnRank) (wires : Li
         outs = y.outs.items;
         ins = y.ins.items;
         tied = subst (λ (m : NodeState). Tied p job.inputs m y.outs.items y.ins.items) (sym x.node_is)
-            (subst (λ (j : JobOf). Tied (plan_of j.shape) j.inputs y.node.value y.outs.items y.ins.items) q.job_is y.tied);
+            (subst (λ (j : JobOf). Tied j.schedule.plan j.inputs y.node.value y.outs.items y.ins.items) q.job_is y.tied);
         rank = ap (λ (m : NodeState). m.task.rank) x.node_is ∙ q.rank;
       }
 
@@ -119,8 +119,7 @@ module _ (job : JobOf) (sound : IsSound job) (slots : List TurnRank) (wires : Li
   past-unused s r lane past = at (is_used_lane p s r lane) refl
     where
       at : (b : Bool) → is_used_lane p s r lane ≡ b → b ≡ false
-      at true e = absurd (let h = (used-within p (length job.inputs) sound.plan s r lane e).0 in let m = sound.ranks in
-          omega (arith, h, m, past))
+      at true e = absurd (let h = (used-within p (length job.inputs) sound.plan s r lane e).0 in omega (arith, h, past))
       at false e = refl
 
   sources : (r s : ℕ) (lane : Lane) → r < n → n ≤ s → got (w r) s lane ≡ []
@@ -147,8 +146,8 @@ module _ (job : JobOf) (sound : IsSound job) (slots : List TurnRank) (wires : Li
       ap (λ (b : Bounds). b.messages) (v.2 ∙ (lanes.each h.at h.bounds h.there).bounds)
       ∙ (λ i. lane_messages p (h.source i) (h.target i) (h.lane_is i)) in
       let held = l.held x.slot y.slot (ap (get_elem? slots) es ∙ x.there) (ap (get_elem? slots) ed ∙ y.there) in record {
-        has = subst (λ (z : (JobOf × NodeState) × ((ℕ × Lane) × List Sent)). HasSent (plan_of z.0.0.shape) z.0.0.inputs z.0.1 z.1.0.0
-            z.1.0.1 z.1.1)
+        has = subst (λ (z : (JobOf × NodeState) × ((ℕ × Lane) × List Sent)). HasSent z.0.0.schedule.plan z.0.0.inputs z.0.1 z.1.0.0 z.1.0.1
+            z.1.1)
             (λ i. ((q.job_is i, sym x.node_is i), ((ed i, el i), got (sym y.node_is i).diary.locals (es i) (el i) ++ (here i).messages)))
             held;
         at_most = subst (λ (z : Plain). length z.messages ≤ 4) here l.at_most;
@@ -170,7 +169,7 @@ module _ (job : JobOf) (sound : IsSound job) (slots : List TurnRank) (wires : Li
         (subst (λ v. In m v) (used-sent s d lane hs hd used) (In-append_left m (got (w d) s lane) (lies s d lane) i))).0
 
     at_rank : (r : ℕ) → r < p.ranks → r < n
-    at_rank r h = subst (λ q. r < q) sound.ranks h
+    at_rank r h = h
 
     prefix : (s d : ℕ) (lane : Lane) → s < n → d < n → (b : Bool) → is_used_lane p s d lane ≡ b
         → (rest : List Sent) × (owned (got (w d) s lane) ++ rest ≡ sent_by (system_of p job.inputs k) w s d lane)
@@ -187,7 +186,7 @@ module _ (job : JobOf) (sound : IsSound job) (slots : List TurnRank) (wires : Li
     cut = record {
       legal = λ r h. run-legal p job.inputs (k r) r (node_at nodes r) (compiled r (at_rank r h)) (kept r (at_rank r h))
           (agree r (at_rank r h));
-      known = λ r s lane h past. sources r s lane (at_rank r h) (subst (λ q. q ≤ s) sound.ranks past);
+      known = λ r s lane h past. sources r s lane (at_rank r h) past;
       lanes = λ s d lane hs hd. prefix s d lane (at_rank s hs) (at_rank d hd) (is_used_lane p s d lane) refl;
     }
 
@@ -196,8 +195,7 @@ module _ (job : JobOf) (sound : IsSound job) (slots : List TurnRank) (wires : Li
     all-sent s d lane hs hd true e = used-sent s d lane hs hd e
     all-sent s d lane hs hd false e =
         ap₂ (λ a b. a ++ b) (got-none s d lane hd e) (ap (λ (z : Plain). z.messages) (unused s d lane hs hd e))
-        ∙ sym (unused_sent combined-starts p job.inputs sound.plan sound.inputs k w cut s d lane (subst (λ q. s < q) (sym sound.ranks) hs)
-        (subst (λ q. d < q) (sym sound.ranks) hd) e)
+        ∙ sym (unused_sent combined-starts p job.inputs sound.plan sound.inputs k w cut s d lane hs hd e)
 
   -- ---- room
   has-room : (s d : ℕ) (lane : Lane) → s < n → d < n → (b : Bool) → is_used_lane p s d lane ≡ b →
@@ -210,7 +208,7 @@ module _ (job : JobOf) (sound : IsSound job) (slots : List TurnRank) (wires : Li
   is-within s d lane hs hd false e = let z = ap (λ (v : Plain). length v.messages) (unused s d lane hs hd e) in omega (arith, z)
 
   abbrev frame : FrameState
-  frame = record { shape = job.shape; inputs = job.inputs; lanes = ls }
+  frame = record { schedule = job.schedule; inputs = job.inputs; lanes = ls }
 
   pub may-close : MayClose frame nodes
   may-close = record {

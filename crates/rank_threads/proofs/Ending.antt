@@ -59,10 +59,10 @@ pub as-many : (last : List TurnRank) (nodes : List NodeState) → nodes ≡ map 
 as-many last nodes is = ap (λ (l : List NodeState). length l) is ∙ length_map (λ (x : TurnRank). x.node.value) last
 
 -- a frame of this job with these lanes
-pub may-frame : (job : JobOf) (f : FrameState) (nodes : List NodeState) → f.shape ≡ job.shape → f.inputs ≡ job.inputs
-    → MayClose (record { shape = job.shape; inputs = job.inputs; lanes = f.lanes }) nodes → MayClose f nodes
-may-frame job f nodes shape inputs may = subst (λ (z : FrameState). MayClose z nodes)
-    (λ i. record { shape = sym shape i; inputs = sym inputs i; lanes = f.lanes }) may
+pub may-frame : (job : JobOf) (f : FrameState) (nodes : List NodeState) → f.schedule ≡ job.schedule → f.inputs ≡ job.inputs
+    → MayClose (record { schedule = job.schedule; inputs = job.inputs; lanes = f.lanes }) nodes → MayClose f nodes
+may-frame job f nodes schedule inputs may = subst (λ (z : FrameState). MayClose z nodes)
+    (λ i. record { schedule = sym schedule i; inputs = sym inputs i; lanes = f.lanes }) may
 
 -- ---- what is left, told by the history alone
 pub left-history : (start : List TurnRank) (hs : List (HandState TurnRank)) (r : ℕ) (x : TurnRank) → Left chronicle plate start hs r x →

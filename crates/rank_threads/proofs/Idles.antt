@@ -33,7 +33,6 @@ use Rattle.rank_node.specs.Node.{IsNode, NodeState}
 use Rattle.rank_node.specs.Plans.{IsCompiledFor}
 use Rattle.rank_node.proofs.Plans.{run-state}
 use Rattle.schedule_compiler.specs.Jobs.{JobOf}
-use Rattle.shape_plans.specs.Drawing.{plan_of}
 use Rattle.ni_model.specs.Answers.{is_awaited}
 use Rattle.rank_slots.specs.Joints.{Joint, in_joint, out_joint}
 use Rattle.rank_slots.specs.Lanes.{AreLanes, bounds_on}
@@ -116,16 +115,16 @@ closed-is closed (Some d) e = (d, refl, at (get_or closed d false) e)
     at true e = refl
     at false e = cc
 
-module _ (job : JobOf) (sound : IsSound job) (wires : List WireState) (lanes : AreLanes (plan_of job.shape) (bounds_of wires))
+module _ (job : JobOf) (sound : IsSound job) (wires : List WireState) (lanes : AreLanes job.schedule.plan (bounds_of wires))
     (r : ℕ) (x : TurnRank) (named : IsNamed job wires r (plate x)) where
   abbrev p : Plan
-  p = plan_of job.shape
+  p = job.schedule.plan
 
   abbrev n : NodeState
   n = x.node.value
 
   tied : Tied p job.inputs n x.outs.items x.ins.items
-  tied = subst (λ (j : JobOf). Tied (plan_of j.shape) j.inputs n x.outs.items x.ins.items) named.job_is x.tied
+  tied = subst (λ (j : JobOf). Tied j.schedule.plan j.inputs n x.outs.items x.ins.items) named.job_is x.tied
 
   -- the end of a lane from the rank
   pub record OutAt (d : ℕ) (lane : Lane) : Type 0 where

@@ -14,7 +14,6 @@ use Rattle.plan_core.specs.Plan.{Plan}
 use Rattle.plan_calls.specs.Lanes.{is_used_lane}
 use Rattle.cuts.specs.histories.History.{got}
 use Rattle.cuts.specs.windows.Places.{lane_place}
-use Rattle.shape_plans.specs.Drawing.{plan_of}
 use Rattle.schedule_compiler.specs.Jobs.{JobOf}
 use Rattle.rank_node.specs.Node.{NodeState}
 use Rattle.worlds.specs.Frames.{frame_lane}
@@ -52,10 +51,10 @@ in-lanes ls i roomy = ⊎_elim (λ (h : i < length ls). h)
 
 -- ---- what a wire held
 -- what a slot's ends say, and what the wire held between them
-pub held-between : (b : Bounds) (x y : TurnRank) (out : OutPort) (into : InPort) (held : List Sent) (l : Plain) →
-    OutOk (plan_of x.job.shape) x.job.inputs x.node.value out → InOk (plan_of y.job.shape) y.node.value into
+pub held-between : (b : Bounds) (x y : TurnRank) (out : OutPort) (into : InPort) (held : List Sent) (l : Plain)
+    → OutOk x.job.schedule.plan x.job.inputs x.node.value out → InOk y.job.schedule.plan y.node.value into
     → out.end.bounds ≡ b → into.end.bounds ≡ b → out.end.sent ≡ into.end.received ++ held → l.messages ≡ held
-    → HasSent (plan_of x.job.shape) x.job.inputs x.node.value b.target b.lane (got (history y) b.source b.lane ++ l.messages)
+    → HasSent x.job.schedule.plan x.job.inputs x.node.value b.target b.lane (got (history y) b.source b.lane ++ l.messages)
 held-between b x y out into held l o i eo ei e is =
     let to : out.target ≡ b.target = sym (ap (λ (z : Bounds). z.target) o.bounds) ∙ ap (λ (z : Bounds). z.target) eo in
     let on : out.lane ≡ b.lane = sym (ap (λ (z : Bounds). z.lane) o.bounds) ∙ ap (λ (z : Bounds). z.lane) eo in
@@ -63,7 +62,7 @@ held-between b x y out into held l o i eo ei e is =
     let by : into.lane ≡ b.lane = sym (ap (λ (z : Bounds). z.lane) i.bounds) ∙ ap (λ (z : Bounds). z.lane) ei in
     let received : into.end.received ≡ got (history y) b.source b.lane = i.got_is ∙ (λ j. got (history y) (from j) (by j)) in
     let all : out.end.sent ≡ got (history y) b.source b.lane ++ l.messages = e ∙ ap₂ (λ u v. u ++ v) received (sym is) in
-    subst (λ (z : (ℕ × Lane) × List Sent). HasSent (plan_of x.job.shape) x.job.inputs x.node.value z.0.0 z.0.1 z.1)
+    subst (λ (z : (ℕ × Lane) × List Sent). HasSent x.job.schedule.plan x.job.inputs x.node.value z.0.0 z.0.1 z.1)
     (λ j. ((to j, on j), all j)) o.sent_is
 
 -- ends that left slots tell as much of the slots before
@@ -71,7 +70,7 @@ pub held-before : (b : Bounds) (old new : List TurnRank) (l : Plain) → Slotwis
     IsHeldOn b new l → IsHeldOn b old l
 held-before b old new l s n h x y ex ey =
     let u = node_before old new s n b.source x ex in let v = node_before old new s n b.target y ey in
-    subst (λ (z : (JobOf × NodeState) × NodeState). HasSent (plan_of z.0.0.shape) z.0.0.inputs z.0.1 b.target b.lane
+    subst (λ (z : (JobOf × NodeState) × NodeState). HasSent z.0.0.schedule.plan z.0.0.inputs z.0.1 b.target b.lane
     (got z.1.diary.locals b.source b.lane ++ l.messages))
     (λ j. ((u.2.job_is j, u.2.node j), v.2.node j)) (h u.0 v.0 u.1 v.1)
 

@@ -5,7 +5,6 @@ use lib.ListN.{get_elem?}
 use Rattle.atomic_table.proofs.Lists.{at_map}
 use Rattle.pair_wires.specs.Wires.{WireState}
 use Rattle.plan_core.specs.Plan.{Plan}
-use Rattle.shape_plans.specs.Drawing.{plan_of}
 use Rattle.schedule_compiler.specs.Jobs.{JobOf}
 use Rattle.ni_model.specs.Calls.{AnswersReady}
 use Rattle.ni_model.specs.State.{State}
@@ -25,10 +24,10 @@ use Rattle.rank_wiring.specs.Wiring.{bounds_of}
 use Rattle.rank_threads.proofs.Idles.{in-at, of-history, out-at}
 
 -- ---- the ends of a rank's lanes
-module _ (job : JobOf) (sound : IsSound job) (wires : List WireState) (lanes : AreLanes (plan_of job.shape) (bounds_of wires))
-    (r : ℕ) (x : TurnRank) (named : IsNamed job wires r (plate x)) (w : List RankNote) (for : IsFor (plan_of job.shape) w) where
+module _ (job : JobOf) (sound : IsSound job) (wires : List WireState) (lanes : AreLanes job.schedule.plan (bounds_of wires))
+    (r : ℕ) (x : TurnRank) (named : IsNamed job wires r (plate x)) (w : List RankNote) (for : IsFor job.schedule.plan w) where
   abbrev p : Plan
-  p = plan_of job.shape
+  p = job.schedule.plan
 
   pub has-out : (y : RankNote) (i : ℕ) (c : LaneCount) → get_elem? w r ≡ some y → get_elem? y.note.sent i ≡ some c → HasOut x c.rank c.lane
   has-out y i c at there =

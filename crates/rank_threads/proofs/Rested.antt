@@ -17,7 +17,6 @@ use Rattle.cuts.specs.histories.History.{Local, got, is_start, sent, state}
 use Rattle.cuts.specs.histories.Plans.{system_of}
 use Rattle.cuts.specs.histories.System.{Histories, System}
 use Rattle.cuts.specs.histories.Wave.{HasNoStray, IsWave}
-use Rattle.shape_plans.specs.Drawing.{plan_of}
 use Rattle.schedule_compiler.specs.Jobs.{JobOf}
 use Rattle.turn_table.specs.States.{HandState}
 use Rattle.turn_table.proofs.Sums.{prefix_trans}
@@ -81,18 +80,17 @@ none-ready s None e a = a
 none-ready s (Some t) e a = absurd (let h = e in cc)
 
 module _ (f : FabricState) (sound : IsSound f.job) (hands : List (HandState TurnRank)) (w : WorldState) (is : IsWorldOf f hands w)
-    (v : List RankNote) (for : IsFor (plan_of f.job.shape) v) (answer : Answered v Rest) (fronts : Histories)
+    (v : List RankNote) (for : IsFor f.job.schedule.plan v) (answer : Answered v Rest) (fronts : Histories)
     (seen : AreFrontsOf f.job hands fronts v)
     (k : ℕ → Slots) (agree : AreSlots w k) where
   abbrev p : Plan
-  p = plan_of f.job.shape
+  p = f.job.schedule.plan
 
   note-at : (r : ℕ) → r < p.ranks → (x : RankNote) × (get_elem? v r ≡ some x)
   note-at r low = exists_at v r (let e = for.count in omega (arith, low, e))
 
   told : (r : ℕ) (low : r < p.ranks) (x : RankNote) → get_elem? v r ≡ some x → AtRank f.job w (k r) r (fronts r) x
-  told r low x at = at-rank f hands w k r fronts x (is.ranks r (let e = sound.ranks in omega (arith, low, e))) (seen r x at)
-      (answer.0 (suc r) r x (omega arith) at) agree
+  told r low x at = at-rank f hands w k r fronts x (is.ranks r low) (seen r x at) (answer.0 (suc r) r x (omega arith) at) agree
 
   -- as much was received on a used lane as was sent
   even : (s d : ℕ) (lane : Lane) → s < p.ranks → d < p.ranks → is_used_lane p s d lane ≡ true →
@@ -125,10 +123,10 @@ module _ (f : FabricState) (sound : IsSound f.job) (hands : List (HandState Turn
   }
 
 -- a world without room for strays received none
-pub no-stray : (w : WorldState) (slots : ℕ → Slots) → IsStanding w → w.spare ≡ 0 → (plan_of w.shape).ranks ≡ w.shape.ranks
-    → HasNoStray (system_of (plan_of w.shape) w.inputs slots) (histories_in w)
-no-stray w slots s spare ranks r q lane m low low' i =
-    let at_most = s.at_most r (omega (arith, low, ranks)) in none-stray (histories_in w r) q lane m (omega (arith, at_most, spare)) i
+pub no-stray : (w : WorldState) (slots : ℕ → Slots) → IsStanding w → w.spare ≡ 0
+    → HasNoStray (system_of w.schedule.plan w.inputs slots) (histories_in w)
+no-stray w slots s spare r q lane m low low' i =
+    let at_most = s.at_most r low in none-stray (histories_in w r) q lane m (omega (arith, at_most, spare)) i
 
 -- a cut at rest is one in other words
 pub rest-same : (s : System) (v w : Histories) → ((r : ℕ) → r < s.count → v r ≡ w r) → IsAtRest s v → IsAtRest s w
@@ -140,9 +138,9 @@ rest-same s v w same rest = record {
 }
 
 -- the job of the world is the fabric's
-pub job-of : (f : FabricState) (hands : List (HandState TurnRank)) (w : WorldState) → IsWorldOf f hands w →
-    f.job ≡ record { shape = w.shape; inputs = w.inputs }
-job-of f hands w is = λ k. record { shape = sym is.shape k; inputs = sym is.inputs k }
+pub job-of : (f : FabricState) (hands : List (HandState TurnRank)) (w : WorldState) → IsWorldOf f hands w
+    → f.job ≡ record { schedule = w.schedule; inputs = w.inputs }
+job-of f hands w is = λ k. record { schedule = sym is.schedule k; inputs = sym is.inputs k }
 
 -- slots that agree with a world's handles
 pub some-slots : (w : WorldState) → IsStanding w → AreSlots w (λ r. slots_of (node_at w.nodes r).kept)

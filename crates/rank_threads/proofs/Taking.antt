@@ -14,7 +14,7 @@ use Rattle.rank_slots.proofs.Pairs.{exists_at}
 
 pub has-taken : (f : FabricState) → IsFabric f.job f.turns.start f.wires → (old : HandState TurnRank) (r : ℕ) (t : Turn TurnRank)
     (new : HandState TurnRank)
-    → r < f.job.shape.ranks → IsFree f.turns old → t.slot ≡ r → IsNode t.value.node.value → IsHandOf f.turns new
+    → r < f.job.schedule.plan.ranks → IsFree f.turns old → t.slot ≡ r → IsNode t.value.node.value → IsHandOf f.turns new
     → Took chronicle plate old.knows r t.value new.knows → HasTaken f old r t new
 has-taken f fabric old r t new low free slot node hand took =
     let y = exists_at f.turns.start r (let n = fabric.count in omega (arith, n, low)) in

@@ -7,7 +7,6 @@ use Rattle.pair_wires.specs.Lanes.{Plain}
 use Rattle.cuts.specs.histories.History.{got}
 use Rattle.cuts.specs.view.Slots.{Slots}
 use Rattle.rank_node.specs.Handles.{Agrees}
-use Rattle.shape_plans.specs.Drawing.{plan_of}
 use Rattle.turn_table.specs.Hands.{Left, parts_of}
 use Rattle.turn_table.specs.Rules.{Follows}
 use Rattle.turn_table.specs.States.{HandState}
@@ -22,7 +21,7 @@ use Rattle.rank_slots.specs.Slots.{HasSent}
 -- the lane holds what was sent on it and not received, in the slots of its ranks
 abbrev pub IsHeldOn : Bounds → List TurnRank → Plain → Type 0
 IsHeldOn b slots l = (x y : TurnRank) → get_elem? slots b.source ≡ some x → get_elem? slots b.target ≡ some y →
-    HasSent (plan_of x.job.shape) x.job.inputs x.node.value b.target b.lane (got (history y) b.source b.lane ++ l.messages)
+    HasSent x.job.schedule.plan x.job.inputs x.node.value b.target b.lane (got (history y) b.source b.lane ++ l.messages)
 
 -- and no more than four messages; it has room for four, or for all that may ever be sent on it where these are fewer
 pub record IsLifted (b : Bounds) (slots : List TurnRank) (l : Plain) : Type 0 where
@@ -42,12 +41,12 @@ pub record IsLeft (start : List TurnRank) (hands : List (HandState TurnRank)) (r
 
 -- a world of the fabric's job, under a window of four messages on a lane and without strays, with what is left of each rank
 pub record IsWorldOf (f : FabricState) (hands : List (HandState TurnRank)) (w : WorldState) : Type 0 where
-  pub shape : w.shape ≡ f.job.shape
+  pub schedule : w.schedule ≡ f.job.schedule
   pub inputs : w.inputs ≡ f.job.inputs
   pub window : w.window ≡ 4
   pub strays : w.strays ≡ 0
   pub spare : w.spare ≡ 0
-  pub ranks : (r : ℕ) → r < f.job.shape.ranks → IsLeft f.turns.start hands r w
+  pub ranks : (r : ℕ) → r < f.job.schedule.plan.ranks → IsLeft f.turns.start hands r w
 
 -- such a world, where so many hands, that are together all of the fabric's, swept all ranks
 pub record IsWorked (f : FabricState) (workers : ℕ) (w : WorldState) : Type 0 where

@@ -3,7 +3,6 @@ use Rattle.std.specs.Prelude.{ℕ, ◌≡◌, ◌<◌, ◌≤◌, List, [], leng
 use mathlib.Core.Option.{some}
 use lib.ListN.{get_elem?}
 use Rattle.pair_wires.specs.Wires.{WireState}
-use Rattle.shape_plans.specs.Drawing.{plan_of}
 use Rattle.schedule_compiler.specs.Jobs.{JobOf}
 use Rattle.turn_table.specs.declared.table.Turn.{Turn}
 use Rattle.turn_table.specs.Hands.{IsHandOf, Took}
@@ -36,8 +35,8 @@ pub record IsNamed (job : JobOf) (wires : List WireState) (r : ℕ) (p : Plate) 
 -- a slot for each rank, and a wire for each lane, with its ends in the slots
 pub record IsFabric (job : JobOf) (start : List TurnRank) (wires : List WireState) : Type 0 where
   pub sound : IsSound job
-  pub count : length start ≡ job.shape.ranks
-  pub lanes : AreLanes (plan_of job.shape) (bounds_of wires)
+  pub count : length start ≡ job.schedule.plan.ranks
+  pub lanes : AreLanes job.schedule.plan (bounds_of wires)
   pub named : (r : ℕ) (x : TurnRank) → get_elem? start r ≡ some x → IsNamed job wires r (plate x)
 
 -- beside it: how many ranks there are, a frame for the world that it ends as, and room for its nodes
@@ -45,7 +44,7 @@ pub record FabricKeeps (job : JobOf) (start : List TurnRank) (wires : List WireS
     (room : List NodeState)
     (capacity : ℕ) : Type 0 where
   pub fabric : IsFabric job start wires
-  pub ranks_are : ranks ≡ job.shape.ranks
+  pub ranks_are : ranks ≡ job.schedule.plan.ranks
   pub rooms : Each HasWireRoom wires
   pub frame_is : IsFrameOf job frame
   pub empty : room ≡ []
@@ -55,7 +54,7 @@ pub record FabricKeeps (job : JobOf) (start : List TurnRank) (wires : List WireS
 pub record HasTaken (f : FabricState) (old : HandState TurnRank) (r : ℕ) (t : Turn TurnRank) (new : HandState TurnRank) : Type 0 where
   pub slot : t.slot ≡ r
   pub sound : IsSound f.job
-  pub lanes : AreLanes (plan_of f.job.shape) (bounds_of f.wires)
+  pub lanes : AreLanes f.job.schedule.plan (bounds_of f.wires)
   pub named : IsNamed f.job f.wires r (plate t.value)
   pub wired : IsWired f.wires (plate t.value)
   pub kept : IsNode t.value.node.value
@@ -64,4 +63,4 @@ pub record HasTaken (f : FabricState) (old : HandState TurnRank) (r : ℕ) (t : 
 
 -- the hand had turns at all ranks, and its last one at each found that rank idle
 unfoldable pub HasSwept : FabricState → HandState TurnRank → Type 0
-HasSwept f h = (r : ℕ) → r < f.job.shape.ranks → FoundIdle f.job h.knows r
+HasSwept f h = (r : ℕ) → r < f.job.schedule.plan.ranks → FoundIdle f.job h.knows r

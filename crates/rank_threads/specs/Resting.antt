@@ -9,7 +9,6 @@ use Rattle.rest_probe.specs.declared.notes.ProbeNote.{ProbeNote}
 use Rattle.rest_probe.specs.Answered.{Answered}
 use Rattle.rest_probe.specs.Waves.{IsFor}
 use Rattle.schedule_compiler.specs.Jobs.{JobOf}
-use Rattle.shape_plans.specs.Drawing.{plan_of}
 use Rattle.turn_table.specs.declared.views.HandView.{HandView}
 use Rattle.turn_table.specs.Hands.{IsFree}
 use Rattle.turn_table.specs.States.{HandState}
@@ -50,6 +49,6 @@ AreFrontsOf job hands fronts w = (r : ℕ) (x : RankNote) → get_elem? w r ≡ 
 pub record Led (f : FabricState) (old new : HandState TurnRank) (w : List RankNote) : Type 0 where
   pub hand : IsFree f.turns new
   pub parts : new.knows.parts ≡ old.knows.parts
-  pub lanes : IsFor (plan_of f.job.shape) w
+  pub lanes : IsFor f.job.schedule.plan w
   pub answer : Answered w Rest
   pub noted : (fronts : Histories) × AreFronts f.job new.knows fronts w

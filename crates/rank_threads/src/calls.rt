@@ -5,7 +5,6 @@ ghost use Rattle.turn_table.specs.declared.views.HandView.{HandView};
 ghost use Rattle.turn_table.specs.Hands.{IsFree, IsHandOf, Took};
 ghost use Rattle.turn_table.specs.Views.{after_busy};
 ghost use Rattle.plan_calls.specs.Lanes.{is_used_lane};
-ghost use Rattle.shape_plans.specs.Drawing.{plan_of};
 ghost use Rattle.rank_slots.specs.declared.slot.TurnRank.{TurnRank};
 ghost use Rattle.rank_threads.specs.Fabrics.{HasTaken};
 ghost use Rattle.rank_slots.specs.Chronicles.{chronicle};
@@ -24,7 +23,7 @@ impl<G: Gate + Drop> Fabric<G> {
     /// Takes the turn of a rank.
     pub(crate) fn take<R: Wait>(&self, rt: &R, hand: &mut Hand, rank: Rank) -> Turn<TurnRank>
         requires hand { IsFree self.now.turns hand.old }
-        requires rank { rank < self.now.job.shape.ranks }
+        requires rank { rank < self.now.job.schedule.plan.ranks }
         ensures { HasTaken self.now hand.old rank result hand.new }
     {
         let _ = self.ranks;
@@ -37,7 +36,7 @@ impl<G: Gate + Drop> Fabric<G> {
     /// Takes the turn of a rank, if no other hand has it. It never waits.
     pub(crate) fn try_take(&self, hand: &mut Hand, rank: Rank) -> Option<Turn<TurnRank>>
         requires hand { IsFree self.now.turns hand.old }
-        requires rank { rank < self.now.job.shape.ranks }
+        requires rank { rank < self.now.job.schedule.plan.ranks }
         ensures some { IfSome result (λ t. HasTaken self.now hand.old rank t hand.new) }
         ensures none { IfNone result (IsFree self.now.turns hand.new × (hand.new.knows.parts ≡ hand.old.knows.parts)) }
         ensures busy { IfNone result (hand.new.knows ≡ after_busy hand.old.knows rank) }
@@ -74,7 +73,7 @@ impl<G: Gate + Drop> Fabric<G> {
     /// requests whose answer would have to wait.
     pub fn step<R: Wait>(&self, rt: &R, hand: &mut Hand, rank: Rank) -> Option<LocalStep>
         requires hand { IsFree self.now.turns hand.old }
-        requires rank { rank < self.now.job.shape.ranks }
+        requires rank { rank < self.now.job.schedule.plan.ranks }
         ensures hand { IsFree self.now.turns hand.new }
         ensures some { IfSome result (λ step. (a : Mark) × (b : Mark) × Turned hand.old.knows hand.new.knows rank a b × Made step a b) }
         ensures none { IfNone result ((a : Mark) × (b : Mark) × Turned hand.old.knows hand.new.knows rank a b ×
@@ -92,7 +91,7 @@ impl<G: Gate + Drop> Fabric<G> {
     /// `None` where another hand has the turn, or the hints lead to no step: then the hand made none at any rank.
     pub fn follow<R: Wait>(&self, rt: &R, hand: &mut Hand, rank: Rank) -> Option<LocalStep>
         requires hand { IsFree self.now.turns hand.old }
-        requires rank { rank < self.now.job.shape.ranks }
+        requires rank { rank < self.now.job.schedule.plan.ranks }
         ensures hand { IsFree self.now.turns hand.new }
         ensures parts { hand.new.knows.parts ≡ hand.old.knows.parts }
         ensures followed { Followed result hand.old.knows hand.new.knows rank }
@@ -109,7 +108,7 @@ impl<G: Gate + Drop> Fabric<G> {
     /// Starts a rank, if it hasn't started.
     pub fn start<R: Wait>(&self, rt: &R, hand: &mut Hand, rank: Rank) -> StartAnswer
         requires hand { IsFree self.now.turns hand.old }
-        requires rank { rank < self.now.job.shape.ranks }
+        requires rank { rank < self.now.job.schedule.plan.ranks }
         ensures hand { IsFree self.now.turns hand.new }
         ensures begun { (a : Mark) × (b : Mark) × Turned hand.old.knows hand.new.knows rank a b × Begun result a b }
     {
@@ -124,7 +123,7 @@ impl<G: Gate + Drop> Fabric<G> {
     /// this turn sends a message whose lane was found full.
     pub fn fire<R: Wait>(&self, rt: &R, hand: &mut Hand, rank: Rank) -> Option<u32>
         requires hand { IsFree self.now.turns hand.old }
-        requires rank { rank < self.now.job.shape.ranks }
+        requires rank { rank < self.now.job.schedule.plan.ranks }
         ensures hand { IsFree self.now.turns hand.new }
         ensures fired { (a : Mark) × (b : Mark) × Turned hand.old.knows hand.new.knows rank a b × IsOfHistory self.now.job rank a
             × Fired result a b }
@@ -147,8 +146,8 @@ impl<G: Gate + Drop> Fabric<G> {
         lane: Lane,
     ) -> bool
         requires hand { IsFree self.now.turns hand.old }
-        requires target { target < self.now.job.shape.ranks }
-        requires lane { is_used_lane (plan_of self.now.job.shape) source target lane ≡ true }
+        requires target { target < self.now.job.schedule.plan.ranks }
+        requires lane { is_used_lane self.now.job.schedule.plan source target lane ≡ true }
         ensures hand { IsFree self.now.turns hand.new }
         ensures delivered { (a : Mark) × (b : Mark) × Turned hand.old.knows hand.new.knows target a b × IsOfHistory self.now.job target a
             × Delivered source lane result a b }

@@ -9,8 +9,7 @@ ghost use Rattle.pair_wires.specs.Wires.{WireState};
 ghost use Rattle.plan_calls.specs.Lanes.{is_used_lane};
 ghost use Rattle.cuts.specs.view.Slots.{Slots};
 ghost use Rattle.cuts.specs.windows.Places.{lane_place};
-ghost use Rattle.shape_plans.specs.Drawing.{plan_of};
-ghost use Rattle.job_laws.specs.Barriers.{AreBarriersKept};
+ghost use Rattle.cuts.specs.cells.Cells.{AreRoundsKept};
 ghost use Rattle.rank_node.specs.Node.{IsNode};
 ghost use Rattle.turn_table.specs.Hands.{IsFree, parts_of};
 ghost use Rattle.worlds.specs.FrameLends.{with_lane};
@@ -36,17 +35,17 @@ use worlds::{Frame, World};
 fn lift_wire<R: Wait>(rt: &R, wire: &Wire, slots: &mut [TurnRank], frame: &mut Frame)
     requires laid { (before : List WireState) × AllLaid (before ++ wire.now ∷ []) slots.old }
     requires between { IsBetween (length slots.old) wire.now }
-    requires ranks { length slots.old ≡ frame.old.shape.ranks }
-    requires lane { IsLane (plan_of frame.old.shape) wire.now.bounds }
+    requires ranks { length slots.old ≡ frame.old.schedule.plan.ranks }
+    requires lane { IsLane frame.old.schedule.plan wire.now.bounds }
     requires room { HasWireRoom wire.now }
     requires empty { lane_in frame.old wire.now.bounds.source wire.now.bounds.target wire.now.bounds.lane
-        ≡ frame_lane (plan_of frame.old.shape) wire.now.bounds.source wire.now.bounds.target wire.now.bounds.lane }
+        ≡ frame_lane frame.old.schedule.plan wire.now.bounds.source wire.now.bounds.target wire.now.bounds.lane }
     ensures count { length slots.new ≡ length slots.old }
     ensures nodes { Slotwise SameNode slots.old slots.new }
     ensures laid { (before : List WireState) → AllLaid (before ++ wire.now ∷ []) slots.old → AllLaid before slots.new }
     ensures lifted { (l : Plain)
         × (frame.new ≡ with_lane frame.old
-        (lane_place frame.old.shape.ranks wire.now.bounds.source wire.now.bounds.target wire.now.bounds.lane) l)
+        (lane_place frame.old.schedule.plan.ranks wire.now.bounds.source wire.now.bounds.target wire.now.bounds.lane) l)
         × IsLifted wire.now.bounds slots.old l }
 {
     let bounds = wire.bounds();
@@ -59,21 +58,19 @@ fn lift_wire<R: Wait>(rt: &R, wire: &Wire, slots: &mut [TurnRank], frame: &mut F
 // All wires give up their ends, the last one first.
 fn lift_wires<R: Wait>(rt: &R, wires: &[Wire], slots: &mut [TurnRank], frame: &mut Frame)
     requires laid { AllLaid wires.now slots.old }
-    requires ranks { length slots.old ≡ frame.old.shape.ranks }
-    requires count { (plan_of frame.old.shape).ranks ≡ frame.old.shape.ranks }
-    requires lanes { AreLanes (plan_of frame.old.shape) (bounds_of wires.now) }
+    requires ranks { length slots.old ≡ frame.old.schedule.plan.ranks }
+    requires lanes { AreLanes frame.old.schedule.plan (bounds_of wires.now) }
     requires rooms { Each HasWireRoom wires.now }
-    requires empty { (s d : ℕ) (lane : Lane) → s < frame.old.shape.ranks → d < frame.old.shape.ranks →
-        lane_in frame.old s d lane ≡ frame_lane (plan_of frame.old.shape) s d lane }
+    requires empty { (s d : ℕ) (lane : Lane) → s < frame.old.schedule.plan.ranks → d < frame.old.schedule.plan.ranks →
+        lane_in frame.old s d lane ≡ frame_lane frame.old.schedule.plan s d lane }
     ensures count { length slots.new ≡ length slots.old }
     ensures nodes { Slotwise SameNode slots.old slots.new }
-    ensures shape { frame.new.shape ≡ frame.old.shape }
+    ensures schedule { frame.new.schedule ≡ frame.old.schedule }
     ensures inputs { frame.new.inputs ≡ frame.old.inputs }
     ensures lifted { (k : ℕ) (w : WireState) → get_elem? wires.now k ≡ some w →
         IsLifted w.bounds slots.old (lane_in frame.new w.bounds.source w.bounds.target w.bounds.lane) }
-    ensures unused { (s d : ℕ) (lane : Lane) → s < frame.old.shape.ranks → d < frame.old.shape.ranks →
-        is_used_lane (plan_of frame.old.shape) s d lane ≡ false → lane_in frame.new s d lane ≡ frame_lane (plan_of frame.old.shape) s d
-        lane }
+    ensures unused { (s d : ℕ) (lane : Lane) → s < frame.old.schedule.plan.ranks → d < frame.old.schedule.plan.ranks →
+        is_used_lane frame.old.schedule.plan s d lane ≡ false → lane_in frame.new s d lane ≡ frame_lane frame.old.schedule.plan s d lane }
 {
     let mut wires = wires;
     while let Some((wire, before)) = wires.split_last() {
@@ -114,7 +111,7 @@ impl<G: Gate + Drop> Fabric<G> {
         ensures world { IsWorldOf self hands.items result.0 }
         ensures kept { IsStanding result.0 }
         ensures barriers { (slots : ℕ → Slots) → AreSlots result.0 slots →
-            AreBarriersKept result.0.shape result.0.inputs slots (histories_in result.0) }
+            AreRoundsKept result.0.schedule.plan result.0.inputs slots (histories_in result.0) }
     {
         let Fabric {
             turns,
@@ -145,7 +142,7 @@ impl<G: Gate + Drop> Fabric<G> {
         ensures world { IsWorldOf self hands.items result }
         ensures kept { IsStanding result }
         ensures barriers { (slots : ℕ → Slots) → AreSlots result slots →
-            AreBarriersKept result.shape result.inputs slots (histories_in result) }
+            AreRoundsKept result.schedule.plan result.inputs slots (histories_in result) }
     {
         let (world, _wires) = self.close_keeping(rt, hands);
         world

@@ -88,13 +88,13 @@ impl<G: Gate + Drop> Fabric<G> {
     ) -> Result<(Fabric<G>, Vec<Hand>), NoMemory>
         requires { 0 < hands }
         ensures job { IfOk result (λ r. r.0.job ≡ job.now) }
-        ensures ranks { IfOk result (λ r. length r.0.turns.start ≡ job.now.shape.ranks) }
+        ensures ranks { IfOk result (λ r. length r.0.turns.start ≡ job.now.schedule.plan.ranks) }
         ensures fresh { IfOk result (λ r. AllFresh job.now r.0.turns.start) }
         ensures hands { IfOk result (λ r. (length r.1.items ≡ hands) × All (λ h. IsNew r.0.turns h) r.1.items ×
             (parts_of r.1.items ≡ 2 ^ 32)) }
     {
         sound(job);
-        let ranks = job.schedule().shape().ranks();
+        let ranks = job.schedule().ranks();
         let shared = job.share()?;
         let (slots, wires, frame) = framed_slots(rt, alloc, job, hands)?;
         let room = Vec::with_capacity(alloc, ranks as usize)?;

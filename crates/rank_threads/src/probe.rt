@@ -3,7 +3,6 @@
 ghost use Rattle.std.specs.Prelude.{ℕ, false, ◌≡◌, ◌≢◌, ◌<◌};
 ghost use mathlib.Core.Option.{some};
 ghost use lib.ListN.{get_elem?};
-ghost use Rattle.shape_plans.specs.Drawing.{plan_of};
 ghost use Rattle.rest_probe.specs.declared.notes.RankNote.{RankNote};
 ghost use Rattle.rest_probe.specs.Waves.{IsFor};
 ghost use Rattle.turn_table.specs.Hands.{IsFree};
@@ -24,13 +23,13 @@ impl<G: Gate + Drop> Fabric<G> {
     /// No step is made. It waits for the turn, and takes no memory.
     pub fn probe<R: Wait>(&self, rt: &R, hand: &mut Hand, rank: Rank, wave: &mut Wave)
         requires hand { IsFree self.now.turns hand.old }
-        requires rank { rank < self.now.job.shape.ranks }
-        requires lanes { IsFor (plan_of self.now.job.shape) wave.old }
+        requires rank { rank < self.now.job.schedule.plan.ranks }
+        requires lanes { IsFor self.now.job.schedule.plan wave.old }
         requires empty { (x : RankNote) → get_elem? wave.old rank ≡ some x → x.there ≡ false }
         ensures hand { IsFree self.now.turns hand.new }
         ensures noted { (a : Mark) × Turned hand.old.knows hand.new.knows rank a a × HasNote self.now.job rank a.0 a.1.kept wave.new }
         ensures others { (r : ℕ) → r ≢ rank → get_elem? wave.new r ≡ get_elem? wave.old r }
-        ensures lanes { IsFor (plan_of self.now.job.shape) wave.new }
+        ensures lanes { IsFor self.now.job.schedule.plan wave.new }
     {
         let Turn { slot, value } = self.take(rt, hand, rank);
         value.note_in(rank, wave);

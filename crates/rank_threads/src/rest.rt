@@ -4,8 +4,7 @@ ghost use Rattle.std.specs.Prelude.{ℕ, ◌≡◌, ◌<◌, ◌^◌, All};
 ghost use Rattle.cuts.specs.view.Slots.{Slots};
 ghost use Rattle.cuts.specs.histories.Cut.{IsAtRest};
 ghost use Rattle.cuts.specs.histories.System.{Histories};
-ghost use Rattle.shape_plans.specs.Drawing.{plan_of};
-ghost use Rattle.job_laws.specs.Barriers.{AreBarriersKept};
+ghost use Rattle.cuts.specs.cells.Cells.{AreRoundsKept};
 ghost use Rattle.rest_probe.specs.declared.answers.WaveAnswer.TheVariants.{Rest};
 ghost use Rattle.rest_probe.specs.Answered.{Answered};
 ghost use Rattle.rest_probe.specs.Waves.{IsFor};
@@ -30,15 +29,15 @@ impl<G: Gate + Drop> Fabric<G> {
     pub fn close_at_rest<R: Wait>(self, rt: &R, hands: Vec<Hand>, wave: Wave) -> (World, SpentWires)
         requires hands { All (λ h. IsFree self.turns h) hands.items }
         requires all { parts_of hands.items ≡ 2 ^ 32 }
-        requires lanes { IsFor (plan_of self.job.shape) wave }
+        requires lanes { IsFor self.job.schedule.plan wave }
         requires answer { Answered wave Rest }
         requires noted { (fronts : Histories) × AreFrontsOf self.job hands.items fronts wave }
         ensures world { IsWorldOf self hands.items result.0 }
         ensures kept { IsStanding result.0 }
         ensures barriers { (slots : ℕ → Slots) → AreSlots result.0 slots →
-            AreBarriersKept result.0.shape result.0.inputs slots (histories_in result.0) }
+            AreRoundsKept result.0.schedule.plan result.0.inputs slots (histories_in result.0) }
         ensures rest { (slots : ℕ → Slots) → AreSlots result.0 slots → IsAtRest (ranks_in result.0 slots) (histories_in result.0) }
-        ensures whole { (fronts : Histories) → AreFrontsOf self.job hands.items fronts wave → (r : ℕ) → r < self.job.shape.ranks →
+        ensures whole { (fronts : Histories) → AreFrontsOf self.job hands.items fronts wave → (r : ℕ) → r < self.job.schedule.plan.ranks →
             histories_in result.0 r ≡ fronts r }
     {
         // What every job is, and the law of one wave, are told here.

@@ -4,7 +4,6 @@ ghost use Rattle.std.specs.Prelude.{◌≡◌, ◌<◌, ◌≤◌, ◌-◌, ◌^
 ghost use mathlib.Core.Option.{some};
 ghost use lib.ListN.{get_elem?};
 ghost use Rattle.cuts.specs.histories.System.{Histories};
-ghost use Rattle.shape_plans.specs.Drawing.{plan_of};
 ghost use Rattle.rest_probe.specs.declared.answers.WaveAnswer.TheVariants.{Rest};
 ghost use Rattle.rest_probe.specs.Answered.{Answered};
 ghost use Rattle.rest_probe.specs.Waves.{AllThere, IsFor};
@@ -31,10 +30,10 @@ impl<G: Gate + Drop> Fabric<G> {
     /// Makes one wave of probes, from the lowest rank on. The notes that the wave had are taken out before.
     pub fn probe_all<R: Wait>(&self, rt: &R, hand: &mut Hand, wave: &mut Wave)
         requires hand { IsFree self.now.turns hand.old }
-        requires lanes { IsFor (plan_of self.now.job.shape) wave.old }
+        requires lanes { IsFor self.now.job.schedule.plan wave.old }
         ensures hand { IsFree self.now.turns hand.new }
         ensures parts { hand.new.knows.parts ≡ hand.old.knows.parts }
-        ensures lanes { IsFor (plan_of self.now.job.shape) wave.new }
+        ensures lanes { IsFor self.now.job.schedule.plan wave.new }
         ensures all { AllThere wave.new }
         ensures noted { (fronts : Histories) × AreFronts self.now.job hand.new.knows fronts wave.new }
     {
@@ -48,8 +47,8 @@ impl<G: Gate + Drop> Fabric<G> {
     // told to end.
     fn lead<R: Wait>(&self, rt: &R, hand: &mut Hand, wave: &mut Wave, end: Rank, done: &AtomicBool)
         requires hand { IsFree self.now.turns hand.old }
-        requires lanes { IsFor (plan_of self.now.job.shape) wave.old }
-        requires end { end ≤ self.now.job.shape.ranks }
+        requires lanes { IsFor self.now.job.schedule.plan wave.old }
+        requires end { end ≤ self.now.job.schedule.plan.ranks }
         ensures { Led self.now hand.old hand.new wave.new }
     {
         for _ in rt.forever() {
@@ -66,8 +65,8 @@ impl<G: Gate + Drop> Fabric<G> {
     // Follows the hints and then sweeps all ranks, and answers whether the sweep made a step.
     fn work_once<R: Wait>(&self, rt: &R, hand: &mut Hand, first: Rank, end: Rank) -> bool
         requires hand { IsFree self.now.turns hand.old }
-        requires first { first ≤ self.now.job.shape.ranks }
-        requires end { end ≤ self.now.job.shape.ranks }
+        requires first { first ≤ self.now.job.schedule.plan.ranks }
+        requires end { end ≤ self.now.job.schedule.plan.ranks }
         ensures hand { IsFree self.now.turns hand.new }
         ensures parts { hand.new.knows.parts ≡ hand.old.knows.parts }
     {
@@ -79,8 +78,8 @@ impl<G: Gate + Drop> Fabric<G> {
     // first worker makes all steps.
     fn assist<R: Wait>(&self, rt: &R, hand: &mut Hand, first: Rank, end: Rank, done: &AtomicBool)
         requires hand { IsFree self.now.turns hand.old }
-        requires first { first ≤ self.now.job.shape.ranks }
-        requires end { end ≤ self.now.job.shape.ranks }
+        requires first { first ≤ self.now.job.schedule.plan.ranks }
+        requires end { end ≤ self.now.job.schedule.plan.ranks }
         ensures hand { IsFree self.now.turns hand.new }
         ensures parts { hand.new.knows.parts ≡ hand.old.knows.parts }
     {
@@ -128,7 +127,8 @@ fn assist_all<G: Gate + Drop, R: Threads + Wait + Sync>(
         hands,
         threads,
         &|i: usize, hand: &mut Hand|
-            requires { IsFree fabric.now.turns hand.now × (ranks ≡ fabric.now.job.shape.ranks) × (i < threads) × (threads < 2 ^ 32 - 1) }
+            requires { IsFree fabric.now.turns hand.now × (ranks ≡ fabric.now.job.schedule.plan.ranks) × (i < threads) ×
+                (threads < 2 ^ 32 - 1) }
             ensures { IsFree fabric.entry.now.turns hand.exit.now × (hand.exit.now.knows.parts ≡ hand.entry.now.knows.parts) }
         {
             let worker = i as u64 + 1;
@@ -149,12 +149,12 @@ fn run_all<G: Gate + Drop, R: Threads + Wait + Sync>(
     others: &mut [Hand],
 )
     requires leader { IsFree fabric.now.turns leader.old }
-    requires lanes { IsFor (plan_of fabric.now.job.shape) wave.old }
+    requires lanes { IsFor fabric.now.job.schedule.plan wave.old }
     requires others { All (λ h. IsFree fabric.now.turns h) others.old }
     requires at_most { length others.old < 2 ^ 32 - 1 }
     ensures leader { IsFree fabric.now.turns leader.new }
     ensures part { leader.new.knows.parts ≡ leader.old.knows.parts }
-    ensures lanes { IsFor (plan_of fabric.now.job.shape) wave.new }
+    ensures lanes { IsFor fabric.now.job.schedule.plan wave.new }
     ensures answer { Answered wave.new Rest }
     ensures noted { (fronts : Histories) × AreFronts fabric.now.job leader.new.knows fronts wave.new }
     ensures others { All (λ h. IsFree fabric.now.turns h) others.new }
@@ -163,7 +163,8 @@ fn run_all<G: Gate + Drop, R: Threads + Wait + Sync>(
     let done = &AtomicBool::new(false);
     let end = block_start(1, others.len() as u64 + 1, fabric.ranks);
     let mut lead = ||
-        requires { IsFree fabric.now.turns leader.now × IsFor (plan_of fabric.now.job.shape) wave.now × (end ≤ fabric.now.job.shape.ranks) }
+        requires { IsFree fabric.now.turns leader.now × IsFor fabric.now.job.schedule.plan wave.now ×
+            (end ≤ fabric.now.job.schedule.plan.ranks) }
         ensures { Led fabric.entry.now leader.entry.now leader.exit.now wave.exit.now }
     { fabric.lead(rt, leader, wave, end, done) };
     let mut assist = ||
@@ -189,10 +190,10 @@ pub fn run_steady<G: Gate + Drop, R: Threads + Wait + Sync>(
     requires hands { All (λ h. IsFree fabric.now.turns h) hands.old }
     requires nonempty { 0 < length hands.old }
     requires at_most { length hands.old < 2 ^ 32 }
-    requires lanes { IsFor (plan_of fabric.now.job.shape) wave.old }
+    requires lanes { IsFor fabric.now.job.schedule.plan wave.old }
     ensures hands { All (λ h. IsFree fabric.now.turns h) hands.new }
     ensures parts { parts_of hands.new ≡ parts_of hands.old }
-    ensures lanes { IsFor (plan_of fabric.now.job.shape) wave.new }
+    ensures lanes { IsFor fabric.now.job.schedule.plan wave.new }
     ensures answer { Answered wave.new Rest }
     ensures noted { (h : HandState TurnRank) → get_elem? hands.new 0 ≡ some h → (fronts : Histories) ×
         AreFronts fabric.now.job h.knows fronts wave.new }

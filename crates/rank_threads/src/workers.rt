@@ -2,7 +2,7 @@
 
 ghost use Rattle.std.specs.Prelude.{◌≡◌, ◌≢◌, ◌<◌, ◌≤◌, ◌⊎◌, ◌^◌, ◌*◌, ◌/◌, ℕ, length, All, IsFalse};
 ghost use Rattle.cuts.specs.view.Slots.{Slots};
-ghost use Rattle.job_laws.specs.Barriers.{AreBarriersKept};
+ghost use Rattle.cuts.specs.cells.Cells.{AreRoundsKept};
 ghost use Rattle.turn_table.specs.Hands.{IsFree, parts_of};
 ghost use Rattle.worlds.specs.Standing.{IsStanding};
 ghost use Rattle.worlds.specs.World.{AreSlots, histories_in};
@@ -23,7 +23,7 @@ impl<G: Gate + Drop> Fabric<G> {
     // Makes steps of a rank until there is none, and answers whether there was one.
     fn work<R: Wait>(&self, rt: &R, hand: &mut Hand, rank: Rank) -> bool
         requires hand { IsFree self.now.turns hand.old }
-        requires rank { rank < self.now.job.shape.ranks }
+        requires rank { rank < self.now.job.schedule.plan.ranks }
         ensures hand { IsFree self.now.turns hand.new }
         ensures parts { hand.new.knows.parts ≡ hand.old.knows.parts }
         ensures idle { FoundIdle self.now.job hand.new.knows rank }
@@ -43,7 +43,7 @@ impl<G: Gate + Drop> Fabric<G> {
     // RankOps once at each rank from `first` to before `end`, and answers whether there was a step.
     fn sweep_part<R: Wait>(&self, rt: &R, hand: &mut Hand, first: Rank, end: Rank) -> bool
         requires hand { IsFree self.now.turns hand.old }
-        requires end { end ≤ self.now.job.shape.ranks }
+        requires end { end ≤ self.now.job.schedule.plan.ranks }
         ensures hand { IsFree self.now.turns hand.new }
         ensures parts { hand.new.knows.parts ≡ hand.old.knows.parts }
         ensures idle { (r : ℕ) → first ≤ r → r < end → FoundIdle self.now.job hand.new.knows r }
@@ -63,7 +63,7 @@ impl<G: Gate + Drop> Fabric<G> {
     // RankOps once at each rank, beginning at `first`, and answers whether there was a step.
     pub(crate) fn sweep<R: Wait>(&self, rt: &R, hand: &mut Hand, first: Rank) -> bool
         requires hand { IsFree self.now.turns hand.old }
-        requires first { first ≤ self.now.job.shape.ranks }
+        requires first { first ≤ self.now.job.schedule.plan.ranks }
         ensures hand { IsFree self.now.turns hand.new }
         ensures swept { HasSwept self.now hand.new }
         ensures parts { hand.new.knows.parts ≡ hand.old.knows.parts }
@@ -78,7 +78,7 @@ impl<G: Gate + Drop> Fabric<G> {
     // rank that there is no word for is left, and one that another worker has too: that one goes on with it.
     fn visit<R: Wait>(&self, rt: &R, hand: &mut Hand, rank: Rank) -> bool
         requires hand { IsFree self.now.turns hand.old }
-        requires rank { rank < self.now.job.shape.ranks }
+        requires rank { rank < self.now.job.schedule.plan.ranks }
         ensures hand { IsFree self.now.turns hand.new }
         ensures parts { hand.new.knows.parts ≡ hand.old.knows.parts }
     {
@@ -98,7 +98,7 @@ impl<G: Gate + Drop> Fabric<G> {
     // Visits each rank from `first` to before `end`, and answers whether there was a step.
     fn round<R: Wait>(&self, rt: &R, hand: &mut Hand, first: Rank, end: Rank) -> bool
         requires hand { IsFree self.now.turns hand.old }
-        requires end { end ≤ self.now.job.shape.ranks }
+        requires end { end ≤ self.now.job.schedule.plan.ranks }
         ensures hand { IsFree self.now.turns hand.new }
         ensures parts { hand.new.knows.parts ≡ hand.old.knows.parts }
     {
@@ -115,7 +115,7 @@ impl<G: Gate + Drop> Fabric<G> {
     // one core to another.
     fn settle<R: Wait>(&self, rt: &R, hand: &mut Hand, first: Rank, end: Rank)
         requires hand { IsFree self.now.turns hand.old }
-        requires end { end ≤ self.now.job.shape.ranks }
+        requires end { end ≤ self.now.job.schedule.plan.ranks }
         ensures hand { IsFree self.now.turns hand.new }
         ensures parts { hand.new.knows.parts ≡ hand.old.knows.parts }
     {
@@ -131,7 +131,7 @@ impl<G: Gate + Drop> Fabric<G> {
     /// from `first` to before `end`, before all. That no step is left isn't said: hints are guesses. It may wait for ever.
     pub fn settle_all<R: Wait>(&self, rt: &R, hand: &mut Hand, first: Rank, end: Rank)
         requires hand { IsFree self.now.turns hand.old }
-        requires end { end ≤ self.now.job.shape.ranks }
+        requires end { end ≤ self.now.job.schedule.plan.ranks }
         ensures hand { IsFree self.now.turns hand.new }
         ensures parts { hand.new.knows.parts ≡ hand.old.knows.parts }
     {
@@ -161,8 +161,8 @@ impl<G: Gate + Drop> Fabric<G> {
     // Follows the hints, and then sweeps all ranks, until a sweep makes no step. The sweep heeds no hint.
     pub(crate) fn run<R: Wait>(&self, rt: &R, hand: &mut Hand, first: Rank, end: Rank)
         requires hand { IsFree self.now.turns hand.old }
-        requires first { first ≤ self.now.job.shape.ranks }
-        requires end { end ≤ self.now.job.shape.ranks }
+        requires first { first ≤ self.now.job.schedule.plan.ranks }
+        requires end { end ≤ self.now.job.schedule.plan.ranks }
         ensures hand { IsFree self.now.turns hand.new }
         ensures swept { HasSwept self.now hand.new }
         ensures parts { hand.new.knows.parts ≡ hand.old.knows.parts }
@@ -208,7 +208,8 @@ pub fn run_workers<G: Gate + Drop, R: Threads + Wait + Sync>(
         hands,
         threads,
         &|i: usize, hand: &mut Hand|
-            requires { IsFree fabric.now.turns hand.now × (ranks ≡ fabric.now.job.shape.ranks) × (i < threads) × (threads < 2 ^ 32) }
+            requires { IsFree fabric.now.turns hand.now × (ranks ≡ fabric.now.job.schedule.plan.ranks) × (i < threads) ×
+                (threads < 2 ^ 32) }
             ensures { IsFree fabric.entry.now.turns hand.exit.now × HasSwept fabric.entry.now hand.exit.now ×
                 (hand.exit.now.knows.parts ≡ hand.entry.now.knows.parts) }
         {
@@ -235,7 +236,7 @@ pub fn run_keeping<G: Gate + Drop, R: Threads + Wait + Sync>(
     ensures world { IsWorked fabric (length hands.items) result.0 }
     ensures kept { IsStanding result.0 }
     ensures barriers { (slots : ℕ → Slots) → AreSlots result.0 slots →
-        AreBarriersKept result.0.shape result.0.inputs slots (histories_in result.0) }
+        AreRoundsKept result.0.schedule.plan result.0.inputs slots (histories_in result.0) }
 {
     let mut hands = hands;
     run_workers(rt, &fabric, &mut hands);
@@ -256,7 +257,7 @@ pub fn run_and_close<G: Gate + Drop, R: Threads + Wait + Sync>(
     ensures world { IsWorked fabric (length hands.items) result }
     ensures kept { IsStanding result }
     ensures barriers { (slots : ℕ → Slots) → AreSlots result slots →
-        AreBarriersKept result.shape result.inputs slots (histories_in result) }
+        AreRoundsKept result.schedule.plan result.inputs slots (histories_in result) }
 {
     let (world, _wires) = run_keeping(rt, fabric, hands);
     world

@@ -10,7 +10,6 @@ use Rattle.plan_calls.specs.Lanes.{is_used_lane}
 use Rattle.cuts.specs.view.Calls.{prepare}
 use Rattle.cuts.specs.histories.History.{Local, got, sent}
 use Rattle.cuts.specs.histories.Plans.{start_of}
-use Rattle.shape_plans.specs.Drawing.{plan_of}
 use Rattle.schedule_compiler.specs.Jobs.{JobOf}
 use Rattle.rank_node.specs.Node.{NodeState}
 use Rattle.rank_node.specs.Plans.{IsCompiledFor}
@@ -27,7 +26,7 @@ use Rattle.rank_slots.proofs.Snocs.{each_nil}
 pub fresh-same : (job : JobOf) (old new : List TurnRank) → Slotwise SameNode old new → AllFresh job old → AllFresh job new
 fresh-same job old new s h r x e = let y = s r x e in let f = h r y.0 y.1 in record {
   job_is = y.2.job_is ∙ f.job_is;
-  compiled = subst (λ (n : NodeState). IsCompiledFor (plan_of job.shape) job.inputs r n.task) (sym y.2.node) f.compiled;
+  compiled = subst (λ (n : NodeState). IsCompiledFor job.schedule.plan job.inputs r n.task) (sym y.2.node) f.compiled;
   history_is = ap (λ (n : NodeState). n.diary.locals) y.2.node ∙ f.history_is;
   closed = ap (λ (n : NodeState). n.closed) y.2.node ∙ f.closed;
 }
@@ -43,29 +42,29 @@ none-kept b = record { travel = All-nil (Travels b); at_most = zero-le; short = 
 
 module _ (job : JobOf) (r : ℕ) (x : TurnRank) (fresh : IsFresh job r x) where
   abbrev p : Plan
-  p = plan_of job.shape
+  p = job.schedule.plan
 
   abbrev n : NodeState
   n = x.node.value
 
-  pub fresh_out : (b : Bounds) (o : OutPort) → IsLane p b → b.source ≡ r → p.ranks ≡ job.shape.ranks → o.target ≡ b.target →
-      o.lane ≡ b.lane → o.end.bounds ≡ b → o.end.sent ≡ [] → o.end.waits ≡ false
+  pub fresh_out : (b : Bounds) (o : OutPort) → IsLane p b → b.source ≡ r → o.target ≡ b.target → o.lane ≡ b.lane → o.end.bounds ≡ b
+      → o.end.sent ≡ [] → o.end.waits ≡ false
       → Each (λ (q : OutPort). q.target ≡ b.target → q.lane ≡ b.lane → ⊥) x.outs.items → MayGainOut x o
-  fresh_out b o lane source ranks goes kind bounds none free apart =
+  fresh_out b o lane source goes kind bounds none free apart =
       let rank : n.task.rank ≡ r = fresh.compiled.rank in
       let from : b.source ≡ n.task.rank = source ∙ sym rank in
       let used : is_used_lane p n.task.rank o.target o.lane ≡ true = (λ i. is_used_lane p (sym from i) (goes i) (kind i)) ∙ lane.used in
       let is : o.end.bounds ≡ bounds_on p n.task.rank o.target o.lane = bounds
       ∙ (lane.bounds ∙ (λ i. bounds_on p (from i) (sym goes i) (sym kind i))) in record {
         ok = record {
-          used = subst (λ (j : JobOf). is_used_lane (plan_of j.shape) n.task.rank o.target o.lane ≡ true) (sym fresh.job_is) used;
+          used = subst (λ (j : JobOf). is_used_lane j.schedule.plan n.task.rank o.target o.lane ≡ true) (sym fresh.job_is) used;
           inside = subst (λ m. o.target < m) (sym fresh.compiled.ranks) (subst (λ d. d < p.ranks) (sym goes) lane.target);
-          bounds = subst (λ (j : JobOf). o.end.bounds ≡ bounds_on (plan_of j.shape) n.task.rank o.target o.lane) (sym fresh.job_is) is;
-          sent_is = λ k agrees. none ∙ sym (ap (λ (h : List Local). sent (start_of (plan_of x.job.shape) k n.task.rank)
-              (prepare (plan_of x.job.shape) x.job.inputs k n.task.rank) h o.target o.lane) fresh.history_is);
+          bounds = subst (λ (j : JobOf). o.end.bounds ≡ bounds_on j.schedule.plan n.task.rank o.target o.lane) (sym fresh.job_is) is;
+          sent_is = λ k agrees. none ∙ sym (ap (λ (h : List Local). sent (start_of x.job.schedule.plan k n.task.rank)
+              (prepare x.job.schedule.plan x.job.inputs k n.task.rank) h o.target o.lane) fresh.history_is);
         };
         apart = λ i q at e f. apart i q at (e ∙ goes) (f ∙ kind);
-        gated = λ e. ap (λ l. get_or l o.target false) fresh.closed ∙ (get_or_replicate job.shape.ranks false o.target ∙ sym free);
+        gated = λ e. ap (λ l. get_or l o.target false) fresh.closed ∙ (get_or_replicate job.schedule.plan.ranks false o.target ∙ sym free);
       }
 
   pub fresh_in : (b : Bounds) (o : InPort) → IsLane p b → b.target ≡ r → o.source ≡ b.source → o.lane ≡ b.lane → o.end.bounds ≡ b →
@@ -77,7 +76,7 @@ module _ (job : JobOf) (r : ℕ) (x : TurnRank) (fresh : IsFresh job r x) where
       let is : o.end.bounds ≡ bounds_on p o.source n.task.rank o.lane = bounds
       ∙ (lane.bounds ∙ (λ i. bounds_on p (sym from i) (to i) (sym kind i))) in record {
         ok = record {
-          bounds = subst (λ (j : JobOf). o.end.bounds ≡ bounds_on (plan_of j.shape) o.source n.task.rank o.lane) (sym fresh.job_is) is;
+          bounds = subst (λ (j : JobOf). o.end.bounds ≡ bounds_on j.schedule.plan o.source n.task.rank o.lane) (sym fresh.job_is) is;
           got_is = none ∙ sym (ap (λ (h : List Local). got h o.source o.lane) fresh.history_is);
         };
         apart = λ i q at e f. apart i q at (e ∙ from) (f ∙ kind);

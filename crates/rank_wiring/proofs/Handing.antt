@@ -12,7 +12,6 @@ use Rattle.pair_wires.specs.declared.bounds.Bounds.{Bounds}
 use Rattle.pair_wires.specs.Wires.{IsInOf, WireState}
 use Rattle.plan_core.specs.Plan.{Plan}
 use Rattle.plan_core.specs.Sound.{SoundPlan}
-use Rattle.shape_plans.specs.Drawing.{plan_of}
 use Rattle.schedule_compiler.specs.Jobs.{JobOf}
 use Rattle.rank_node.specs.Node.{NodeState}
 use Rattle.rank_node.specs.Plans.{IsCompiledFor}
@@ -46,7 +45,7 @@ mid_at (y ∷ ys) a zs = mid_at ys a zs
 pub fresh-of : (job : JobOf) (r : ℕ) (y x : TurnRank) → x.job ≡ y.job → x.node.value ≡ y.node.value → IsFresh job r y → IsFresh job r x
 fresh-of job r y x same node f = record {
   job_is = same ∙ f.job_is;
-  compiled = subst (λ (n : NodeState). IsCompiledFor (plan_of job.shape) job.inputs r n.task) (sym node) f.compiled;
+  compiled = subst (λ (n : NodeState). IsCompiledFor job.schedule.plan job.inputs r n.task) (sym node) f.compiled;
   history_is = ap (λ (n : NodeState). n.diary.locals) node ∙ f.history_is;
   closed = ap (λ (n : NodeState). n.closed) node ∙ f.closed;
 }
@@ -139,7 +138,7 @@ module _ (job : JobOf) (sound : IsSound job) (wires : List WireState) (slots : L
     (l : WireEnd)
     (line : IsLine (length wires) l) where
   abbrev plan : Plan
-  plan = plan_of job.shape
+  plan = job.schedule.plan
 
   abbrev b : Bounds
   b = l.wire.bounds
@@ -155,7 +154,7 @@ module _ (job : JobOf) (sound : IsSound job) (wires : List WireState) (slots : L
 
     pub target-in : b.target < length slots
     target-in = let h = (next-lane plan (lanes_before plan plan.ranks) are wires b (bounds_of rest ++ first.0) front).target in
-        let n = sound.ranks in let m = handed.count in omega (arith, h, n, m)
+        let m = handed.count in omega (arith, h, m)
 
     pub may-gain : (x : TurnRank) → get_elem? slots b.target ≡ some x → MayGainIn x l.into
     may-gain x at = fresh_in job b.target x (handed.fresh b.target x at) b l.into
@@ -220,8 +219,8 @@ module _ (p : Plan) (m : ℕ) (before ws : List WireState) (first : bounds_of be
 
 -- ---- rank after rank
 -- before the first wire comes
-pub start-handed : (job : JobOf) (slots : List TurnRank) (loads : List OutWires) → length slots ≡ job.shape.ranks →
-    length loads ≡ job.shape.ranks
+pub start-handed : (job : JobOf) (slots : List TurnRank) (loads : List OutWires) → length slots ≡ job.schedule.plan.ranks
+    → length loads ≡ job.schedule.plan.ranks
     → AllFanned job slots loads → IsHanded job [] slots
 start-handed job slots loads n m fanned = record {
   count = n;
@@ -239,11 +238,11 @@ LaidBelow m wires slots = (r : ℕ) (x : TurnRank) → get_elem? slots r ≡ som
     IsRow wires (from_rank r) (map out_joint x.outs.items)
 
 module _ (job : JobOf) (sound : IsSound job) (first : List TurnRank) (loads : List OutWires) (fanned : AllFanned job first loads)
-    (many : length first ≡ job.shape.ranks) (m : ℕ) (load : OutWires)
+    (many : length first ≡ job.schedule.plan.ranks) (m : ℕ) (load : OutWires)
     (there : get_elem? loads m ≡ some load) (low : m < length first) (wires : List WireState)
-    (lanes : bounds_of wires ≡ lanes_before (plan_of job.shape) m) where
+    (lanes : bounds_of wires ≡ lanes_before job.schedule.plan m) where
   abbrev q : Plan
-  q = plan_of job.shape
+  q = job.schedule.plan
 
   abbrev ws : List WireState
   ws = wires_in load.lines.items
@@ -265,7 +264,7 @@ module _ (job : JobOf) (sound : IsSound job) (first : List TurnRank) (loads : Li
 
   pub load-first : AreFirst job (wires ++ ws)
   load-first = subst (λ (l : List Bounds). IsPrefix l (lanes_before q q.ranks)) (sym load-lanes)
-      (first-ones q (suc m) q.ranks (let n = sound.ranks in omega (arith, low, n, many)))
+      (first-ones q (suc m) q.ranks (omega (arith, low, many)))
 
   pub load-laid : (old new : List TurnRank) → Slotwise SameOuts first old → Slotwise SameOuts old new → LaidBelow m wires old
       → LaidBelow (suc m) (wires ++ ws) new

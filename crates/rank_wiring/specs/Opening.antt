@@ -6,7 +6,6 @@ use mathlib.Core.Option.{some}
 use lib.ListN.{get_elem?}
 use Rattle.pair_wires.specs.declared.bounds.Bounds.{Bounds}
 use Rattle.pair_wires.specs.Wires.{IsInOf, WireState}
-use Rattle.shape_plans.specs.Drawing.{plan_of}
 use Rattle.schedule_compiler.specs.Jobs.{JobOf}
 use Rattle.rank_node.specs.Plans.{IsCompiledFor}
 use Rattle.rank_slots.specs.declared.slot.TurnRank.{TurnRank}
@@ -25,9 +24,9 @@ use Rattle.rank_slots.specs.Moves.{SameNode}
 -- ---- the slots of a job whose ranks made no step
 pub record IsFresh (job : JobOf) (r : ℕ) (x : TurnRank) : Type 0 where
   pub job_is : x.job ≡ job
-  pub compiled : IsCompiledFor (plan_of job.shape) job.inputs r x.node.value.task
+  pub compiled : IsCompiledFor job.schedule.plan job.inputs r x.node.value.task
   pub history_is : history x ≡ []
-  pub closed : x.node.value.closed ≡ replicate job.shape.ranks false
+  pub closed : x.node.value.closed ≡ replicate job.schedule.plan.ranks false
 
 -- such a slot with no ends
 pub record IsBare (job : JobOf) (r : ℕ) (x : TurnRank) : Type 0 where
@@ -87,9 +86,9 @@ wires_in lines = map (λ (l : WireEnd). l.wire) lines
 pub record IsFanned (job : JobOf) (r : ℕ) (x : TurnRank) (load : OutWires) : Type 0 where
   pub fresh : IsFresh job r x
   pub ins : x.ins.items ≡ []
-  pub outs : map out_joint x.outs.items ≡ joints_from (length (lanes_before (plan_of job.shape) r)) (wires_in load.lines.items)
-  pub lines : AreLines (length (lanes_before (plan_of job.shape) r)) load.lines.items
-  pub bounds_are : bounds_of (wires_in load.lines.items) ≡ lanes_from (plan_of job.shape) r
+  pub outs : map out_joint x.outs.items ≡ joints_from (length (lanes_before job.schedule.plan r)) (wires_in load.lines.items)
+  pub lines : AreLines (length (lanes_before job.schedule.plan r)) load.lines.items
+  pub bounds_are : bounds_of (wires_in load.lines.items) ≡ lanes_from job.schedule.plan r
 
 -- what lies at each of these places, some of which may be empty, was made for the rank of that place, counted from k on
 abbrev pub AreBerths : JobOf → ℕ → List (Option BuiltRank) → Type 0
@@ -108,20 +107,20 @@ AllIn wires slots = (r : ℕ) (x : TurnRank) → get_elem? slots r ≡ some x �
 
 -- the slots of a job that made no step have the in ends of these wires
 pub record IsHanded (job : JobOf) (wires : List WireState) (slots : List TurnRank) : Type 0 where
-  pub count : length slots ≡ job.shape.ranks
+  pub count : length slots ≡ job.schedule.plan.ranks
   pub fresh : AllFresh job slots
   pub rooms : Each HasWireRoom wires
   pub ins : AllIn wires slots
 
 -- these wires are of the first of all lanes
 abbrev pub AreFirst : JobOf → List WireState → Type 0
-AreFirst job wires = IsPrefix (bounds_of wires) (lanes_before (plan_of job.shape) (plan_of job.shape).ranks)
+AreFirst job wires = IsPrefix (bounds_of wires) (lanes_before job.schedule.plan job.schedule.plan.ranks)
 
 -- the slots and the wires of a job that made no step
 pub record AreWired (job : JobOf) (slots : List TurnRank) (wires : List WireState) : Type 0 where
-  pub count : length slots ≡ job.shape.ranks
+  pub count : length slots ≡ job.schedule.plan.ranks
   pub fresh : AllFresh job slots
-  pub wires_are : AreWires (lanes_before (plan_of job.shape) (plan_of job.shape).ranks) wires
+  pub wires_are : AreWires (lanes_before job.schedule.plan job.schedule.plan.ranks) wires
   pub laid : AllLaid wires slots
 
 -- with the same node and the same out ends

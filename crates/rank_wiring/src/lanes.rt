@@ -1,7 +1,6 @@
 //! The lanes of a job, each with what it may carry in all.
 
 ghost use Rattle.std.specs.Prelude.{◌≡◌, ◌<◌, ◌++◌, IfOk, length};
-ghost use Rattle.shape_plans.specs.Drawing.{plan_of};
 ghost use Rattle.rank_wiring.specs.Fans.{AreFans};
 ghost use Rattle.rank_slots.specs.Lanes.{bounds_if_used, bounds_on, lanes_from};
 
@@ -12,9 +11,9 @@ use std::alloc::Global;
 
 /// What goes on a lane in all.
 fn bounds(schedule: &Schedule, s: Rank, d: Rank, lane: Lane) -> Bounds
-    requires source { s < schedule.now.ranks }
-    requires target { d < schedule.now.ranks }
-    ensures { result ≡ bounds_on (plan_of schedule.now) s d lane }
+    requires source { s < schedule.now.plan.ranks }
+    requires target { d < schedule.now.plan.ranks }
+    ensures { result ≡ bounds_on schedule.now.plan s d lane }
 {
     let _ = schedule.plan();
     let bytes = match lane {
@@ -38,9 +37,9 @@ fn push_lane(
     d: Rank,
     lane: Lane,
 ) -> Result<(), NoMemory>
-    requires source { s < schedule.now.ranks }
-    requires target { d < schedule.now.ranks }
-    ensures { IfOk result (λ _. lanes.new.items ≡ lanes.old.items ++ bounds_if_used (plan_of schedule.now) s d lane) }
+    requires source { s < schedule.now.plan.ranks }
+    requires target { d < schedule.now.plan.ranks }
+    ensures { IfOk result (λ _. lanes.new.items ≡ lanes.old.items ++ bounds_if_used schedule.now.plan s d lane) }
 {
     if 0 < schedule.lane(s, d, lane) {
         lanes.push(bounds(schedule, s, d, lane))?;
@@ -50,11 +49,11 @@ fn push_lane(
 
 /// The lanes from a rank that messages go on, by target, requests before answers.
 fn lanes_from(alloc: Global, schedule: &Schedule, s: Rank) -> Result<Vec<Bounds>, NoMemory>
-    requires { s < schedule.now.ranks }
-    ensures { IfOk result (λ v. v.items ≡ lanes_from (plan_of schedule.now) s) }
+    requires { s < schedule.now.plan.ranks }
+    ensures { IfOk result (λ v. v.items ≡ lanes_from schedule.now.plan s) }
 {
     let _ = schedule.plan();
-    let ranks = schedule.shape().ranks();
+    let ranks = schedule.ranks();
     let mut lanes = Vec::new(alloc);
     for d in 0..ranks {
         push_lane(&mut lanes, schedule, s, d, Lane::Request)?;
@@ -74,11 +73,11 @@ pub(crate) struct OutLanes {
 
 /// The lanes from each rank.
 pub(crate) fn all_fans(alloc: Global, schedule: &Schedule) -> Result<Vec<OutLanes>, NoMemory>
-    ensures count { IfOk result (λ v. length v.items ≡ schedule.now.ranks) }
-    ensures fans { IfOk result (λ v. AreFans (plan_of schedule.now) v.items) }
+    ensures count { IfOk result (λ v. length v.items ≡ schedule.now.plan.ranks) }
+    ensures fans { IfOk result (λ v. AreFans schedule.now.plan v.items) }
 {
     let _ = schedule.plan();
-    let ranks = schedule.shape().ranks();
+    let ranks = schedule.ranks();
     let mut fans = Vec::with_capacity(alloc, ranks as usize)?;
     let mut first = 0;
     for s in 0..ranks {

@@ -2,7 +2,6 @@
 
 ghost use Rattle.std.specs.Prelude.{◌≡◌, ◌<◌, ◌^◌, ◌++◌, ◌∷◌, [], IfOk, IfSome, length, map};
 ghost use Rattle.pair_wires.specs.declared.bounds.Bounds.{Bounds};
-ghost use Rattle.shape_plans.specs.Drawing.{plan_of};
 ghost use Rattle.rank_slots.specs.Joints.{joint, out_joint};
 ghost use Rattle.rank_wiring.specs.Fans.{AreFans, IsFan};
 ghost use Rattle.rank_slots.specs.Lanes.{IsLane};
@@ -47,12 +46,12 @@ struct BuiltRank {
 
 // A rank with no wires, and with room for the ends of so many. There are as many to a rank as from it where answers are sent.
 fn bare_slot(alloc: Global, job: &Job, rank: Rank, ends: usize) -> Result<TurnRank, NoMemory>
-    requires { rank < job.now.shape.ranks }
+    requires { rank < job.now.schedule.plan.ranks }
     ensures { IfOk result (λ x. IsBare job.now rank x) }
 {
     let shared = job.share()?;
     let node = Box::new(alloc, install(alloc, job, rank, 0)?)?;
-    let ranks = job.schedule().shape().ranks();
+    let ranks = job.schedule().ranks();
     let hints = Box::new(alloc, Hints::open(alloc, ranks, node.nic().pending())?)?;
     let outs = Vec::with_capacity(alloc, ends)?;
     let ins = Vec::with_capacity(alloc, ends)?;
@@ -73,8 +72,7 @@ fn lay_line(
     number: u32,
     slot: &mut TurnRank,
 ) -> Result<WireEnd, NoMemory>
-    requires ranks { (plan_of job.now.shape).ranks ≡ job.now.shape.ranks }
-    requires lane { IsLane (plan_of job.now.shape) lane }
+    requires lane { IsLane job.now.schedule.plan lane }
     requires fresh { IsFresh job.now lane.source slot.old }
     requires apart { HasNoOut lane slot.old.outs.items }
     ensures fresh { IsFresh job.now lane.source slot.new }
@@ -108,8 +106,8 @@ fn lay_fan(
     slot: &mut TurnRank,
 ) -> Result<OutWires, NoMemory>
     requires sound { IsSound job.now }
-    requires rank { rank < job.now.shape.ranks }
-    requires fan { IsFan (plan_of job.now.shape) rank fan.now }
+    requires rank { rank < job.now.schedule.plan.ranks }
+    requires fan { IsFan job.now.schedule.plan rank fan.now }
     requires bare { IsBare job.now rank slot.old }
     ensures { IfOk result (λ x. IsFanned job.now rank slot.new x) }
 {
@@ -123,8 +121,8 @@ fn lay_fan(
 
 // A rank with its wires.
 fn make_berth(alloc: Global, job: &Job, rank: Rank, fan: &OutLanes) -> Result<BuiltRank, NoMemory>
-    requires rank { rank < job.now.shape.ranks }
-    requires fan { IsFan (plan_of job.now.shape) rank fan.now }
+    requires rank { rank < job.now.schedule.plan.ranks }
+    requires fan { IsFan job.now.schedule.plan rank fan.now }
     ensures { IfOk result (λ b. IsFanned job.now rank b.slot b.load) }
 {
     sound(job);
@@ -135,9 +133,9 @@ fn make_berth(alloc: Global, job: &Job, rank: Rank, fan: &OutLanes) -> Result<Bu
 
 // What a thread makes for a rank. There is nothing where there was no memory for it.
 fn berth_of(alloc: Global, job: &Job, fans: &[OutLanes], rank: usize) -> Option<BuiltRank>
-    requires count { length fans.now ≡ job.now.shape.ranks }
+    requires count { length fans.now ≡ job.now.schedule.plan.ranks }
     requires at_most { length fans.now < 2 ^ 32 }
-    requires fans { AreFans (plan_of job.now.shape) fans.now }
+    requires fans { AreFans job.now.schedule.plan fans.now }
     requires rank { rank < length fans.now }
     ensures { IfSome result (λ b. IsFanned job.now rank b.slot b.load) }
 {
@@ -156,10 +154,10 @@ fn make_berths<R: Threads + Sync>(
     threads: usize,
 ) -> Result<Vec<Option<BuiltRank>>, NoMemory>
     requires nonempty { 0 < threads }
-    requires count { length fans.now ≡ job.now.shape.ranks }
+    requires count { length fans.now ≡ job.now.schedule.plan.ranks }
     requires at_most { length fans.now < 2 ^ 32 }
-    requires fans { AreFans (plan_of job.now.shape) fans.now }
-    ensures count { IfOk result (λ v. length v.items ≡ job.now.shape.ranks) }
+    requires fans { AreFans job.now.schedule.plan fans.now }
+    ensures count { IfOk result (λ v. length v.items ≡ job.now.schedule.plan.ranks) }
     ensures berths { IfOk result (λ v. AreBerths job.now 0 v.items) }
 {
     let places = map_indices(
@@ -168,8 +166,8 @@ fn make_berths<R: Threads + Sync>(
         threads,
         fans.len(),
         &|rank: usize|
-            requires { (length fans.now < 2 ^ 32) × (length fans.now ≡ job.now.shape.ranks) × AreFans (plan_of job.now.shape) fans.now ×
-                (rank < length fans.now) }
+            requires { (length fans.now < 2 ^ 32) × (length fans.now ≡ job.now.schedule.plan.ranks) ×
+                AreFans job.now.schedule.plan fans.now × (rank < length fans.now) }
             ensures { IfSome result (λ b. IsFanned job.entry.now rank b.slot b.load) }
         { berth_of(alloc, job, fans, rank) },
     )?;
@@ -184,9 +182,9 @@ fn made_or_make(
     rank: usize,
     place: Option<BuiltRank>,
 ) -> Result<BuiltRank, NoMemory>
-    requires count { length fans.now ≡ job.now.shape.ranks }
+    requires count { length fans.now ≡ job.now.schedule.plan.ranks }
     requires at_most { length fans.now < 2 ^ 32 }
-    requires fans { AreFans (plan_of job.now.shape) fans.now }
+    requires fans { AreFans job.now.schedule.plan fans.now }
     requires rank { rank < length fans.now }
     requires place { IfSome place (λ b. IsFanned job.now rank b.slot b.load) }
     ensures { IfOk result (λ b. IsFanned job.now rank b.slot b.load) }
@@ -204,10 +202,10 @@ fn in_order(
     fans: &[OutLanes],
     places: Vec<Option<BuiltRank>>,
 ) -> Result<(Vec<TurnRank>, Vec<OutWires>), NoMemory>
-    requires ranks { length fans.now ≡ job.now.shape.ranks }
+    requires ranks { length fans.now ≡ job.now.schedule.plan.ranks }
     requires at_most { length fans.now < 2 ^ 32 }
-    requires fans { AreFans (plan_of job.now.shape) fans.now }
-    requires count { length places.items ≡ job.now.shape.ranks }
+    requires fans { AreFans job.now.schedule.plan fans.now }
+    requires count { length places.items ≡ job.now.schedule.plan.ranks }
     requires berths { AreBerths job.now 0 places.items }
     ensures count { IfOk result (λ r. (length r.0.items ≡ length places.items) × (length r.1.items ≡ length places.items)) }
     ensures fanned { IfOk result (λ r. AllFanned job.now r.0.items r.1.items) }
@@ -258,7 +256,7 @@ fn hand_all(
     slots: &mut [TurnRank],
 ) -> Result<Vec<Wire>, NoMemory>
     requires sound { IsSound job.now }
-    requires count { (length slots.old ≡ job.now.shape.ranks) × (length loads.items ≡ job.now.shape.ranks) }
+    requires count { (length slots.old ≡ job.now.schedule.plan.ranks) × (length loads.items ≡ job.now.schedule.plan.ranks) }
     requires fanned { AllFanned job.now slots.old loads.items }
     ensures count { length slots.new ≡ length slots.old }
     ensures wired { IfOk result (λ v. AreWired job.now slots.new v.items) }

@@ -4,7 +4,6 @@ ghost use Rattle.std.specs.Prelude.{false, ◌≡◌, ◌<◌, ◌++◌, IfOk};
 ghost use mathlib.Core.Option.{some};
 ghost use lib.ListN.{get_elem?};
 ghost use Rattle.plan_calls.specs.Lanes.{is_used_lane};
-ghost use Rattle.shape_plans.specs.Drawing.{plan_of};
 ghost use Rattle.rest_probe.specs.declared.notes.RankNote.{RankNote};
 ghost use Rattle.rest_probe.specs.Lanes.{lane_if, lanes_from, lanes_to, pair_lanes};
 ghost use Rattle.rest_probe.specs.Waves.{IsFor};
@@ -37,9 +36,9 @@ fn push_lane(
 
 // Whether messages go on a lane.
 fn is_used(schedule: &Schedule, s: Rank, d: Rank, lane: Lane) -> bool
-    requires source { s < schedule.now.ranks }
-    requires target { d < schedule.now.ranks }
-    ensures { result ≡ is_used_lane (plan_of schedule.now) s d lane }
+    requires source { s < schedule.now.plan.ranks }
+    requires target { d < schedule.now.plan.ranks }
+    ensures { result ≡ is_used_lane schedule.now.plan s d lane }
 {
     0 < schedule.lane(s, d, lane)
 }
@@ -52,9 +51,9 @@ fn push_pair(
     d: Rank,
     other: Rank,
 ) -> Result<(), NoMemory>
-    requires source { s < schedule.now.ranks }
-    requires target { d < schedule.now.ranks }
-    ensures { IfOk result (λ _. counts.new.items ≡ counts.old.items ++ pair_lanes (plan_of schedule.now) s d other) }
+    requires source { s < schedule.now.plan.ranks }
+    requires target { d < schedule.now.plan.ranks }
+    ensures { IfOk result (λ _. counts.new.items ≡ counts.old.items ++ pair_lanes schedule.now.plan s d other) }
 {
     let requests = is_used(schedule, s, d, Lane::Request);
     let answers = is_used(schedule, s, d, Lane::Answer);
@@ -65,11 +64,10 @@ fn push_pair(
 
 // The lanes from a rank.
 fn counts_from(alloc: Global, schedule: &Schedule, r: Rank) -> Result<Counts, NoMemory>
-    requires { r < schedule.now.ranks }
-    ensures { IfOk result (λ c. c ≡ lanes_from (plan_of schedule.now) r) }
+    requires { r < schedule.now.plan.ranks }
+    ensures { IfOk result (λ c. c ≡ lanes_from schedule.now.plan r) }
 {
-    let _ = schedule.plan();
-    let ranks = schedule.shape().ranks();
+    let ranks = schedule.ranks();
     let mut counts = Vec::new(alloc);
     for d in 0..ranks {
         push_pair(&mut counts, schedule, r, d, d)?;
@@ -79,11 +77,10 @@ fn counts_from(alloc: Global, schedule: &Schedule, r: Rank) -> Result<Counts, No
 
 // The lanes to a rank.
 fn counts_to(alloc: Global, schedule: &Schedule, r: Rank) -> Result<Counts, NoMemory>
-    requires { r < schedule.now.ranks }
-    ensures { IfOk result (λ c. c ≡ lanes_to (plan_of schedule.now) r) }
+    requires { r < schedule.now.plan.ranks }
+    ensures { IfOk result (λ c. c ≡ lanes_to schedule.now.plan r) }
 {
-    let _ = schedule.plan();
-    let ranks = schedule.shape().ranks();
+    let ranks = schedule.ranks();
     let mut counts = Vec::new(alloc);
     for s in 0..ranks {
         push_pair(&mut counts, schedule, s, r, s)?;
@@ -93,10 +90,10 @@ fn counts_to(alloc: Global, schedule: &Schedule, r: Rank) -> Result<Counts, NoMe
 
 // The room of a rank's note.
 fn bare(alloc: Global, schedule: &Schedule, r: Rank) -> Result<RankNote, NoMemory>
-    requires { r < schedule.now.ranks }
+    requires { r < schedule.now.plan.ranks }
     ensures there { IfOk result (λ x. x.there ≡ false) }
-    ensures sent { IfOk result (λ x. x.note.sent ≡ lanes_from (plan_of schedule.now) r) }
-    ensures got { IfOk result (λ x. x.note.got ≡ lanes_to (plan_of schedule.now) r) }
+    ensures sent { IfOk result (λ x. x.note.sent ≡ lanes_from schedule.now.plan r) }
+    ensures got { IfOk result (λ x. x.note.got ≡ lanes_to schedule.now.plan r) }
 {
     let sent = counts_from(alloc, schedule, r)?;
     let got = counts_to(alloc, schedule, r)?;
@@ -118,11 +115,10 @@ impl Wave {
     ///
     /// There was no memory for it.
     pub fn open(alloc: Global, schedule: &Schedule) -> Result<Wave, NoMemory>
-        ensures lanes { IfOk result (λ w. IsFor (plan_of schedule.now) w) }
+        ensures lanes { IfOk result (λ w. IsFor schedule.now.plan w) }
         ensures empty { IfOk result (λ w. (r : _) (x : RankNote) → get_elem? w r ≡ some x → x.there ≡ false) }
     {
-        let _ = schedule.plan();
-        let ranks = schedule.shape().ranks();
+        let ranks = schedule.ranks();
         let mut places = Vec::with_capacity(alloc, ranks as usize)?;
         for r in 0..ranks {
             places.push(bare(alloc, schedule, r)?)?;

@@ -6,10 +6,11 @@ use Rattle.coll_shape.specs.Outline.{Outline}
 use Rattle.shape_plans.specs.declared.faults.CompileFault.{CompileFault}
 use Rattle.shape_plans.specs.Compiling.{Answers}
 use Rattle.schedule_compiler.specs.declared.schedule.Place.{Place}
+use Rattle.schedule_compiler.specs.Schedules.{ScheduleOf, schedule_of}
 
--- exactly the refusal, or else the shape's schedule, which is seen as its shape
-abbrev pub Compiles : Outline → Result Outline CompileFault → Type 0
-Compiles o result = Answers o (λ s. s ≡ o) result
+-- exactly the refusal, or else the shape's schedule, which is that of its plan
+abbrev pub Compiles : Outline → Result ScheduleOf CompileFault → Type 0
+Compiles o result = Answers o (λ s. s ≡ schedule_of o) result
 
 -- in its rank's region
 abbrev pub place_of : Plan → ℕ → Place

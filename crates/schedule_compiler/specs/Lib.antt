@@ -1,3 +1,4 @@
+pub mod Schedules
 pub mod Keeping
 pub mod Answers
 pub mod Jobs

@@ -1,7 +1,7 @@
 //! A schedule with the values of its inputs.
 
 ghost use Rattle.std.specs.Prelude.{◌≡◌, IfOk};
-ghost use Rattle.coll_shape.specs.Meaning.{AreInputs};
+ghost use Rattle.schedule_compiler.specs.Jobs.{AreInputsFor};
 
 use crate::schedule::Schedule;
 use coll_shape::Inputs;
@@ -17,20 +17,19 @@ struct Shared {
     inputs: Inputs,
 }
 
-/// A schedule with inputs of its shape. It is kept once, and shared by all that run it.
+/// A schedule with inputs that it takes. It is kept once, and shared by all that run it.
 pub struct Job {
     shared: Arc<Shared>,
 }
 
 impl Model for Job {
-    ghost use Rattle.coll_shape.specs.Meaning.{AreInputs};
-    ghost use Rattle.schedule_compiler.specs.Jobs.{JobOf};
+    ghost use Rattle.schedule_compiler.specs.Jobs.{AreInputsFor, JobOf};
 
     ghost Value = { JobOf };
 
-    ghost view = { λ j. record { shape = j.shared.value.schedule; inputs = j.shared.value.inputs } };
+    ghost view = { λ j. record { schedule = j.shared.value.schedule; inputs = j.shared.value.inputs } };
 
-    ghost invariant = { λ j. AreInputs j.shared.value.schedule j.shared.value.inputs };
+    ghost invariant = { λ j. AreInputsFor j.shared.value.schedule j.shared.value.inputs };
 }
 
 // Written out, so that letting one go is one call: docs/DECISIONS.md, "Large types have a drop of their own".
@@ -47,8 +46,8 @@ impl Job {
     ///
     /// There was no memory. The schedule and the inputs are then gone.
     pub fn new(alloc: Global, schedule: Schedule, inputs: Inputs) -> Result<Job, NoMemory>
-        requires { AreInputs schedule inputs }
-        ensures { IfOk result (λ job. job ≡ record { shape = schedule; inputs = inputs }) }
+        requires { AreInputsFor schedule inputs }
+        ensures { IfOk result (λ job. job ≡ record { schedule = schedule; inputs = inputs }) }
     {
         let shared = Arc::new(alloc, Shared { schedule, inputs })?;
         Ok(Job { shared })
@@ -70,7 +69,7 @@ impl Job {
 
     /// The schedule.
     pub fn schedule(&self) -> &Schedule
-        ensures { result.now ≡ self.now.shape }
+        ensures { result.now ≡ self.now.schedule }
     {
         &self.shared.schedule
     }
@@ -79,7 +78,7 @@ impl Job {
     pub fn inputs(&self) -> &Inputs
         ensures value { result.now ≡ self.now.inputs }
         // This holds of every job, whichever call tells it.
-        ensures inputs { AreInputs self.now.shape self.now.inputs }
+        ensures inputs { AreInputsFor self.now.schedule self.now.inputs }
     {
         &self.shared.inputs
     }

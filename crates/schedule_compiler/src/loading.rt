@@ -1,16 +1,14 @@
 //! The memory with which a rank begins.
 
-ghost use Rattle.std.specs.Prelude.{ℕ, [], nat_le, nat_lt, ◌&&◌, ◌≡◌, ◌<◌, ◌≤◌, ◌+◌, ◌-◌, ◌*◌, ◌/◌, ◌%◌, ◌++◌, IfOk, get_or, length};
-ghost use Rattle.std.specs.Prelude.{replicate, flat_map};
+ghost use Rattle.std.specs.Prelude.{ℕ, [], nat_le, nat_lt, ◌&&◌, ◌≡◌, ◌<◌, ◌≤◌, ◌+◌, ◌-◌, ◌*◌, ◌/◌, ◌%◌, ◌^◌, ◌++◌};
+ghost use Rattle.std.specs.Prelude.{IfOk, get_or, length, replicate, flat_map};
 ghost use Rattle.ptl_types.specs.Elements.{starting};
 ghost use Rattle.plan_core.specs.Values.{initial};
 ghost use Rattle.plan_calls.specs.Areas.{blank_area, blank_areas, blank_as, initial_region};
 ghost use Rattle.plan_calls.specs.Bits.{op_at, type_at};
 ghost use Rattle.plan_tables.specs.Installed.{installed};
 ghost use Rattle.plan_tables.specs.Ranks.{IsTables};
-ghost use Rattle.coll_shape.specs.Meaning.{AreInputs};
-ghost use Rattle.coll_shape.specs.declared.limits.TheConstants.{MOST_RANKS, MOST_BUFFERS};
-ghost use Rattle.shape_plans.specs.Drawing.{plan_of};
+ghost use Rattle.schedule_compiler.specs.Jobs.{AreInputsFor};
 
 use crate::schedule::Schedule;
 use coll_shape::Inputs;
@@ -100,8 +98,8 @@ fn add_blank(
 
 /// Whether a cell is one of the input cells, of which there are so many a rank after the go cells.
 fn is_input(ranks: u32, count: u32, c: u32) -> bool
-    requires ranks { ranks ≤ MOST_RANKS }
-    requires count { count ≤ MOST_BUFFERS }
+    requires ranks { ranks ≤ 256 }
+    requires count { count * ranks ≤ 2 ^ 24 }
     ensures { result ≡ (nat_le ranks c && nat_lt c (ranks + count * ranks)) }
 {
     ranks <= c && c < ranks + count * ranks
@@ -127,10 +125,10 @@ fn add_cell(
     c: u32,
 ) -> Result<(), NoMemory>
     requires count { count ≡ length inputs.now }
-    requires few_inputs { count ≤ MOST_BUFFERS }
+    requires few_inputs { count * plan.now.ranks ≤ 2 ^ 24 }
     requires cell { c < length plan.now.cells }
     requires nonempty { 1 ≤ plan.now.ranks }
-    requires at_most { plan.now.ranks ≤ MOST_RANKS }
+    requires at_most { plan.now.ranks ≤ 256 }
     requires lists { (b : ℕ) → b < length inputs.now → length (get_or inputs.now b []) ≡ plan.now.ranks }
     ensures { IfOk result (λ u. bytes.new.items ≡ bytes.old.items ++ initial plan.now inputs.now c) }
 {
@@ -155,10 +153,10 @@ fn add_cells(
     own: &[u32],
 ) -> Result<(), NoMemory>
     requires count { count ≡ length inputs.now }
-    requires few_inputs { count ≤ MOST_BUFFERS }
+    requires few_inputs { count * plan.now.ranks ≤ 2 ^ 24 }
     requires own { (i : ℕ) → i < length own.now → get_or own.now i 0 < length plan.now.cells }
     requires nonempty { 1 ≤ plan.now.ranks }
-    requires at_most { plan.now.ranks ≤ MOST_RANKS }
+    requires at_most { plan.now.ranks ≤ 256 }
     requires lists { (b : ℕ) → b < length inputs.now → length (get_or inputs.now b []) ≡ plan.now.ranks }
     ensures { IfOk result (λ u. bytes.new.items ≡ bytes.old.items ++ flat_map (initial plan.now inputs.now) own.now) }
 {
@@ -184,7 +182,7 @@ fn add_area(bytes: &mut Vec<u8>, class: u32, n: u64) -> Result<(), NoMemory>
 fn add_areas(bytes: &mut Vec<u8>, plan: &Plan, tables: &Tables, r: Rank) -> Result<(), NoMemory>
     requires tables { IsTables plan.now tables.now }
     requires rank { r < plan.now.ranks }
-    requires at_most { plan.now.ranks ≤ MOST_RANKS }
+    requires at_most { plan.now.ranks ≤ 256 }
     ensures { IfOk result (λ u. bytes.new.items ≡ bytes.old.items ++ blank_areas plan.now r) }
 {
     for class in 0..81u32 {
@@ -206,16 +204,14 @@ pub fn load(
     inputs: &Inputs,
     r: Rank,
 ) -> Result<Bytes, NoMemory>
-    requires table { table.now ≡ installed (plan_of schedule.now) r }
-    requires inputs { AreInputs schedule.now inputs.now }
-    requires rank { r < schedule.now.ranks }
-    ensures { IfOk result (λ bytes. bytes.list ≡ initial_region (plan_of schedule.now) inputs.now r) }
+    requires table { table.now ≡ installed schedule.now.plan r }
+    requires inputs { AreInputsFor schedule.now inputs.now }
+    requires rank { r < schedule.now.plan.ranks }
+    ensures { IfOk result (λ bytes. bytes.list ≡ initial_region schedule.now.plan inputs.now r) }
 {
     let plan = schedule.plan();
     let mut bytes = Vec::with_capacity(alloc, table.region() as usize)?;
-    let shape = schedule.shape();
-    shape.keeps_form();
-    let count = shape.input_count();
+    let count = schedule.input_count();
     add_cells(&mut bytes, plan, inputs, count, table.cells())?;
     add_areas(&mut bytes, plan, schedule.tables(), r)?;
     Ok(Bytes::from_vec(bytes))

@@ -1,6 +1,6 @@
-//! What the ranks of a shape install.
+//! What the ranks of a plan install.
 
-ghost use Rattle.std.specs.Prelude.{ℕ, None, Some, [], ◌≡◌, ◌<◌, ◌≤◌, ◌↔◌, IfOk, length};
+ghost use Rattle.std.specs.Prelude.{ℕ, Some, ◌≡◌, ◌<◌, ◌≤◌, ◌+◌, ◌^◌, IfOk, length};
 ghost use Rattle.ptl_types.specs.declared.headers.Lane.TheVariants.{Request};
 ghost use Rattle.plan_core.specs.Draw.{held_cell};
 ghost use Rattle.plan_core.specs.Sound.{SoundPlan};
@@ -8,17 +8,10 @@ ghost use Rattle.plan_calls.specs.Lanes.{lane_bytes, lane_messages};
 ghost use Rattle.plan_calls.specs.RankOps.{done_threshold};
 ghost use Rattle.plan_tables.specs.Installed.{installed};
 ghost use Rattle.plan_tables.specs.Ranks.{IsTables};
-ghost use Rattle.coll_shape.specs.Folding.{at};
-ghost use Rattle.coll_shape.specs.Meaning.{AreInputs, Lists, lists_of, meaning_of};
-ghost use Rattle.coll_shape.specs.Outline.{buffer_at};
-ghost use Rattle.shape_plans.specs.Drawing.{drawing_of, plan_of};
-ghost use Rattle.shape_plans.specs.Footprint.{refusal};
-ghost use Rattle.shape_plans.specs.declared.judging.TheConstants.{MOST_LINKS};
-ghost use Rattle.shape_plans.specs.Results.{IsResultCell};
 ghost use Rattle.schedule_compiler.specs.Answers.{place_of};
-ghost use Rattle.schedule_compiler.specs.Keeping.{Keeps};
+ghost use Rattle.schedule_compiler.specs.Keeping.{CanRun, IsCellOn, Keeps};
+ghost use Rattle.schedule_compiler.specs.Schedules.{scheduled};
 
-use coll_shape::Shape;
 use plan_core::{BufferCells, Plan};
 use plan_tables::{RankTable, Tables};
 use ptl_types::{Lane, NoMemory, Rank};
@@ -36,34 +29,36 @@ pub struct Place {
     pub length: u64,
 }
 
-/// The schedule of a shape: its plan, and what each rank installs. Contracts see it as its shape. It keeps a copy of the shape,
-/// that the shape isn't refused, and that all else is what the shape says.
+/// The schedule of a plan: what each rank installs, and which cell holds each result. Contracts see it as the plan, the cells of its
+/// results, and the number of its inputs. It keeps that the plan is sound for so many inputs and can be installed.
 #[derive(Debug)]
 pub struct Schedule {
-    shape: Shape,
     plan: Plan,
     held: BufferCells,
+    inputs: u32,
+    buffers: u32,
     tables: Tables,
 }
 
 impl Model for Schedule {
-    ghost use Rattle.coll_shape.specs.Outline.{Outline};
     ghost use Rattle.schedule_compiler.specs.Keeping.{Keeps};
+    ghost use Rattle.schedule_compiler.specs.Schedules.{ScheduleOf, scheduled};
 
-    ghost Value = { Outline };
+    ghost Value = { ScheduleOf };
 
-    ghost view = { λ s. s.shape };
+    ghost view = { λ s. scheduled s.plan s.held s.inputs };
 
-    ghost invariant = { λ s. Keeps s.shape s.plan s.held s.tables };
+    ghost invariant = { λ s. Keeps (scheduled s.plan s.held s.inputs) s.buffers s.tables };
 }
 
 // Written out, so that letting one go is one call: docs/DECISIONS.md, "Large types have a drop of their own".
 impl Drop for Schedule {
     fn drop(self) {
         let Schedule {
-            shape: _,
             plan: _,
             held: _,
+            inputs: _,
+            buffers: _,
             tables: _,
         } = self;
     }
@@ -71,36 +66,77 @@ impl Drop for Schedule {
 
 impl Schedule {
     /// The schedule of these parts. It takes no memory.
-    pub(crate) fn of(shape: Shape, plan: Plan, held: BufferCells, tables: Tables) -> Schedule
-        requires { Keeps shape plan held tables }
-        ensures { result ≡ shape }
+    fn from_parts(
+        plan: Plan,
+        held: BufferCells,
+        inputs: u32,
+        buffers: u32,
+        tables: Tables,
+    ) -> Schedule
+        requires { Keeps (scheduled plan held inputs) buffers tables }
+        ensures { result ≡ scheduled plan held inputs }
     {
         Schedule {
-            shape,
             plan,
             held,
+            inputs,
+            buffers,
             tables,
         }
     }
 
-    /// The shape that was compiled.
-    pub fn shape(&self) -> &Shape
-        ensures value { result.now ≡ self.now }
-        // This holds of every schedule, whichever call tells it.
-        ensures accepted { refusal self.now ≡ None }
+    /// The schedule of a plan with so many inputs, whose results are of so many buffers and lie in these cells. Conditions: the plan is
+    /// sound for so many inputs, has fewer than 2^27 cells and links, and the cells of its results at a rank lie on that rank.
+    ///
+    /// # Errors
+    ///
+    /// There was no memory for it. The plan is then gone.
+    pub fn of(
+        alloc: Global,
+        plan: Plan,
+        held: BufferCells,
+        inputs: u32,
+        buffers: u32,
+    ) -> Result<Schedule, NoMemory>
+        requires can { CanRun (scheduled plan held inputs) }
+        requires buffers { buffers ≡ held.buffers }
+        ensures { IfOk result (λ schedule. schedule ≡ scheduled plan held inputs) }
     {
-        &self.shape
+        let tables = Tables::of(alloc, &plan)?;
+        Ok(Schedule::from_parts(plan, held, inputs, buffers, tables))
     }
 
     /// The plan.
     pub fn plan(&self) -> &Plan
-        ensures value { result.now ≡ plan_of self.now }
-        ensures sound { SoundPlan (plan_of self.now) self.now.inputs }
-        ensures ranks { (plan_of self.now).ranks ≡ self.now.ranks }
-        ensures at_most { length (plan_of self.now).links ≤ MOST_LINKS }
+        ensures value { result.now ≡ self.now.plan }
+        // These hold of every schedule, whichever call tells them.
+        ensures sound { SoundPlan self.now.plan self.now.inputs }
+        ensures at_most { length self.now.plan.cells + length self.now.plan.links < 2 ^ 27 }
     {
-        self.shape.keeps_form();
         &self.plan
+    }
+
+    /// How many ranks there are, 1 to 256.
+    pub fn ranks(&self) -> u32
+        ensures value { result ≡ self.now.plan.ranks }
+        ensures some { 1 ≤ result }
+        ensures at_most { result ≤ 256 }
+    {
+        self.plan.ranks()
+    }
+
+    /// For how many inputs the plan is.
+    pub fn input_count(&self) -> u32
+        ensures { result ≡ self.now.inputs }
+    {
+        self.inputs
+    }
+
+    /// How many buffers the cells of the results are of.
+    pub fn buffers(&self) -> u32
+        ensures { result ≡ self.now.held.buffers }
+    {
+        self.buffers
     }
 
     /// What a rank installs, made anew: nothing keeps it beside the rank.
@@ -109,45 +145,42 @@ impl Schedule {
     ///
     /// There was no memory for it.
     pub fn rank(&self, alloc: Global, r: Rank) -> Result<RankTable, NoMemory>
-        requires { r < self.now.ranks }
-        ensures { IfOk result (λ t. t ≡ installed (plan_of self.now) r) }
+        requires { r < self.now.plan.ranks }
+        ensures { IfOk result (λ t. t ≡ installed self.now.plan r) }
     {
-        self.shape.keeps_form();
         self.tables.rank(alloc, &self.plan, r)
     }
 
     /// The tables of the plan.
     pub(crate) fn tables(&self) -> &Tables
-        ensures { IsTables (plan_of self.now) result.now }
+        ensures { IsTables self.now.plan result.now }
     {
         &self.tables
     }
 
     /// Where a rank's done counter stands when all is done.
     pub fn done(&self, r: Rank) -> u64
-        requires { r < self.now.ranks }
-        ensures { result ≡ done_threshold (plan_of self.now) r }
+        requires { r < self.now.plan.ranks }
+        ensures { result ≡ done_threshold self.now.plan r }
     {
-        self.shape.keeps_form();
         self.tables.done(&self.plan, r)
     }
 
     /// How many requests go from one rank to another.
     fn requests(&self, s: Rank, d: Rank) -> u64
-        requires source { s < self.now.ranks }
-        requires target { d < self.now.ranks }
-        ensures { result ≡ lane_messages (plan_of self.now) s d Request }
+        requires source { s < self.now.plan.ranks }
+        requires target { d < self.now.plan.ranks }
+        ensures { result ≡ lane_messages self.now.plan s d Request }
     {
-        self.shape.keeps_form();
         self.tables.lanes.messages(&self.plan, s, d)
     }
 
     /// How many messages go on a lane from rank s to rank d; 0 on an unused lane. Answers go the other way than the requests that
     /// they answer, and only where completion waits for acknowledgements.
     pub fn lane(&self, s: Rank, d: Rank, lane: Lane) -> u64
-        requires source { s < self.now.ranks }
-        requires target { d < self.now.ranks }
-        ensures { result ≡ lane_messages (plan_of self.now) s d lane }
+        requires source { s < self.now.plan.ranks }
+        requires target { d < self.now.plan.ranks }
+        ensures { result ≡ lane_messages self.now.plan s d lane }
     {
         match lane {
             Lane::Request => self.requests(s, d),
@@ -163,18 +196,17 @@ impl Schedule {
 
     /// The bytes of the requests from rank s to rank d together. Answers carry none.
     pub fn lane_bytes(&self, s: Rank, d: Rank) -> u64
-        requires source { s < self.now.ranks }
-        requires target { d < self.now.ranks }
-        ensures { result ≡ lane_bytes (plan_of self.now) s d }
+        requires source { s < self.now.plan.ranks }
+        requires target { d < self.now.plan.ranks }
+        ensures { result ≡ lane_bytes self.now.plan s d }
     {
-        self.shape.keeps_form();
         self.tables.lanes.sent_bytes(&self.plan, s, d)
     }
 
     /// Where a cell lies.
     pub fn place(&self, cell: u32) -> Place
-        requires { cell < length (plan_of self.now).cells }
-        ensures { result ≡ place_of (plan_of self.now) cell }
+        requires { cell < length self.now.plan.cells }
+        ensures { result ≡ place_of self.now.plan cell }
     {
         let part = self.plan.cells()[cell as usize];
         Place {
@@ -184,17 +216,13 @@ impl Schedule {
         }
     }
 
-    /// The cell that holds a buffer at a rank. `None` exactly where the rank's list is empty, whatever the inputs.
+    /// The cell that holds a buffer at a rank, a cell of that rank. `None`: none does.
     pub fn result(&self, buffer: u32, r: Rank) -> Option<u32>
-        requires buffer { buffer < length self.now.buffers }
-        requires rank { r < self.now.ranks }
-        ensures value { result ≡ held_cell (drawing_of self.now).held buffer r }
-        ensures cell { (c : ℕ) → held_cell (drawing_of self.now).held buffer r ≡ Some c →
-            IsResultCell (plan_of self.now) (buffer_at self.now buffer) r c }
-        ensures none { (inputs : Lists) → AreInputs self.now inputs →
-            held_cell (drawing_of self.now).held buffer r ≡ None ↔ at (lists_of (meaning_of self.now inputs) buffer) r ≡ [] }
+        requires buffer { buffer < self.now.held.buffers }
+        requires rank { r < self.now.plan.ranks }
+        ensures value { result ≡ held_cell self.now.held buffer r }
+        ensures cell { (c : ℕ) → held_cell self.now.held buffer r ≡ Some c → IsCellOn self.now.plan r c }
     {
-        self.shape.keeps_form();
         self.held.cell(buffer, r)
     }
 }

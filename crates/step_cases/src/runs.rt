@@ -33,7 +33,7 @@ pub(crate) struct Made {
 /// How many steps the ranks of a world made.
 fn steps_of(world: &World) -> u64 {
     let mut steps = 0u64;
-    for rank in 0..world.schedule().shape().ranks() {
+    for rank in 0..world.schedule().ranks() {
         steps = steps.wrapping_add(world.history(rank).len() as u64);
     }
     steps

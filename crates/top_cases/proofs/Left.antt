@@ -12,8 +12,10 @@ use Rattle.coll_shape.specs.Folding.{at}
 use Rattle.coll_shape.specs.Meaning.{Lists, lists_of, meaning_of}
 use Rattle.coll_shape.specs.Outline.{Outline}
 use Rattle.coll_lang.specs.declared.fault.Refusal.TheVariants.{BadOrder}
-use Rattle.shape_plans.specs.Drawing.{plan_of}
-use Rattle.job_laws.specs.Results.{result_in}
+use Rattle.shape_plans.specs.Drawing.{drawing_of, plan_of}
+use Rattle.shape_plans.proofs.Final.{fine-shape}
+use Rattle.cuts.specs.cells.Cells.{result_in}
+use Rattle.schedule_compiler.specs.Schedules.{ScheduleOf}
 use Rattle.worlds.specs.World.{AreSlots, WorldState, histories_in, memory_in, ranks_in, steps_in}
 use Rattle.portals_top.specs.declared.status.Status.TheVariants.{Done, NoMemory, ReadFault, Refused, Usage, WriteFault}
 use Rattle.portals_top.specs.Answered.{MayAnswer}
@@ -21,8 +23,10 @@ use Rattle.portals_top.specs.Checked.{due_checked, due_verdict}
 use Rattle.portals_top.specs.Runs.{IsRun}
 
 module _ (o : Outline) (given : Lists) (w : WorldState) where
-  of_another_shape : w.shape.ranks ≡ 3 → o.ranks ≡ 2 → IsRun o given w → ⊥
-  of_another_shape a b h = let q = ap (λ (s : Outline). s.ranks) h.shape in omega (arith, a, b, q)
+  of_another_shape : w.schedule.plan.ranks ≡ 3 → o.ranks ≡ 2 → IsRun o given w → ⊥
+  of_another_shape a b h =
+      let q = ap (λ (s : ScheduleOf). s.plan.ranks) h.of_shape.schedule ∙ (fine-shape o h.of_shape.formed).ranks in
+      omega (arith, a, b, q)
 
   of_other_inputs : length w.inputs ≡ 2 → length given ≡ 1 → IsRun o given w → ⊥
   of_other_inputs a b h = let q = ap (λ (xs : Lists). length xs) h.inputs in omega (arith, a, b, q)
@@ -40,12 +44,13 @@ module _ (o : Outline) (given : Lists) (w : WorldState) where
       → count_by is_start (histories_in w r) ≡ 0 → IsRun o given w → ⊥
   with_a_rank_unstarted slots a r below e h = let q = (h.rest slots a).started r below in omega (arith, e, q)
 
-  with_a_violation : (slots : ℕ → Slots) → AreSlots w slots → (r : ℕ) → r < w.shape.ranks
-      → (state_at (system_of (plan_of w.shape) w.inputs slots) (histories_in w) r).violations ≡ 1 → IsRun o given w → ⊥
+  with_a_violation : (slots : ℕ → Slots) → AreSlots w slots → (r : ℕ) → r < w.schedule.plan.ranks
+      → (state_at (system_of w.schedule.plan w.inputs slots) (histories_in w) r).violations ≡ 1 → IsRun o given w → ⊥
   with_a_violation slots a r below e h = let q = (h.complete slots a r below).violations in omega (arith, e, q)
 
-  with_another_byte : (b r : ℕ) → b < length w.shape.buffers → r < w.shape.ranks → result_in w.shape b r (memory_in w r) ≡ 1 ∷ []
-      → at (lists_of (meaning_of w.shape w.inputs) b) r ≡ 2 ∷ [] → IsRun o given w → ⊥
+  with_another_byte : (b r : ℕ) → b < length o.buffers → r < o.ranks
+      → result_in (plan_of o) (drawing_of o).held b r (memory_in w r) ≡ 1 ∷ []
+      → at (lists_of (meaning_of o given) b) r ≡ 2 ∷ [] → IsRun o given w → ⊥
   with_another_byte b r hb hr e f h =
       let q : 1 ≡ 2 = ap (λ (bytes : List ℕ). get_or bytes 0 0) (sym e ∙ h.meant b r hb hr ∙ f) in omega (arith, q)
 

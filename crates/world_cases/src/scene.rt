@@ -6,7 +6,7 @@ use crate::answers::{same_at, same_in};
 use coll_lang::parse;
 use portals_ni::Nic;
 use ptl_types::{Count, LocalStep, Rank};
-use schedule_compiler::{Job, compile};
+use schedule_compiler::{Job, compile, shape_job};
 use std::alloc::Global;
 use std::process::Abort;
 use worlds::{Step, World};
@@ -20,7 +20,7 @@ pub fn job_of(alloc: Global, text: &[u8]) -> Option<Job> {
     let Ok(schedule) = compile(alloc, &shape) else {
         return None;
     };
-    match Job::new(alloc, schedule, inputs) {
+    match shape_job(alloc, &shape, schedule, inputs) {
         Ok(job) => Some(job),
         Err(_) => None,
     }
@@ -65,12 +65,12 @@ pub fn links(job: &Job) -> usize {
 
 /// How many ranks a world has.
 pub fn ranks(world: &World) -> u32 {
-    world.schedule().shape().ranks()
+    world.schedule().ranks()
 }
 
 /// How many buffers its description has, the inputs among them.
 pub fn buffers(world: &World) -> usize {
-    world.schedule().shape().buffers().len()
+    world.schedule().buffers() as usize
 }
 
 /// How many steps are possible.
@@ -116,8 +116,8 @@ pub fn run(world: &mut World)
 
 /// The bytes of a buffer's list at a rank. `None`: there is no such buffer or rank.
 pub fn bytes_at(world: &World, buffer: u32, r: Rank) -> Option<&[u8]> {
-    let shape = world.schedule().shape();
-    if (buffer as usize) < shape.buffers().len() && r < shape.ranks() {
+    let schedule = world.schedule();
+    if buffer < schedule.buffers() && r < schedule.ranks() {
         Some(world.result(buffer, r))
     } else {
         None
@@ -126,7 +126,7 @@ pub fn bytes_at(world: &World, buffer: u32, r: Rank) -> Option<&[u8]> {
 
 /// The interface of a rank. `None`: there is no such rank.
 pub fn nic_at(world: &World, r: Rank) -> Option<&Nic> {
-    if r < world.schedule().shape().ranks() {
+    if r < world.schedule().ranks() {
         Some(world.nic(r))
     } else {
         None
@@ -135,7 +135,7 @@ pub fn nic_at(world: &World, r: Rank) -> Option<&Nic> {
 
 /// The local steps that a rank made. `None`: there is no such rank.
 pub fn history_at(world: &World, r: Rank) -> Option<&[LocalStep]> {
-    if r < world.schedule().shape().ranks() {
+    if r < world.schedule().ranks() {
         Some(world.history(r))
     } else {
         None
@@ -144,7 +144,7 @@ pub fn history_at(world: &World, r: Rank) -> Option<&[LocalStep]> {
 
 /// Where the done counter of a rank stands. `None`: there is no such rank.
 pub fn done_at(world: &World, r: Rank) -> Option<Count> {
-    if r < world.schedule().shape().ranks() {
+    if r < world.schedule().ranks() {
         Some(world.done(r))
     } else {
         None
@@ -154,7 +154,7 @@ pub fn done_at(world: &World, r: Rank) -> Option<Count> {
 /// Where the done counter of a rank stands when it is done. `None`: there is no such rank.
 pub fn due_at(world: &World, r: Rank) -> Option<Count> {
     let schedule = world.schedule();
-    if r < schedule.shape().ranks() {
+    if r < schedule.ranks() {
         successes(schedule.done(r))
     } else {
         None

@@ -25,7 +25,7 @@ fn inject(rt: &impl Abort, alloc: Global, world: &mut World)
     ensures { world.new.strays ≡ world.old.strays - 1 }
 {
     let schedule = world.schedule();
-    if schedule.shape().ranks() < 2 || schedule.lane(0, 1, Lane::Request) == 0 {
+    if schedule.ranks() < 2 || schedule.lane(0, 1, Lane::Request) == 0 {
         panic!(rt; "the lane is used")
     }
     let Ok(bytes) = Bytes::of(alloc, &[1]) else {

@@ -3,7 +3,7 @@
 use crate::answers::gives;
 use order_check::{Cause, Verdict, check};
 use order_lines::parse_check;
-use schedule_compiler::{Job, compile};
+use schedule_compiler::{Job, compile, shape_job};
 use std::alloc::Global;
 use std::process::Abort;
 
@@ -16,7 +16,7 @@ fn verdict(rt: &impl Abort, alloc: Global, text: &[u8]) -> Verdict {
     let Ok(schedule) = compile(alloc, &shape) else {
         panic!(rt; "a schedule")
     };
-    let Ok(job) = Job::new(alloc, schedule, inputs) else {
+    let Ok(job) = shape_job(alloc, &shape, schedule, inputs) else {
         panic!(rt; "a job")
     };
     let Ok(verdict) = check(alloc, &job, &orders) else {

@@ -1,8 +1,7 @@
 -- What holds of every world, and where no step is possible.
-use Rattle.std.proofs.Common.{ℕ, ◌+◌, ◌<◌, ◌≤◌, ◌≡◌, ◌∙◌, List, [], ◌∷◌, Some, refl, ap, arith, length}
-use Rattle.plan_core.specs.Draw.{held_cell}
+use Rattle.std.proofs.Common.{ℕ, ◌+◌, ◌<◌, ◌≤◌, ◌≡◌, List, [], ◌∷◌, refl, ap, subst, sym, arith, length}
 use Rattle.plan_core.specs.Places.{start_in}
-use Rattle.plan_core.specs.Plan.{own}
+use Rattle.plan_core.specs.Plan.{cell, own}
 use Rattle.cuts.specs.view.Slots.{Slots}
 use Rattle.cuts.specs.histories.Cut.{IsAtRest, IsCut}
 use Rattle.cuts.specs.histories.Plans.{IsComplete}
@@ -12,11 +11,8 @@ use Rattle.cuts.proofs.windows.Stuck.{none_stuck}
 use Rattle.rank_node.proofs.Nodes.{agrees}
 use Rattle.rank_node.specs.Handles.{slots_of}
 use Rattle.schedule_compiler.specs.Answers.{place_of}
-use Rattle.shape_plans.proofs.Final.{result-cell}
-use Rattle.shape_plans.specs.Drawing.{drawing_of, plan_of}
-use Rattle.job_laws.specs.Barriers.{AreBarriersKept}
-use Rattle.job_laws.specs.Results.{AreMeant, result_in}
-use Rattle.job_laws.proofs.Cuts.{cell_lies, complete_at, kept_in_cut, meant_where_complete, sound_for}
+use Rattle.cuts.specs.cells.Cells.{AreCellsInOrder, AreRoundsKept, AreValues, AreValuesAt}
+use Rattle.cuts.proofs.cells.Cells.{cell_lies, complete_at, complete_values, in_order, rounds_kept}
 use Rattle.worlds.specs.parts.Layout.{node_at}
 use Rattle.worlds.specs.Standing.{IsStanding}
 use Rattle.worlds.specs.World.{AreSlots, WorldState, histories_in, memory_in, ranks_in, scene_in, steps_in}
@@ -32,9 +28,13 @@ slots_given w is r h = agrees (node_at w.nodes r).kept (is.node r h).descriptors
 pub cut_in : (w : WorldState) (slots : ℕ → Slots) → IsStanding w → AreSlots w slots → IsCut (ranks_in w slots) (histories_in w)
 cut_in w slots is agree = (is.moment slots agree).cut
 
-pub barriers_in : (w : WorldState) (slots : ℕ → Slots) → IsStanding w → AreSlots w slots → AreBarriersKept w.shape w.inputs slots
-    (histories_in w)
-barriers_in w slots is agree = kept_in_cut w.shape w.inputs slots (histories_in w) is.formed is.accepted is.given (cut_in w slots is agree)
+pub order_in : (w : WorldState) (slots : ℕ → Slots) → IsStanding w → AreSlots w slots
+    → AreCellsInOrder w.schedule.plan w.inputs slots (histories_in w)
+order_in w slots is agree = in_order w.schedule.plan w.inputs is.sound is.fit slots (histories_in w) (cut_in w slots is agree)
+
+pub barriers_in : (w : WorldState) (slots : ℕ → Slots) → IsStanding w → AreSlots w slots
+    → AreRoundsKept w.schedule.plan w.inputs slots (histories_in w)
+barriers_in w slots is agree = rounds_kept w.schedule.plan w.inputs slots (histories_in w) (order_in w slots is agree)
 
 -- a list of no length
 pub none_in : {X : Type 0} (xs : List X) → length xs ≤ 0 → xs ≡ []
@@ -45,32 +45,30 @@ none_in (x ∷ xs) h = absurd (omega arith)
 module _ (w : WorldState) (slots : ℕ → Slots) (is : IsStanding w) (agree : AreSlots w slots) (none : steps_in w slots ≡ []) where
   pub rests : IsAtRest (ranks_in w slots) (histories_in w)
   rests =
-      still_rest (plan_of w.shape) w.inputs slots (scene_in w).world (scene_in w).held (is.moment slots agree)
-      (stuck_still (plan_of w.shape) w.inputs (sound_for w.shape w.inputs is.formed is.accepted is.given) slots (scene_in w).world
+      still_rest w.schedule.plan w.inputs slots (scene_in w).world (scene_in w).held (is.moment slots agree)
+      (stuck_still w.schedule.plan w.inputs is.sound slots (scene_in w).world
       (scene_in w).held w.window is.some
       (none_stuck (ranks_in w slots) w.window (scene_in w) none))
 
-  pub complete : (r : ℕ) → r < w.shape.ranks → IsComplete (plan_of w.shape) w.inputs slots (histories_in w) r
-  complete r h = complete_at w.shape w.inputs slots (histories_in w) is.formed is.accepted is.given (cut_in w slots is agree) rests r h
+  pub complete : (r : ℕ) → r < w.schedule.plan.ranks → IsComplete w.schedule.plan w.inputs slots (histories_in w) r
+  complete r h = complete_at w.schedule.plan w.inputs is.sound is.fit slots (histories_in w) (cut_in w slots is agree) rests r h
 
-  meant_by : AreMeant w.shape w.inputs (memory_in w)
-  meant_by b r hb hr =
-      ap (λ (s : State). result_in w.shape b r s.memory) (is.nic slots agree r hr)
-      ∙ meant_where_complete w.shape w.inputs slots (histories_in w) is.formed is.given complete b r hb hr
+  values_by : AreValues w.schedule.plan w.inputs (memory_in w)
+  values_by r hr =
+      subst (λ (s : State). AreValuesAt w.schedule.plan w.inputs r s.memory) (sym (is.nic slots agree r hr))
+      (complete_values w.schedule.plan w.inputs slots (histories_in w) r (complete r hr))
 
-pub meant : (w : WorldState) → IsStanding w → steps_in w (given_slots w) ≡ [] → AreMeant w.shape w.inputs (memory_in w)
-meant w is none = meant_by w (given_slots w) is (slots_given w is) none
+pub all_values : (w : WorldState) → IsStanding w → steps_in w (given_slots w) ≡ [] → AreValues w.schedule.plan w.inputs (memory_in w)
+all_values w is none = values_by w (given_slots w) is (slots_given w is) none
 
 -- the cell that holds a buffer lies in its rank's memory
-pub result_lies : (w : WorldState) → IsStanding w → (b r c : ℕ) → b < length w.shape.buffers → r < w.shape.ranks
-    → held_cell (drawing_of w.shape).held b r ≡ Some c
-    → (place_of (plan_of w.shape) c).start + (place_of (plan_of w.shape) c).length ≤ length (memory_in w r)
-result_lies w is b r c hb hr e =
+pub result_lies : (w : WorldState) → IsStanding w → (r c : ℕ) → r < w.schedule.plan.ranks → c < length w.schedule.plan.cells
+    → (cell w.schedule.plan c).rank ≡ r
+    → (place_of w.schedule.plan c).start + (place_of w.schedule.plan c).length ≤ length (memory_in w r)
+result_lies w is r c hr hc on =
     let slots = given_slots w in
     let agree = slots_given w is in
-    let cell_is = result-cell w.shape is.formed b r c hb hr e in
-    let lies = cell_lies w.shape w.inputs slots (histories_in w) is.formed is.accepted is.given (cut_in w slots is agree) r c hr
-    cell_is.in_plan cell_is.rank in
+    let lies = cell_lies w.schedule.plan w.inputs is.sound is.fit slots (histories_in w) (cut_in w slots is agree) r c hr hc on in
     let memory = ap (λ (s : State). length s.memory) (is.nic slots agree r hr) in
-    let here = ap (λ q. start_in (plan_of w.shape) (own (plan_of w.shape) q) c) cell_is.rank in
+    let here = ap (λ q. start_in w.schedule.plan (own w.schedule.plan q) c) on in
     omega (arith, lies, memory, here)

@@ -15,7 +15,6 @@ use Rattle.rank_node.specs.Handles.{Agrees}
 use Rattle.rank_node.specs.Node.{IsNode, NodeState}
 use Rattle.rank_node.specs.Plans.{IsCompiledFor}
 use Rattle.schedule_compiler.specs.Jobs.{JobOf}
-use Rattle.shape_plans.specs.Drawing.{plan_of}
 use Rattle.worlds.specs.declared.parts.acts.Setting.{Setting}
 use Rattle.worlds.specs.parts.Keeps.{AgreeAll, AreCounted, AreParts, AreShort, AreStrays, IsWorld, spare_on}
 use Rattle.worlds.specs.parts.Layout.{lane_at, node_at, scene_of}
@@ -52,7 +51,7 @@ told_gated x y t = record {
 }
 
 abbrev pub frame_of : JobOf → List Plain → FrameState
-frame_of job lanes = record { shape = job.shape; inputs = job.inputs; lanes = lanes }
+frame_of job lanes = record { schedule = job.schedule; inputs = job.inputs; lanes = lanes }
 
 -- for so many ranks under a window, without strays
 abbrev pub setting_of : ℕ → ℕ → Setting
@@ -61,10 +60,10 @@ setting_of n window = record { ranks = n; window = window; strays = 0; spare = 0
 module _ (job : JobOf) (m : ℕ) (lanes : List Plain) (ss ds fs : List ℕ) (framed : AreFramed job m lanes ss ds fs)
     (nodes : List NodeState) (may : MayClose (frame_of job lanes) nodes) where
   abbrev p : Plan
-  p = plan_of job.shape
+  p = job.schedule.plan
 
   abbrev n : ℕ
-  n = job.shape.ranks
+  n = job.schedule.plan.ranks
 
   pub many : length nodes ≡ m
   many = may.of_job.size ∙ sym framed.ranks
@@ -131,9 +130,6 @@ module _ (job : JobOf) (m : ℕ) (lanes : List Plain) (ss ds fs : List ℕ) (fra
 
     pub fields_closed : AreFields job (setting_of m frame_window) news lanes starts deliveries firings
     fields_closed = record {
-      formed = framed.formed;
-      accepted = framed.accepted;
-      given = framed.given;
       ranks = framed.ranks;
       spare = omega arith;
       world = subst (λ k. IsWorld p job.inputs k news lanes starts deliveries firings frame_window 0 0) (sym framed.ranks) (record {
@@ -145,7 +141,7 @@ module _ (job : JobOf) (m : ℕ) (lanes : List Plain) (ss ds fs : List ℕ) (fra
 
     pub closed : IsClosed (frame_of job lanes) nodes (state_of job (setting_of m frame_window) news lanes)
     closed = record {
-      shape = refl;
+      schedule = refl;
       inputs = refl;
       window = refl;
       strays = refl;

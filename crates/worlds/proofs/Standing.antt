@@ -16,7 +16,6 @@ use Rattle.cuts.specs.windows.Possible.{possible_steps}
 use Rattle.rank_node.specs.Gates.{open_numbers}
 use Rattle.rank_node.specs.Node.{NodeState}
 use Rattle.schedule_compiler.specs.Jobs.{JobOf}
-use Rattle.shape_plans.specs.Drawing.{plan_of}
 use Rattle.worlds.specs.declared.parts.acts.Setting.{Setting}
 use Rattle.worlds.specs.parts.Keeps.{AgreeAll, IsWorld}
 use Rattle.worlds.specs.parts.Layout.{node_at, scene_of}
@@ -76,25 +75,24 @@ module _ (p : Plan) (inputs : Inputs) (n : ℕ) (nodes : List NodeState) (lanes 
 
 module _ (job : JobOf) (setting : Setting) (nodes : List NodeState) (lanes : List Plain) (starts deliveries firings : List ℕ)
     (fields : AreFields job setting nodes lanes starts deliveries firings) where
-  -- by the shape's ranks
-  pub world_is : IsWorld (plan_of job.shape) job.inputs job.shape.ranks nodes lanes starts deliveries firings setting.window
+  -- by the plan's ranks
+  pub world_is : IsWorld job.schedule.plan job.inputs job.schedule.plan.ranks nodes lanes starts deliveries firings setting.window
       setting.strays setting.spare
   world_is =
-      subst (λ n. IsWorld (plan_of job.shape) job.inputs n nodes lanes starts deliveries firings setting.window setting.strays
+      subst (λ n. IsWorld job.schedule.plan job.inputs n nodes lanes starts deliveries firings setting.window setting.strays
       setting.spare)
       fields.ranks fields.world
 
   pub stands : IsStanding (state_of job setting nodes lanes)
   stands = record {
-    formed = fields.formed;
-    accepted = fields.accepted;
-    given = fields.given;
+    sound = fields.world.parts.sound;
+    fit = fields.world.parts.fit;
     some = fields.world.parts.some;
     size = world_is.parts.size;
     node = world_is.parts.node;
     nic = λ slots agree r h.
-        rank-state (plan_of job.shape) job.inputs slots (scene_of job.shape.ranks nodes lanes) r (node_at nodes r)
-        (rank_is (plan_of job.shape) job.inputs job.shape.ranks nodes lanes starts deliveries firings setting.window setting.strays
+        rank-state job.schedule.plan job.inputs slots (scene_of job.schedule.plan.ranks nodes lanes) r (node_at nodes r)
+        (rank_is job.schedule.plan job.inputs job.schedule.plan.ranks nodes lanes starts deliveries firings setting.window setting.strays
         setting.spare world_is slots agree r h);
     moment = world_is.parts.moment;
     at_most = world_is.stray.at_most;
@@ -103,14 +101,15 @@ module _ (job : JobOf) (setting : Setting) (nodes : List NodeState) (lanes : Lis
 
   pub number : (slots : ℕ → Slots) → AreSlots (state_of job setting nodes lanes) slots
       → sum starts + (sum deliveries + sum firings) ≡ length (steps_in (state_of job setting nodes lanes) slots)
-  number slots agree = total (plan_of job.shape) job.inputs job.shape.ranks nodes lanes starts deliveries firings setting.window
+  number slots agree = total job.schedule.plan job.inputs job.schedule.plan.ranks nodes lanes starts deliveries firings setting.window
       setting.strays setting.spare world_is slots agree
 
   -- the step of a number, by the counts
   pub start_in : (slots : ℕ → Slots) → AreSlots (state_of job setting nodes lanes) slots → (r rest i : ℕ) → r < length starts
       → sum (take r starts) + rest ≡ i
       → rest < get_or starts r 0 → i < sum starts → slice_get (steps_in (state_of job setting nodes lanes) slots) i ≡ Some (Start r)
-  start_in slots agree = start_found (plan_of job.shape) job.inputs job.shape.ranks nodes lanes starts deliveries firings setting.window
+  start_in slots agree = start_found job.schedule.plan job.inputs job.schedule.plan.ranks nodes lanes starts deliveries firings
+      setting.window
       setting.strays setting.spare world_is slots agree
 
   pub delivery_in : (slots : ℕ → Slots) → AreSlots (state_of job setting nodes lanes) slots → (j rest i : ℕ) → j < length deliveries
@@ -119,7 +118,8 @@ module _ (job : JobOf) (setting : Setting) (nodes : List NodeState) (lanes : Lis
       → slice_get (steps_in (state_of job setting nodes lanes) slots) (sum starts + i) ≡ Some
       (Deliver (source_at setting.ranks j) (destination_at setting.ranks j) (kind_at j))
   delivery_in slots agree j rest i h before within small =
-      delivery_found (plan_of job.shape) job.inputs job.shape.ranks nodes lanes starts deliveries firings setting.window setting.strays
+      delivery_found job.schedule.plan job.inputs job.schedule.plan.ranks nodes lanes starts deliveries firings setting.window
+      setting.strays
       setting.spare world_is slots agree j rest i h before within small
       ∙ ap (λ n. Some (Deliver (source_at n j) (destination_at n j) (kind_at j))) (sym fields.ranks)
 
@@ -129,7 +129,7 @@ module _ (job : JobOf) (setting : Setting) (nodes : List NodeState) (lanes : Lis
       → slice_get (steps_in (state_of job setting nodes lanes) slots) (sum starts + (sum deliveries + i)) ≡ Some (Fire r t)
   firing_in slots agree r rest i t h before within small number =
       let size = world_is.counted.wide_firings in
-      firing_found (plan_of job.shape) job.inputs job.shape.ranks nodes lanes starts deliveries firings setting.window setting.strays
+      firing_found job.schedule.plan job.inputs job.schedule.plan.ranks nodes lanes starts deliveries firings setting.window setting.strays
       setting.spare world_is slots agree r rest i t (omega (arith, h, size)) before within small number
 
   -- a rank with firings has a node, which has as many ready

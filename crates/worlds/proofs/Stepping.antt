@@ -15,10 +15,7 @@ use Rattle.cuts.proofs.windows.Falling.{falls}
 use Rattle.cuts.proofs.windows.Lanes.{begins}
 use Rattle.cuts.specs.windows.Left.{steps_left}
 use Rattle.cuts.specs.windows.Possible.{possible_steps}
-use Rattle.shape_plans.proofs.Final.{fine-shape, inputs_fit}
-use Rattle.shape_plans.specs.Drawing.{plan_of}
-use Rattle.coll_shape.specs.Outline.{Outline}
-use Rattle.job_laws.proofs.Cuts.{sound_for}
+use Rattle.schedule_compiler.specs.Schedules.{ScheduleOf}
 use Rattle.worlds.specs.Standing.{IsStanding}
 use Rattle.worlds.specs.Later.{IsLater}
 use Rattle.worlds.specs.Runs.{IsRun, Running, chosen_run, chosen_step}
@@ -52,7 +49,7 @@ prefix_on xs ys zs a b = (a.0 ++ b.0, sym (append_assoc xs a.0 b.0) ∙ ap (λ q
 
 pub same_world : (w : WorldState) → IsLater w w
 same_world w = record {
-  shape = refl;
+  schedule = refl;
   inputs = refl;
   window = refl;
   spare = refl;
@@ -62,7 +59,7 @@ same_world w = record {
 
 pub later_on : (u w v : WorldState) → IsLater u w → IsLater w v → IsLater u v
 later_on u w v a b = record {
-  shape = b.shape ∙ a.shape;
+  schedule = b.schedule ∙ a.schedule;
   inputs = b.inputs ∙ a.inputs;
   window = b.window ∙ a.window;
   spare = b.spare ∙ a.spare;
@@ -72,25 +69,25 @@ later_on u w v a b = record {
 
 -- ---- a step leaves fewer
 abbrev pub left_in : WorldState → ℕ
-left_in w = steps_left (plan_of w.shape) w.spare (scene_in w)
+left_in w = steps_left w.schedule.plan w.spare (scene_in w)
 
 pub fallen : (w v : WorldState) (x : Step) → IsStanding w → IsStanding v → IsLater w v → MayMake x w → IsMade x w v → left_in v < left_in w
 fallen w v x is stood on may made =
     let slots = given_slots v in
     let agree = slots_given v stood in
-    let same : left_in v ≡ steps_left (plan_of w.shape) w.spare (step_made (ranks_in w slots) x (scene_in w)) =
-    ap₂ (λ o n. steps_left (plan_of o) n (scene_in v)) on.shape on.spare ∙ ap (steps_left (plan_of w.shape) w.spare) (made slots agree) in
-    let less = falls (plan_of w.shape) w.inputs (sound_for w.shape w.inputs is.formed is.accepted is.given)
-    (inputs_fit w.shape w.inputs is.formed is.given)
+    let same : left_in v ≡ steps_left w.schedule.plan w.spare (step_made (ranks_in w slots) x (scene_in w)) =
+    ap₂ (λ (o : ScheduleOf) n. steps_left o.plan n (scene_in v)) on.schedule on.spare
+    ∙ ap (steps_left w.schedule.plan w.spare) (made slots agree) in
+    let less = falls w.schedule.plan w.inputs is.sound
+    is.fit
     slots w.spare (scene_in w) w.window x (is.moment slots (on.slots slots agree)) (may slots (on.slots slots agree))
     (λ r h. subst (λ (z : Scene). count_by is_received_stray (z.world r) ≤ w.spare) (made slots agree) (at_most r h)) in
     omega (arith, same, less)
   where
-    at_most : (r : ℕ) → r < (plan_of w.shape).ranks → count_by is_received_stray (histories_in v r) ≤ w.spare
+    at_most : (r : ℕ) → r < w.schedule.plan.ranks → count_by is_received_stray (histories_in v r) ≤ w.spare
     at_most r h =
-        let a = (fine-shape w.shape is.formed).ranks in
-        let b = ap (λ (o : Outline). o.ranks) on.shape in
-        let c = stood.at_most r (omega (arith, h, a, b)) in
+        let b = ap (λ (o : ScheduleOf). o.plan.ranks) on.schedule in
+        let c = stood.at_most r (omega (arith, h, b)) in
         let d = on.spare in
         omega (arith, c, d)
 
@@ -99,7 +96,7 @@ abbrev pub LeadsTo : WorldState → WorldState → Type 0
 LeadsTo u w = (slots : ℕ → Slots) → AreSlots w slots → IsRun (ranks_in u slots) u.window (scene_in u) (scene_in w)
 
 same_ranks : (u w : WorldState) (slots : ℕ → Slots) → IsLater u w → ranks_in w slots ≡ ranks_in u slots
-same_ranks u w slots on = ap₂ (λ o given. system_of (plan_of o) given slots) on.shape on.inputs
+same_ranks u w slots on = ap₂ (λ (o : ScheduleOf) given. system_of o.plan given slots) on.schedule on.inputs
 
 same_steps : (u w : WorldState) (slots : ℕ → Slots) → IsLater u w → possible_steps (ranks_in u slots) u.window (scene_in w) ≡ steps_in w
     slots

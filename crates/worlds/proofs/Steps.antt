@@ -33,9 +33,6 @@ use Rattle.cuts.proofs.windows.Lanes.{held_few}
 use Rattle.cuts.specs.windows.Named.{named}
 use Rattle.cuts.specs.windows.Places.{lane_place}
 use Rattle.cuts.specs.windows.Possible.{finds_room, is_possible, possible_steps}
-use Rattle.shape_plans.proofs.Final.{fine-shape, inputs_fit}
-use Rattle.shape_plans.specs.Drawing.{plan_of}
-use Rattle.job_laws.proofs.Cuts.{sound_for}
 use Rattle.worlds.specs.parts.Layout.{lane_at}
 use Rattle.worlds.proofs.parts.Held.{held_here}
 use Rattle.worlds.proofs.parts.Sets.{part_le}
@@ -125,20 +122,15 @@ lane_small p inputs sound s d Answer = at p.remote (links_small p inputs sound d
 
 -- ---- of a world
 module _ (w : WorldState) (slots : ℕ → Slots) (is : IsStanding w) (agree : AreSlots w slots) where
-  sound : SoundPlan (plan_of w.shape) (length w.inputs)
-  sound = sound_for w.shape w.inputs is.formed is.accepted is.given
-
   pub once : Distinct (steps_in w slots)
   once =
       Distinct-filter (is_possible (ranks_in w slots) w.window (scene_in w)) (enabled_steps (ranks_in w slots) (scene_in w))
       (once_each (ranks_in w slots) (scene_in w)
-      (λ r h. ready_rise combined-starts (plan_of w.shape) w.inputs (sound_for w.shape w.inputs is.formed is.accepted is.given)
-      (inputs_fit w.shape w.inputs is.formed is.given) slots (scene_in w).world (is.moment slots agree).cut r h))
+      (λ r h. ready_rise combined-starts w.schedule.plan w.inputs is.sound
+      is.fit slots (scene_in w).world (is.moment slots agree).cut r h))
 
-  ranks_are : (plan_of w.shape).ranks ≡ w.shape.ranks
-  ranks_are = (fine-shape w.shape is.formed).ranks
-
-  strays_on : (s d : ℕ) (lane : Lane) → s < w.shape.ranks → d < w.shape.ranks → count_by is_stray ((scene_in w).held s d lane) ≤ w.spare
+  strays_on : (s d : ℕ) (lane : Lane) → s < w.schedule.plan.ranks → d < w.schedule.plan.ranks
+      → count_by is_stray ((scene_in w).held s d lane) ≤ w.spare
   strays_on s d Answer hs hd = let a = none_count ((scene_in w).held s d Answer) clean in omega (arith, a)
     where
       asks : Answer ≡ Request → ⊥
@@ -147,30 +139,29 @@ module _ (w : WorldState) (slots : ℕ → Slots) (is : IsStanding w) (agree : A
       clean : (m : Sent) → In m ((scene_in w).held s d Answer) → is_stray m ≡ false
       clean m i = elim (cases_Bool (is_stray m)) [
         | inr e ↦ e
-        | inl e ↦ (let c = ranks_are in absurd (asks ((is.moment slots agree).strays s d Answer m (omega (arith, hs, c))
-            (omega (arith, hd, c)) i e).asks))
+        | inl e ↦ absurd (asks ((is.moment slots agree).strays s d Answer m hs hd i e).asks)
       ]
   strays_on s d Request hs hd =
-      let here = ap (count_by is_stray) (held_here w.shape.ranks w.lanes s d Request hs hd) in
-      let part = part_le (λ q. count_by is_stray (lane_at w.lanes (lane_place w.shape.ranks q d Request)).messages) s 0 w.shape.ranks
+      let here = ap (count_by is_stray) (held_here w.schedule.plan.ranks w.lanes s d Request hs hd) in
+      let part = part_le (λ q. count_by is_stray (lane_at w.lanes (lane_place w.schedule.plan.ranks q d Request)).messages) s 0
+      w.schedule.plan.ranks
       (omega arith) (omega (arith, hs)) in
       let at_most = is.at_most d hd in
       omega (arith, here, part, at_most)
 
-  held_small : (s d : ℕ) (lane : Lane) → s < (plan_of w.shape).ranks → d < (plan_of w.shape).ranks
+  held_small : (s d : ℕ) (lane : Lane) → s < w.schedule.plan.ranks → d < w.schedule.plan.ranks
       → length ((scene_in w).held s d lane) < 2 ^ 33
   held_small s d lane hs hd =
-      let c = ranks_are in
       let a = owned_and_strays ((scene_in w).held s d lane) in
-      let b = strays_on s d lane (omega (arith, hs, c)) (omega (arith, hd, c)) in
+      let b = strays_on s d lane hs hd in
       let moment = is.moment slots agree in
-      let at_most = held_few (ranks_in w slots) (scene_in w) s d lane (lane_messages (plan_of w.shape) s d lane) moment hs hd
-      (lane_few combined-starts (plan_of w.shape) w.inputs sound (inputs_fit w.shape w.inputs is.formed is.given) slots
+      let at_most = held_few (ranks_in w slots) (scene_in w) s d lane (lane_messages w.schedule.plan s d lane) moment hs hd
+      (lane_few combined-starts w.schedule.plan w.inputs is.sound is.fit slots
       (scene_in w).world moment.cut s d lane hs hd) in
-      let small = lane_small (plan_of w.shape) (length w.inputs) sound s d lane in
+      let small = lane_small w.schedule.plan (length w.inputs) is.sound s d lane in
       let spare = is.spare in
       omega (arith, a, b, at_most, small, spare)
 
   pub widest : 2 ^ 33 ≤ w.window → steps_in w slots ≡ enabled_steps (ranks_in w slots) (scene_in w)
-  widest wide = all_possible (plan_of w.shape) w.inputs sound slots w.window (scene_in w)
+  widest wide = all_possible w.schedule.plan w.inputs is.sound slots w.window (scene_in w)
       (λ s d lane hs hd. let a = held_small s d lane hs hd in omega (arith, a, wide))

@@ -14,4 +14,4 @@ with_lane f at lane = record f { lanes = slice_set f.lanes at lane }
 
 -- once the borrow ends, the lane is what was last left there
 abbrev pub LendsLane : MutBor FrameState → ℕ → ℕ → Lane → MutBor Plain → Fml
-LendsLane f s d lane r = Lends the_row lane_row f r (with_lane f.now (lane_place f.now.shape.ranks s d lane))
+LendsLane f s d lane r = Lends the_row lane_row f r (with_lane f.now (lane_place f.now.schedule.plan.ranks s d lane))

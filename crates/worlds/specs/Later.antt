@@ -8,7 +8,7 @@ use Rattle.worlds.specs.World.{AreSlots, WorldState, histories_in, scene_in}
 
 -- a world of this job under a window, with room for so many strays, in which nothing was done and nothing is on its way
 pub record IsOpened (job : JobOf) (limit room : ℕ) (w : WorldState) : Type 0 where
-  pub shape : w.shape ≡ job.shape
+  pub schedule : w.schedule ≡ job.schedule
   pub inputs : w.inputs ≡ job.inputs
   pub window : w.window ≡ limit
   pub strays : w.strays ≡ room
@@ -18,7 +18,7 @@ pub record IsOpened (job : JobOf) (limit room : ℕ) (w : WorldState) : Type 0 w
 -- of the same job under the same window; each history begins with what it was; and slots that agree with what was given by now agree
 -- with what was given before
 pub record IsLater (w v : WorldState) : Type 0 where
-  pub shape : v.shape ≡ w.shape
+  pub schedule : v.schedule ≡ w.schedule
   pub inputs : v.inputs ≡ w.inputs
   pub window : v.window ≡ w.window
   pub spare : v.spare ≡ w.spare

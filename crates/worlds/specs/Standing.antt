@@ -1,13 +1,10 @@
 -- What holds of a world whatever was done with it.
-use Rattle.std.specs.Prelude.{ℕ, ◌+◌, ◌^◌, ◌<◌, ◌≤◌, ◌≡◌, List, None, length}
+use Rattle.std.specs.Prelude.{ℕ, ◌+◌, ◌^◌, ◌<◌, ◌≤◌, ◌≡◌, List, length}
 use Rattle.pair_wires.specs.Lanes.{Plain}
 use Rattle.cuts.specs.view.Slots.{Slots}
 use Rattle.cuts.specs.histories.Moment.{IsMoment}
 use Rattle.cuts.specs.histories.System.{state_at}
-use Rattle.coll_shape.specs.Meaning.{AreInputs}
-use Rattle.coll_shape.specs.WellFormed.{IsWellFormed}
-use Rattle.shape_plans.specs.Footprint.{refusal}
-use Rattle.shape_plans.specs.Drawing.{plan_of}
+use Rattle.plan_core.specs.Sound.{AreInputsOf, SoundPlan}
 use Rattle.schedule_compiler.specs.Jobs.{JobOf}
 use Rattle.rank_node.specs.Node.{IsNode, NodeState}
 use Rattle.worlds.specs.declared.parts.acts.Setting.{Setting}
@@ -15,29 +12,25 @@ use Rattle.worlds.specs.parts.Keeps.{IsWorld, strays_for}
 use Rattle.worlds.specs.parts.Layout.{node_at}
 use Rattle.worlds.specs.World.{AreSlots, WorldState, histories_in, nic_in, ranks_in, scene_in}
 
--- the shape was accepted and the inputs are its; there is a node for each rank, whose interface is that of the end of its history; the
+-- the plan is sound for the inputs, and they fit; there is a node for each rank, whose interface is that of the end of its history; the
 -- histories are a cut, and on each lane what was sent is what was received, followed by what is held; and no more strays came, lie in
 -- lanes and are left than may be injected in all
 pub record IsStanding (w : WorldState) : Type 0 where
-  pub formed : IsWellFormed w.shape
-  pub accepted : refusal w.shape ≡ None
-  pub given : AreInputs w.shape w.inputs
+  pub sound : SoundPlan w.schedule.plan (length w.inputs)
+  pub fit : AreInputsOf w.schedule.plan w.inputs
   pub some : 0 < w.window
-  pub size : length w.nodes ≡ w.shape.ranks
-  pub node : (r : ℕ) → r < w.shape.ranks → IsNode (node_at w.nodes r)
-  pub nic : (slots : ℕ → Slots) → AreSlots w slots → (r : ℕ) → r < w.shape.ranks →
+  pub size : length w.nodes ≡ w.schedule.plan.ranks
+  pub node : (r : ℕ) → r < w.schedule.plan.ranks → IsNode (node_at w.nodes r)
+  pub nic : (slots : ℕ → Slots) → AreSlots w slots → (r : ℕ) → r < w.schedule.plan.ranks →
       nic_in w r ≡ state_at (ranks_in w slots) (histories_in w) r
   pub moment : (slots : ℕ → Slots) → AreSlots w slots → IsMoment (ranks_in w slots) (scene_in w).world (scene_in w).held
-  pub at_most : (r : ℕ) → r < w.shape.ranks → strays_for w.shape.ranks w.nodes w.lanes r + w.strays ≤ w.spare
+  pub at_most : (r : ℕ) → r < w.schedule.plan.ranks → strays_for w.schedule.plan.ranks w.nodes w.lanes r + w.strays ≤ w.spare
   pub spare : w.spare < 2 ^ 32
 
 -- what the fields of a world keep
 pub record AreFields (job : JobOf) (setting : Setting) (nodes : List NodeState) (lanes : List Plain)
     (starts deliveries firings : List ℕ) : Type 0 where
-  pub formed : IsWellFormed job.shape
-  pub accepted : refusal job.shape ≡ None
-  pub given : AreInputs job.shape job.inputs
-  pub ranks : setting.ranks ≡ job.shape.ranks
+  pub ranks : setting.ranks ≡ job.schedule.plan.ranks
   pub spare : setting.spare < 2 ^ 32
-  pub world : IsWorld (plan_of job.shape) job.inputs setting.ranks nodes lanes starts deliveries firings
+  pub world : IsWorld job.schedule.plan job.inputs setting.ranks nodes lanes starts deliveries firings
       setting.window setting.strays setting.spare

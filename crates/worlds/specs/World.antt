@@ -12,16 +12,15 @@ use Rattle.cuts.specs.declared.orders.Step.{Step}
 use Rattle.cuts.specs.windows.Possible.{possible_steps}
 use Rattle.rank_node.specs.Node.{NodeState}
 use Rattle.schedule_compiler.specs.Jobs.{JobOf}
-use Rattle.coll_shape.specs.Outline.{Outline}
-use Rattle.shape_plans.specs.Drawing.{plan_of}
+use Rattle.schedule_compiler.specs.Schedules.{ScheduleOf}
 use Rattle.worlds.specs.declared.parts.acts.Setting.{Setting}
 use Rattle.worlds.specs.parts.Keeps.{AgreeAll}
 use Rattle.worlds.specs.parts.Layout.{node_at, scene_of}
 
--- the shape and its inputs; a node for each rank; the lanes by source, target, request before answer; how many messages a lane may
+-- the schedule and its inputs; a node for each rank; the lanes by source, target, request before answer; how many messages a lane may
 -- hold before a step that would put one there has to wait; how many strays may still be injected, and how many in all
 pub record WorldState : Type 0 where
-  pub shape : Outline
+  pub schedule : ScheduleOf
   pub inputs : Inputs
   pub nodes : List NodeState
   pub lanes : List Plain
@@ -32,7 +31,7 @@ pub record WorldState : Type 0 where
 -- the world of a job with such parts
 abbrev pub state_of : JobOf → Setting → List NodeState → List Plain → WorldState
 state_of job setting nodes lanes = record {
-  shape = job.shape;
+  schedule = job.schedule;
   inputs = job.inputs;
   nodes = nodes;
   lanes = lanes;
@@ -43,15 +42,15 @@ state_of job setting nodes lanes = record {
 
 -- slots that agree with the handles that were given so far
 abbrev pub AreSlots : WorldState → (ℕ → Slots) → Type 0
-AreSlots w slots = AgreeAll w.shape.ranks slots w.nodes
+AreSlots w slots = AgreeAll w.schedule.plan.ranks slots w.nodes
 
--- the ranks of the shape's plan, under such slots
+-- the ranks of the plan, under such slots
 abbrev pub ranks_in : WorldState → (ℕ → Slots) → System
-ranks_in w slots = system_of (plan_of w.shape) w.inputs slots
+ranks_in w slots = system_of w.schedule.plan w.inputs slots
 
 -- the histories, and what is on its way
 abbrev pub scene_in : WorldState → Scene
-scene_in w = scene_of w.shape.ranks w.nodes w.lanes
+scene_in w = scene_of w.schedule.plan.ranks w.nodes w.lanes
 
 -- the history of each rank
 abbrev pub histories_in : WorldState → Histories

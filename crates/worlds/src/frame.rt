@@ -4,7 +4,6 @@ ghost use Rattle.std.specs.Prelude.{true, ◌≡◌, ◌<◌, IfOk};
 ghost use Rattle.std.specs.Borrow.{sem};
 ghost use Rattle.plan_calls.specs.Lanes.{is_used_lane};
 ghost use Rattle.cuts.specs.windows.Places.{lane_place};
-ghost use Rattle.shape_plans.specs.Drawing.{plan_of};
 ghost use Rattle.worlds.specs.parts.Layout.{lane_at};
 ghost use Rattle.worlds.specs.Frames.{IsClosed, IsFrameOf, MayClose};
 
@@ -36,7 +35,7 @@ impl Model for Frame {
 
     ghost Value = { FrameState };
 
-    ghost view = { λ f. record { shape = f.job.shape; inputs = f.job.inputs; lanes = f.lanes.items } };
+    ghost view = { λ f. record { schedule = f.job.schedule; inputs = f.job.inputs; lanes = f.lanes.items } };
 
     ghost invariant = { λ f. AreFramed f.job f.ranks f.lanes.items f.starts f.deliveries f.firings };
 }
@@ -67,9 +66,6 @@ impl Frame {
     pub fn open(alloc: Global, job: &Job) -> Result<Frame, NoMemory>
         ensures { IfOk result (λ frame. IsFrameOf job.now frame) }
     {
-        // What every job keeps is told here.
-        job.schedule().shape().keeps_form();
-        let _ = job.inputs();
         let shared = job.share()?;
         let parts = open_bare(alloc, job)?;
         Ok(Frame {
@@ -84,11 +80,11 @@ impl Frame {
 
     /// The lane from a rank to a rank, which the job uses, to put messages into.
     pub fn lane(&mut self, s: Rank, d: Rank, lane: Lane) -> &mut PlainLane
-        requires source { s < self.old.shape.ranks }
-        requires target { d < self.old.shape.ranks }
-        requires used { is_used_lane (plan_of self.old.shape) s d lane ≡ true }
+        requires source { s < self.old.schedule.plan.ranks }
+        requires target { d < self.old.schedule.plan.ranks }
+        requires used { is_used_lane self.old.schedule.plan s d lane ≡ true }
         ensures* writes_back { sem 𝓛 (LendsLane self.entry s d lane result) }
-        ensures value { result.now ≡ lane_at self.old.lanes (lane_place self.old.shape.ranks s d lane) }
+        ensures value { result.now ≡ lane_at self.old.lanes (lane_place self.old.schedule.plan.ranks s d lane) }
     {
         let at = place(self.ranks, s, d, lane);
         &mut self.lanes[at]

@@ -10,7 +10,7 @@ ghost use Rattle.cuts.specs.orders.Chosen.{IsChosen, Scene, enabled_steps, first
 ghost use Rattle.cuts.specs.declared.orders.Step.{Step};
 ghost use Rattle.cuts.specs.windows.Named.{named};
 ghost use Rattle.cuts.specs.windows.Possible.{possible_steps};
-ghost use Rattle.job_laws.specs.Barriers.{AreBarriersKept, AreStepsInOrder};
+ghost use Rattle.cuts.specs.cells.Cells.{AreCellsInOrder, AreRoundsKept};
 ghost use Rattle.worlds.specs.Runs.{chosen_run};
 ghost use Rattle.worlds.specs.Standing.{IsStanding};
 ghost use Rattle.worlds.specs.World.{AreSlots, WorldState, histories_in, ranks_in, scene_in, steps_in};
@@ -21,13 +21,13 @@ pub fn slots_agree()
     ensures { (w : WorldState) → IsStanding w → ((slots : ℕ → Slots) × AreSlots w slots) }
 {}
 
-/// The histories of a world are a cut, the steps of each rank follow each other, and every barrier is kept.
+/// The histories of a world are a cut, each cell is reached after those that lead to it, and every dissemination is kept.
 pub fn worlds_stand()
     ensures cut { (w : WorldState) (slots : ℕ → Slots) → IsStanding w → AreSlots w slots → IsCut (ranks_in w slots) (histories_in w) }
-    ensures steps { (w : WorldState) (slots : ℕ → Slots) → IsStanding w → AreSlots w slots →
-        AreStepsInOrder w.shape w.inputs slots (histories_in w) }
+    ensures order { (w : WorldState) (slots : ℕ → Slots) → IsStanding w → AreSlots w slots →
+        AreCellsInOrder w.schedule.plan w.inputs slots (histories_in w) }
     ensures barriers { (w : WorldState) (slots : ℕ → Slots) → IsStanding w → AreSlots w slots →
-        AreBarriersKept w.shape w.inputs slots (histories_in w) }
+        AreRoundsKept w.schedule.plan w.inputs slots (histories_in w) }
 {}
 
 /// The possible steps are local steps of ranks that are enabled, and possible under the window; none is listed twice; and under the

@@ -12,14 +12,12 @@ ghost use Rattle.cuts.specs.histories.Plans.{IsComplete};
 ghost use Rattle.cuts.specs.histories.System.{state_at};
 ghost use Rattle.cuts.specs.orders.Chosen.{step_made};
 ghost use Rattle.cuts.specs.orders.Taking.{listed};
-ghost use Rattle.shape_plans.specs.Drawing.{plan_of};
 ghost use Rattle.rank_node.specs.Node.{stray_bytes};
 ghost use Rattle.cuts.specs.done.Done.{HasCounted};
-ghost use Rattle.job_laws.specs.Barriers.{AreBarriersKept};
-ghost use Rattle.job_laws.specs.Results.{AreMeant, AreMeantAt, result_in};
+ghost use Rattle.cuts.specs.cells.Cells.{AreRoundsKept, AreValues, AreValuesAt, result_in};
 ghost use Rattle.worlds.specs.parts.Steps.{injected};
 ghost use Rattle.worlds.specs.opening.Laying.{FitLanes};
-ghost use Rattle.worlds.specs.Done.{StaysAlone, StaysMeant};
+ghost use Rattle.worlds.specs.Done.{KeepsValues, StaysAlone};
 ghost use Rattle.worlds.specs.Standing.{AreFields, IsStanding};
 ghost use Rattle.worlds.specs.Later.{IsLater, IsOpened};
 ghost use Rattle.worlds.specs.Runs.{IsRun, chosen_run};
@@ -72,7 +70,7 @@ impl Model for World {
     ghost Value = { WorldState };
 
     ghost view = { λ w. record {
-      shape = w.job.shape;
+      schedule = w.job.schedule;
       inputs = w.job.inputs;
       nodes = w.nodes.items;
       lanes = w.lanes.items;
@@ -102,7 +100,7 @@ impl Drop for World {
 
 /// A job's plan has few links.
 fn few_links(job: &Job)
-    ensures { FitLanes (plan_of job.now.shape) 0 }
+    ensures { FitLanes job.now.schedule.plan 0 }
 {
     let _ = job.schedule().plan();
 }
@@ -141,7 +139,7 @@ impl World {
     ///
     /// There was no memory for it.
     pub fn open_with_strays(alloc: Global, job: &Job, strays: u32) -> Result<World, NoMemory>
-        requires { FitLanes (plan_of job.now.shape) strays }
+        requires { FitLanes job.now.schedule.plan strays }
         ensures { IfOk result (λ world. IsOpened job.now u64.MAX strays world) }
     {
         World::opened(alloc, job, u64::MAX, strays)
@@ -150,12 +148,9 @@ impl World {
     /// Under a window, and with room for strays.
     fn opened(alloc: Global, job: &Job, window: u64, strays: u32) -> Result<World, NoMemory>
         requires window { 0 < window }
-        requires at_most { FitLanes (plan_of job.now.shape) strays }
+        requires at_most { FitLanes job.now.schedule.plan strays }
         ensures { IfOk result (λ world. IsOpened job.now window strays world) }
     {
-        // What every job keeps is told here.
-        job.schedule().shape().keeps_form();
-        let _ = job.inputs();
         let shared = job.share()?;
         let parts = parts_of_job(alloc, job, window, strays)?;
         Ok(World {
@@ -187,14 +182,14 @@ impl World {
 
     /// The schedule.
     pub fn schedule(&self) -> &Schedule
-        ensures { result.now ≡ self.now.shape }
+        ensures { result.now ≡ self.now.schedule }
     {
         self.job.schedule()
     }
 
     /// The job.
     pub fn job(&self) -> &Job
-        ensures { result.now ≡ record { shape = self.now.shape; inputs = self.now.inputs } }
+        ensures { result.now ≡ record { schedule = self.now.schedule; inputs = self.now.inputs } }
     {
         &self.job
     }
@@ -256,7 +251,7 @@ impl World {
         ensures later { IsLater self.old self.new }
         ensures strays { self.new.strays ≡ self.old.strays }
         ensures barriers { (slots : ℕ → Slots) → AreSlots self.new slots →
-            AreBarriersKept self.new.shape self.new.inputs slots (histories_in self.new) }
+            AreRoundsKept self.new.schedule.plan self.new.inputs slots (histories_in self.new) }
     {
         make(
             self.setting,
@@ -269,21 +264,20 @@ impl World {
         );
     }
 
-    /// Whether no step is possible. Then the world is at rest: each rank is complete, and each buffer at each rank is what the
-    /// description means of the inputs.
+    /// Whether no step is possible. Then the world is at rest: each rank is complete, and each cell holds its value, in its
+    /// rank's memory.
     pub fn at_rest(&self) -> bool
         ensures exact { (slots : ℕ → Slots) → AreSlots self.now slots → (IsTrue result ↔ (steps_in self.now slots ≡ [])) }
         ensures rest { IsTrue result → (slots : ℕ → Slots) → AreSlots self.now slots →
             IsAtRest (ranks_in self.now slots) (histories_in self.now) }
-        ensures complete { IsTrue result → (slots : ℕ → Slots) → AreSlots self.now slots → (r : ℕ) → r < self.now.shape.ranks →
-            IsComplete (plan_of self.now.shape) self.now.inputs slots (histories_in self.now) r }
-        ensures meant { IsTrue result → AreMeant self.now.shape self.now.inputs (memory_in self.now) }
+        ensures complete { IsTrue result → (slots : ℕ → Slots) → AreSlots self.now slots → (r : ℕ) → r < self.now.schedule.plan.ranks →
+            IsComplete self.now.schedule.plan self.now.inputs slots (histories_in self.now) r }
+        ensures values { IsTrue result → AreValues self.now.schedule.plan self.now.inputs (memory_in self.now) }
     {
         self.enabled() == 0
     }
 
-    /// Makes possible steps until there is none. Then each rank is complete, and each buffer at each rank is what the description
-    /// means of the inputs.
+    /// Makes possible steps until there is none. Then each rank is complete, and each cell holds its value, in its rank's memory.
     pub fn run_to_rest(&mut self)
         ensures none { (slots : ℕ → Slots) → AreSlots self.new slots → steps_in self.new slots ≡ [] }
         ensures later { IsLater self.old self.new }
@@ -291,11 +285,11 @@ impl World {
         ensures steps { (slots : ℕ → Slots) → AreSlots self.new slots →
             IsRun (ranks_in self.old slots) self.old.window (scene_in self.old) (scene_in self.new) }
         ensures rest { (slots : ℕ → Slots) → AreSlots self.new slots → IsAtRest (ranks_in self.new slots) (histories_in self.new) }
-        ensures complete { (slots : ℕ → Slots) → AreSlots self.new slots → (r : ℕ) → r < self.new.shape.ranks →
-            IsComplete (plan_of self.new.shape) self.new.inputs slots (histories_in self.new) r }
-        ensures meant { AreMeant self.new.shape self.new.inputs (memory_in self.new) }
+        ensures complete { (slots : ℕ → Slots) → AreSlots self.new slots → (r : ℕ) → r < self.new.schedule.plan.ranks →
+            IsComplete self.new.schedule.plan self.new.inputs slots (histories_in self.new) r }
+        ensures values { AreValues self.new.schedule.plan self.new.inputs (memory_in self.new) }
         ensures barriers { (slots : ℕ → Slots) → AreSlots self.new slots →
-            AreBarriersKept self.new.shape self.new.inputs slots (histories_in self.new) }
+            AreRoundsKept self.new.schedule.plan self.new.inputs slots (histories_in self.new) }
     {
         while 0 < self.enabled() {
             let step = self.enabled_step(0);
@@ -304,7 +298,7 @@ impl World {
     }
 
     /// Makes the steps that a chooser names among the possible ones, until there is none. Then each rank is complete, and each
-    /// buffer at each rank is what the description means of the inputs.
+    /// cell holds its value, in its rank's memory.
     pub fn run_chosen<C: Chooser>(&mut self, chooser: &mut C)
         ensures none { (slots : ℕ → Slots) → AreSlots self.new slots → steps_in self.new slots ≡ [] }
         ensures later { IsLater self.old self.new }
@@ -314,11 +308,11 @@ impl World {
             (record { scene = scene_in self.old; chooser = chooser.old }) ≡
             record { scene = scene_in self.new; chooser = chooser.new })) }
         ensures rest { (slots : ℕ → Slots) → AreSlots self.new slots → IsAtRest (ranks_in self.new slots) (histories_in self.new) }
-        ensures complete { (slots : ℕ → Slots) → AreSlots self.new slots → (r : ℕ) → r < self.new.shape.ranks →
-            IsComplete (plan_of self.new.shape) self.new.inputs slots (histories_in self.new) r }
-        ensures meant { AreMeant self.new.shape self.new.inputs (memory_in self.new) }
+        ensures complete { (slots : ℕ → Slots) → AreSlots self.new slots → (r : ℕ) → r < self.new.schedule.plan.ranks →
+            IsComplete self.new.schedule.plan self.new.inputs slots (histories_in self.new) r }
+        ensures values { AreValues self.new.schedule.plan self.new.inputs (memory_in self.new) }
         ensures barriers { (slots : ℕ → Slots) → AreSlots self.new slots →
-            AreBarriersKept self.new.shape self.new.inputs slots (histories_in self.new) }
+            AreRoundsKept self.new.schedule.plan self.new.inputs slots (histories_in self.new) }
     {
         loop {
             let n = self.enabled();
@@ -335,9 +329,9 @@ impl World {
     /// this source and target, of at most 64 bytes.
     pub fn inject(&mut self, s: Rank, d: Rank, message: Message)
         requires left { 0 < self.old.strays }
-        requires from { s < self.old.shape.ranks }
-        requires to { d < self.old.shape.ranks }
-        requires used { is_used_lane (plan_of self.old.shape) s d Request ≡ true }
+        requires from { s < self.old.schedule.plan.ranks }
+        requires to { d < self.old.schedule.plan.ranks }
+        requires used { is_used_lane self.old.schedule.plan s d Request ≡ true }
         requires stray { is_stray message ≡ true }
         requires source { message.header.source ≡ s }
         requires target { message.header.target ≡ d }
@@ -362,7 +356,7 @@ impl World {
 
     /// The local steps of a rank, oldest first.
     pub fn history(&self, r: Rank) -> &[LocalStep]
-        requires { r < self.now.shape.ranks }
+        requires { r < self.now.schedule.plan.ranks }
         ensures { result.now ≡ map listed (histories_in self.now r) }
     {
         self.nodes[r as usize].history()
@@ -370,7 +364,7 @@ impl World {
 
     /// The interface of a rank.
     pub fn nic(&self, r: Rank) -> &Nic
-        requires { r < self.now.shape.ranks }
+        requires { r < self.now.schedule.plan.ranks }
         ensures value { result.now ≡ nic_in self.now r }
         ensures state { (slots : ℕ → Slots) → AreSlots self.now slots →
             result.now ≡ state_at (ranks_in self.now slots) (histories_in self.now) r }
@@ -378,19 +372,19 @@ impl World {
         self.nodes[r as usize].nic()
     }
 
-    /// The counting event of what is done at a rank. Where it has counted as much as `Schedule::done` says, each buffer at the rank is
-    /// what the description means, and stays so, whatever the other ranks have still to do. Under `complete remote` nothing of the
+    /// The counting event of what is done at a rank. Where it has counted as much as `Schedule::done` says, each cell of the
+    /// rank holds its value, and goes on so, whatever the other ranks have still to do. Under `complete remote` nothing of the
     /// job is left there then, and otherwise once no operation of the rank is pending: strays alone come to it.
     pub fn done(&self, r: Rank) -> Count
-        requires { r < self.now.shape.ranks }
+        requires { r < self.now.schedule.plan.ranks }
         ensures counter { (slots : ℕ → Slots) → AreSlots self.now slots →
             lookup (done_ct (slots r)) (nic_in self.now r).cts.live ≡ Some result }
-        ensures meant { HasCounted result (done_threshold (plan_of self.now.shape) r) →
-            AreMeantAt self.now.shape self.now.inputs r (memory_in self.now r) }
-        ensures stays { HasCounted result (done_threshold (plan_of self.now.shape) r) → StaysMeant self.now r }
-        ensures none_left { HasCounted result (done_threshold (plan_of self.now.shape) r) → self.now.shape.remote ≡ true →
+        ensures values { HasCounted result (done_threshold self.now.schedule.plan r) →
+            AreValuesAt self.now.schedule.plan self.now.inputs r (memory_in self.now r) }
+        ensures stays { HasCounted result (done_threshold self.now.schedule.plan r) → KeepsValues self.now r }
+        ensures none_left { HasCounted result (done_threshold self.now.schedule.plan r) → self.now.schedule.plan.remote ≡ true →
             (nic_in self.now r).pending.waiting ≡ [] }
-        ensures left_alone { HasCounted result (done_threshold (plan_of self.now.shape) r) →
+        ensures left_alone { HasCounted result (done_threshold self.now.schedule.plan r) →
             (nic_in self.now r).pending.waiting ≡ [] → StaysAlone self.now r }
     {
         self.counted(r)
@@ -398,7 +392,7 @@ impl World {
 
     /// What the done counter of a rank has counted.
     fn counted(&self, r: Rank) -> Count
-        requires { r < self.now.shape.ranks }
+        requires { r < self.now.schedule.plan.ranks }
         ensures value { (slots : ℕ → Slots) → AreSlots self.now slots →
             lookup (done_ct (slots r)) (nic_in self.now r).cts.live ≡ Some result }
         ensures kept { IsStanding self.now }
@@ -408,9 +402,9 @@ impl World {
 
     /// The bytes of a buffer at a rank, as they stand in its memory now, elements in order, little-endian: none where no cell holds it.
     pub fn result(&self, buffer: u32, r: Rank) -> &[u8]
-        requires buffer { buffer < length self.now.shape.buffers }
-        requires rank { r < self.now.shape.ranks }
-        ensures { result.now ≡ result_in self.now.shape buffer r (memory_in self.now r) }
+        requires buffer { buffer < self.now.schedule.held.buffers }
+        requires rank { r < self.now.schedule.plan.ranks }
+        ensures { result.now ≡ result_in self.now.schedule.plan self.now.schedule.held buffer r (memory_in self.now r) }
     {
         let schedule = self.job.schedule();
         match schedule.result(buffer, r) {

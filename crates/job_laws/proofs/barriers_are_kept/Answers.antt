@@ -1,5 +1,6 @@
-use Rattle.job_laws.proofs.Cuts.{kept_in_cut}
+use Rattle.job_laws.proofs.Cuts.{barriers_by_order, ordered}
 use Rattle.job_laws.proofs.barriers_are_kept.Goals as goal
 
 pub returns : goal.returns
-returns c = λ o inputs slots world formed accepted given cut. kept_in_cut o inputs slots world formed accepted given cut
+returns c = λ o inputs slots world formed accepted given cut.
+    barriers_by_order o inputs slots world formed accepted (ordered o inputs slots world formed accepted given cut)

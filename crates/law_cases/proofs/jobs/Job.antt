@@ -43,7 +43,8 @@ use Rattle.plan_steps.specs.Rounds.{rounds}
 use Rattle.shape_plans.specs.Drawing.{drawing_of, drawn_inputs, drawn_upto, hold_row, plan_of}
 use Rattle.step_laws.specs.Order.{IsAt, entry_cell}
 use Rattle.job_laws.specs.Barriers.{AreBarriersKept, barrier_cell}
-use Rattle.job_laws.specs.Results.{AreMeant, result_in}
+use Rattle.cuts.specs.cells.Cells.{result_in}
+use Rattle.job_laws.specs.Results.{AreMeant}
 use Rattle.law_cases.proofs.plans.Broadcast.{bump_link, put_link, slots}
 use Rattle.law_cases.proofs.plans.Orders.{on, sync_link}
 use Rattle.law_cases.proofs.plans.Three.{below3}
@@ -250,9 +251,12 @@ sum_at_rank_2 = refl
 all_is_meant : Means in_the_end
 unfolding meaning_of meant_upto drawing_of drawn_upto drawn_inputs hold_row add add_all add_cell add_link add_links go_plan hold
     exits_by held_by parent rounds
-all_is_meant b r h k = below2 (λ b. result_in job b r (in_the_end r) ≡ at (lists_of (meaning_of job given) b) r)
-    (below3 (λ r. result_in job 0 r (in_the_end r) ≡ at (lists_of (meaning_of job given) 0) r) refl refl refl r k)
-    (below3 (λ r. result_in job 1 r (in_the_end r) ≡ at (lists_of (meaning_of job given) 1) r) refl refl refl r k) b h
+all_is_meant b r h k = below2
+    (λ b. result_in (plan_of job) (drawing_of job).held b r (in_the_end r) ≡ at (lists_of (meaning_of job given) b) r)
+    (below3 (λ r. result_in (plan_of job) (drawing_of job).held 0 r (in_the_end r) ≡ at (lists_of (meaning_of job given) 0) r) refl refl
+    refl r k)
+    (below3 (λ r. result_in (plan_of job) (drawing_of job).held 1 r (in_the_end r) ≡ at (lists_of (meaning_of job given) 1) r) refl refl
+    refl r k) b h
 
 -- the first byte of a list
 abbrev first_of : List ℕ → ℕ

@@ -4,7 +4,6 @@ ghost use Rattle.std.specs.Prelude.{ℕ, false, not, ◌≡◌, ◌<◌, ◌≤�
 ghost use Rattle.ptl_types.specs.declared.headers.Lane.{Lane};
 ghost use Rattle.ptl_types.specs.declared.headers.Lane.TheVariants.{Answer, Request};
 ghost use Rattle.cuts.specs.windows.Places.{lane_place};
-ghost use Rattle.shape_plans.specs.Drawing.{plan_of};
 ghost use Rattle.rank_node.specs.Node.{IsNode};
 ghost use Rattle.worlds.specs.parts.Keeps.{AreCounted};
 ghost use Rattle.worlds.specs.parts.Layout.{lane_at, node_at};
@@ -46,16 +45,14 @@ pub struct Bare {
 ///
 /// There was no memory for it. The job is as it was.
 pub fn open_bare(alloc: Global, job: &Job) -> Result<Bare, NoMemory>
-    ensures ranks { IfOk result (λ b. b.ranks ≡ job.now.shape.ranks) }
-    ensures bare { IfOk result (λ b. IsBare (plan_of job.now.shape) job.now.inputs job.now.shape.ranks b.lanes.items b.starts b.deliveries
-        b.firings) }
-    ensures lanes { IfOk result (λ b. (s d : ℕ) (lane : Lane) → s < job.now.shape.ranks → d < job.now.shape.ranks →
-        lane_at b.lanes.items (lane_place job.now.shape.ranks s d lane) ≡ frame_lane (plan_of job.now.shape) s d lane) }
+    ensures ranks { IfOk result (λ b. b.ranks ≡ job.now.schedule.plan.ranks) }
+    ensures bare { IfOk result (λ b. IsBare job.now.schedule.plan job.now.inputs job.now.schedule.plan.ranks b.lanes.items
+        b.starts b.deliveries b.firings) }
+    ensures lanes { IfOk result (λ b. (s d : ℕ) (lane : Lane) → s < job.now.schedule.plan.ranks → d < job.now.schedule.plan.ranks →
+        lane_at b.lanes.items (lane_place job.now.schedule.plan.ranks s d lane) ≡ frame_lane job.now.schedule.plan s d lane) }
 {
     let schedule = job.schedule();
-    let shape = schedule.shape();
-    shape.keeps_form();
-    let ranks = shape.ranks();
+    let ranks = schedule.ranks();
     let _ = schedule.plan();
     let places = 2 * (ranks * ranks);
     let _ = job.inputs();

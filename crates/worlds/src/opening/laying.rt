@@ -3,7 +3,6 @@
 ghost use Rattle.std.specs.Prelude.{ℕ, ◌≡◌, ◌<◌, ◌+◌, ◌*◌, ◌^◌, IfOk, length};
 ghost use Rattle.ptl_types.specs.declared.headers.Lane.{Lane};
 ghost use Rattle.cuts.specs.windows.Places.{lane_place};
-ghost use Rattle.shape_plans.specs.Drawing.{plan_of};
 ghost use Rattle.worlds.specs.parts.Layout.{lane_at};
 ghost use Rattle.worlds.specs.opening.Laying.{FitLanes, laid_lane, room_of, strays_of};
 
@@ -45,10 +44,10 @@ fn open_lane(
     d: Rank,
     lane: Lane,
 ) -> Result<PlainLane, NoMemory>
-    requires source { s < schedule.now.ranks }
-    requires target { d < schedule.now.ranks }
-    requires at_most { FitLanes (plan_of schedule.now) (strays_of room) }
-    ensures { IfOk result (λ l. l ≡ laid_lane (plan_of schedule.now) room s d lane) }
+    requires source { s < schedule.now.plan.ranks }
+    requires target { d < schedule.now.plan.ranks }
+    requires at_most { FitLanes schedule.now.plan (strays_of room) }
+    ensures { IfOk result (λ l. l ≡ laid_lane schedule.now.plan room s d lane) }
 {
     let many = capacity(room, schedule.lane(s, d, lane), lane);
     PlainLane::open(alloc, many)
@@ -60,12 +59,12 @@ pub(crate) fn lay_all(
     schedule: &Schedule,
     room: Room,
 ) -> Result<Vec<PlainLane>, NoMemory>
-    requires { FitLanes (plan_of schedule.now) (strays_of room) }
-    ensures size { IfOk result (λ v. length v.items ≡ 2 * (schedule.now.ranks * schedule.now.ranks)) }
-    ensures laid { IfOk result (λ v. (s d : ℕ) (lane : Lane) → s < schedule.now.ranks → d < schedule.now.ranks →
-        lane_at v.items (lane_place schedule.now.ranks s d lane) ≡ laid_lane (plan_of schedule.now) room s d lane) }
+    requires { FitLanes schedule.now.plan (strays_of room) }
+    ensures size { IfOk result (λ v. length v.items ≡ 2 * (schedule.now.plan.ranks * schedule.now.plan.ranks)) }
+    ensures laid { IfOk result (λ v. (s d : ℕ) (lane : Lane) → s < schedule.now.plan.ranks → d < schedule.now.plan.ranks →
+        lane_at v.items (lane_place schedule.now.plan.ranks s d lane) ≡ laid_lane schedule.now.plan room s d lane) }
 {
-    let ranks = schedule.shape().ranks();
+    let ranks = schedule.ranks();
     let _ = schedule.plan();
     let pairs = ranks * ranks;
     let places = 2 * pairs as usize;

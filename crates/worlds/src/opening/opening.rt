@@ -2,7 +2,6 @@
 
 ghost use Rattle.std.specs.Prelude.{ℕ, [], ◌≡◌, ◌<◌, IfOk};
 ghost use Rattle.cuts.specs.orders.Chosen.{first_scene};
-ghost use Rattle.shape_plans.specs.Drawing.{plan_of};
 ghost use Rattle.worlds.specs.parts.Keeps.{IsWorld};
 ghost use Rattle.worlds.specs.parts.Layout.{node_at, scene_of};
 ghost use Rattle.worlds.specs.opening.Laying.{FitLanes};
@@ -43,18 +42,16 @@ pub struct Parts {
 /// There was no memory for it. The job is as it was.
 pub fn opened(alloc: Global, job: &Job, window: u64, strays: u32) -> Result<Parts, NoMemory>
     requires window { 0 < window }
-    requires at_most { FitLanes (plan_of job.now.shape) strays }
-    ensures world { IfOk result (λ w. IsWorld (plan_of job.now.shape) job.now.inputs job.now.shape.ranks w.nodes.items w.lanes.items
+    requires at_most { FitLanes job.now.schedule.plan strays }
+    ensures world { IfOk result (λ w. IsWorld job.now.schedule.plan job.now.inputs job.now.schedule.plan.ranks w.nodes.items w.lanes.items
         w.starts w.deliveries w.firings window strays strays) }
     ensures setting { IfOk result (λ w.
-        w.setting ≡ record { ranks = job.now.shape.ranks; window = window; strays = strays; spare = strays }) }
-    ensures first { IfOk result (λ w. scene_of job.now.shape.ranks w.nodes.items w.lanes.items ≡ first_scene) }
-    ensures steps { IfOk result (λ w. (r : ℕ) → r < job.now.shape.ranks → (node_at w.nodes.items r).diary.steps ≡ []) }
+        w.setting ≡ record { ranks = job.now.schedule.plan.ranks; window = window; strays = strays; spare = strays }) }
+    ensures first { IfOk result (λ w. scene_of job.now.schedule.plan.ranks w.nodes.items w.lanes.items ≡ first_scene) }
+    ensures steps { IfOk result (λ w. (r : ℕ) → r < job.now.schedule.plan.ranks → (node_at w.nodes.items r).diary.steps ≡ []) }
 {
     let schedule = job.schedule();
-    let shape = schedule.shape();
-    shape.keeps_form();
-    let ranks = shape.ranks();
+    let ranks = schedule.ranks();
     let _ = schedule.plan();
     let places = 2 * (ranks * ranks);
     let _ = job.inputs();

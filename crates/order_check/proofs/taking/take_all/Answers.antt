@@ -11,7 +11,7 @@ pub loop-r-init : goal.loop-r-init
 loop-r-init c =
     let w = c.args.world.now in
     let queue = c.in_ok-queue.queue.items in
-    let count : c.ranks.result ≡ w.shape.ranks = c.ranks.ensures in
+    let count : c.ranks.result ≡ w.schedule.plan.ranks = c.ranks.ensures in
     record {
       later = same_world w;
       work = first_work w (lists_of c.args.orders.now) queue c.enabled.ensures.kept c.requires.wide c.requires.fresh

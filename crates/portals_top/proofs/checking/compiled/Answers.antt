@@ -7,7 +7,7 @@ pub returns-in-Ok : goal.returns-in-Ok
 returns-in-Ok g c =
     record {
       judged = rw (← c.into_parts-shape.ensures.shape, ← c.into_parts-shape.ensures.inputs)
-          (judged-compiled _ _ _ c.args.orders.now _ _ _ _ c.in-Ok.ensures.0 c.in-Ok.ensures.1 c.judge.ensures.judged);
+          (judged-compiled _ _ c.args.orders.now _ _ _ _ c.in-Ok.ensures.0 c.judge.ensures.judged);
       told = c.judge.ensures.told;
     }
 

@@ -4,17 +4,18 @@ use Rattle.portals_top.specs.Answered.{LeavesWorld}
 use Rattle.portals_top.specs.declared.ran.Ran.{Ran}
 use Rattle.portals_top.specs.declared.words.Command.TheVariants.{Execute}
 use Rattle.portals_top.specs.declared.words.Mode.TheVariants.{Run}
-use Rattle.portals_top.proofs.Rests.{handed-of, written-of}
+use Rattle.portals_top.proofs.Rests.{handed-of, resting-of, written-of}
 use Rattle.portals_top.proofs.large.large.Goals as goal
 
 pub write_sums-written-requires-clause-shape : goal.write_sums-written-requires-clause-shape
-write_sums-written-requires-clause-shape g c = c.in-Ok-run_by_workers.ensures.0.shape ∙ c.requires.shape
+write_sums-written-requires-clause-shape g c = c.shape.ensures.value ∙ c.requires.shape
 
 pub write_sums-written-requires-clause-inputs : goal.write_sums-written-requires-clause-inputs
 write_sums-written-requires-clause-inputs g c = c.in-Ok-run_by_workers.ensures.0.inputs ∙ c.requires.inputs
 
-pub write_sums-written-requires-clause-meant : goal.write_sums-written-requires-clause-meant
-write_sums-written-requires-clause-meant g c = c.in-Ok-run_by_workers.ensures.0.meant
+pub write_sums-written-requires-clause-resting : goal.write_sums-written-requires-clause-resting
+write_sums-written-requires-clause-resting g c =
+    resting-of _ _ _ _ c.in-Ok-run_by_workers.ensures.0 c.shape.ensures.value
 
 pub returns : goal.returns
 returns g c =

@@ -48,7 +48,7 @@ returns g c =
     let new = c.run_steady.new.hands in
     let is : take c.args.hands.len (new ++ drop (length new) c.args.hands.items) ≡ new =
     written c.args.hands.len new _ (sym (c.run_steady.auto.hands ∙ c.deref_mut.ensures.len)) in record {
-      shape = c.close_at_rest.ensures.world.shape;
+      schedule = c.close_at_rest.ensures.world.schedule;
       inputs = c.close_at_rest.ensures.world.inputs;
       own = c.close_at_rest.ensures.world.spare;
       rested = record {

@@ -1,23 +1,27 @@
-use Rattle.std.proofs.Common.{ℕ, ◌≡◌, ◌∙◌, ap, subst, sym}
+use Rattle.std.proofs.Common.{ℕ, ◌∙◌, ap, subst, sym}
 use Rattle.schedule_compiler.specs.Jobs.{JobOf}
 use Rattle.rank_wiring.specs.Opening.{AllFresh}
 use Rattle.rank_threads.specs.Closing.{IsWorked}
-use Rattle.portals_top.specs.Runs.{IsRun}
 use Rattle.portals_top.proofs.running.run_by_workers.Goals as goal
 
 pub run_keeping-world-requires-clause-hands : goal.run_keeping-world-requires-clause-hands
 run_keeping-world-requires-clause-hands g c = λ _ _. λ i d low. (c.in_ok-fabric.ensures.hands.1 i d low).0
 
 pub finished-world-requires : goal.finished-world-requires
-finished-world-requires g c = c.run_keeping-world.ensures.world.world.spare
+finished-world-requires g c =
+    let opened = c.in_ok-fabric.ensures in
+    let worked = c.run_keeping-world.ensures.world in
+    let of = opened.job ∙ c.job.ensures.value in record {
+      own = worked.world.spare;
+      schedule = worked.world.schedule ∙ ap (λ (j : JobOf). j.schedule) of;
+      inputs = worked.world.inputs ∙ ap (λ (j : JobOf). j.inputs) of;
+    }
 
 pub returns : goal.returns
 returns g c =
     let opened = c.in_ok-fabric.ensures in
-    let worked = c.run_keeping-world.ensures.world in
-    let shape = worked.world.shape ∙ ap (λ (j : JobOf). j.shape) opened.job in
-    let inputs = worked.world.inputs ∙ ap (λ (j : JobOf). j.inputs) opened.job in (
-      rw (shape, inputs) at c.finished-world.ensures.run,
+    let worked = c.run_keeping-world.ensures.world in (
+      c.finished-world.ensures.run,
       record {
         fabric = c.in_ok-fabric.fabric;
         fresh = subst (λ (j : JobOf). AllFresh j c.in_ok-fabric.fabric.turns.start) (sym opened.job) opened.fresh;

@@ -1,8 +1,9 @@
-use Rattle.std.proofs.Common.{◌∙◌, refl, subst, sym}
+use Rattle.std.proofs.Common.{◌∙◌, ap, refl, subst, sym}
 use Rattle.rand_pcg.specs.Lcg.{Lcg}
 use Rattle.cuts.specs.histories.System.{System}
 use Rattle.cuts.specs.orders.Chosen.{Scene}
 use Rattle.cuts.specs.orders.Reached.IsReached.{Begun}
+use Rattle.schedule_compiler.specs.Jobs.{JobOf}
 use Rattle.worlds.specs.Runs.{Running}
 use Rattle.worlds.specs.World.{ranks_in, scene_in}
 use Rattle.portals_top.specs.Runs.{after_words, chosen_number, word, words_left}
@@ -15,9 +16,11 @@ returns c =
     let w = c.run_chosen.new.self in
     let later = c.run_chosen.ensures.later in
     let opened = c.in_ok-world.ensures in (
-      run-of w c.args.job.now.shape c.args.job.now.inputs (later.shape ∙ opened.shape) (later.inputs ∙ opened.inputs) c.enabled.ensures.kept
+      run-of w c.args.job.now.shape c.args.job.now.inputs c.job.ensures.formed c.job.ensures.accepted c.job.ensures.inputs
+          (later.schedule ∙ (opened.schedule ∙ ap (λ (j : JobOf). j.schedule) c.job.ensures.value))
+          (later.inputs ∙ (opened.inputs ∙ ap (λ (j : JobOf). j.inputs) c.job.ensures.value)) c.enabled.ensures.kept
           (later.spare ∙ opened.spare) c.run_chosen.ensures.none c.run_chosen.ensures.rest c.run_chosen.ensures.complete
-          c.run_chosen.ensures.meant,
+          c.run_chosen.ensures.values,
       (
         λ slots agree.
             let u = c.in_ok-world.world in

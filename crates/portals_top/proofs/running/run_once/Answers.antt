@@ -1,6 +1,15 @@
+use Rattle.std.proofs.Common.{◌∙◌, ap}
+use Rattle.schedule_compiler.specs.Jobs.{JobOf}
 use Rattle.portals_top.proofs.running.run_once.Goals as goal
 
+pub finished-requires : goal.finished-requires
+finished-requires c =
+    let opened = c.in_ok-world.ensures in
+    let of = c.job.ensures.value in record {
+      own = opened.spare;
+      schedule = opened.schedule ∙ ap (λ (j : JobOf). j.schedule) of;
+      inputs = opened.inputs ∙ ap (λ (j : JobOf). j.inputs) of;
+    }
+
 pub returns : goal.returns
-returns c =
-    let opened = c.in_ok-open.ensures in
-    (rw (opened.shape, opened.inputs) at c.finished.ensures.run, c.finished.ensures.reached opened.scene)
+returns c = (c.finished.ensures.run, c.finished.ensures.reached c.in_ok-world.ensures.scene)

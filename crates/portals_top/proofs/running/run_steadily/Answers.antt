@@ -1,19 +1,26 @@
-use Rattle.std.proofs.Common.{ℕ, ◌≡◌, ◌∙◌, ap, subst, sym}
+use Rattle.std.proofs.Common.{ℕ, ◌∙◌, ap, subst, sym}
 use Rattle.schedule_compiler.specs.Jobs.{JobOf}
 use Rattle.rank_wiring.specs.Opening.{AllFresh}
-use Rattle.portals_top.specs.Runs.{IsRested, IsRun}
+use Rattle.portals_top.specs.Runs.{IsRested}
 use Rattle.portals_top.proofs.running.run_steadily.Goals as goal
 
 pub close_steady-world-requires-clause-hands : goal.close_steady-world-requires-clause-hands
 close_steady-world-requires-clause-hands g c = λ _ _. λ i d low. (c.in_ok-fabric.ensures.hands.1 i d low).0
 
+pub finished-requires : goal.finished-requires
+finished-requires g c =
+    let closed = c.close_steady-world.ensures in
+    let of = c.in_ok-fabric.ensures.job ∙ c.job-own.ensures.value in record {
+      own = closed.own;
+      schedule = closed.schedule ∙ ap (λ (j : JobOf). j.schedule) of;
+      inputs = closed.inputs ∙ ap (λ (j : JobOf). j.inputs) of;
+    }
+
 pub returns : goal.returns
 returns g c =
     let opened = c.in_ok-fabric.ensures in
-    let closed = c.close_steady-world.ensures in
-    let shape = closed.shape ∙ ap (λ (j : JobOf). j.shape) opened.job in
-    let inputs = closed.inputs ∙ ap (λ (j : JobOf). j.inputs) opened.job in (
-      rw (shape, inputs) at c.finished.ensures.run,
+    let closed = c.close_steady-world.ensures in (
+      c.finished.ensures.run,
       record {
         fabric = c.in_ok-fabric.fabric;
         fresh = subst (λ (j : JobOf). AllFresh j c.in_ok-fabric.fabric.turns.start) (sym opened.job) opened.fresh;

@@ -12,7 +12,7 @@ write_result-requires g c =
     record {
       empty = c.requires.empty;
       gives = λ i r l k. (
-        c.requires.meant,
+        c.requires.resting,
         subst (λ (o : Outline). get_or shape.prints i 0 < length o.buffers) told (c.shape_of-shape.ensures.formed.shape.printed i l),
         subst (λ (o : Outline). r < o.ranks) told k,
       );
@@ -21,6 +21,7 @@ write_result-requires g c =
 pub returns : goal.returns
 returns g c =
     let w = c.args.rested.now.0 in
-    subst (λ (o : Outline). EndsWith (g.K.Sink.outflow c.args.sink.now) (g.K.Sink.outflow c.write_result.new.sink)
-    (text_of o (meaning_of w.shape w.inputs)) c.write_result.result)
+    let o = c.args.rested.now.1.now in
+    subst (λ (q : Outline). EndsWith (g.K.Sink.outflow c.args.sink.now) (g.K.Sink.outflow c.write_result.new.sink)
+    (text_of q (meaning_of o w.inputs)) c.write_result.result)
     c.shape_of-shape.ensures.value c.write_result.ensures.ends

@@ -7,6 +7,7 @@ returns g c =
       c.links.ensures,
       c.plan-plan.ensures.value,
       c.schedule.ensures,
+      c.requires.resting.of_shape.schedule,
       c.shape_of-shape.ensures.value,
       c.requires.shape,
       c.requires.inputs,

@@ -1,5 +1,4 @@
 use Rattle.std.proofs.Common.{subst, sym, ap, ◌∙◌, ◌<◌, length}
-use Rattle.shape_plans.specs.Drawing.{plan_of}
 use Rattle.atomic_table.proofs.Lists.{at_index}
 use Rattle.rank_slots.specs.declared.slot.TurnRank.{TurnRank}
 use Rattle.rank_slots.specs.Slots.{OutOk}
@@ -15,7 +14,7 @@ take_out-requires c = let x = c.index-slots-rank.result in
 
 pub returns-clause-port : goal.returns-clause-port
 returns-clause-port c = let x = c.index-slots-rank.result in λ y at.
-    subst (λ (z : TurnRank). OutOk (plan_of z.job.shape) z.job.inputs z.node.value c.take_out.result)
+    subst (λ (z : TurnRank). OutOk z.job.schedule.plan z.job.inputs z.node.value c.take_out.result)
     (sym c.index-slots-rank.is ∙ same_at c.args.slots.now c.args.rank x y (at_index _ _ x c.requires.rank c.index-slots-rank.is) at)
     c.take_out.ensures.port
 

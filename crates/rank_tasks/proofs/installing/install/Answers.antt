@@ -1,9 +1,7 @@
 -- What is compiled can be installed, and the node is then the rank at the beginning.
-use Rattle.std.proofs.Common.{◌≡◌, ◌≤◌, ◌∙◌, false, length, replicate, ap, subst, sym}
-use Rattle.coll_shape.specs.Outline.{Outline}
+use Rattle.std.proofs.Common.{◌+◌, ◌<◌, ◌^◌, ◌∙◌, false, length, replicate, ap, subst, sym}
+use Rattle.schedule_compiler.specs.Schedules.{ScheduleOf}
 use Rattle.plan_core.specs.Sound.{SoundPlan}
-use Rattle.shape_plans.specs.Drawing.{plan_of}
-use Rattle.shape_plans.specs.declared.judging.TheConstants.{MOST_LINKS}
 use Rattle.rank_node.specs.Node.{IsNode, task_of}
 use Rattle.rank_node.specs.Plans.{IsCompiledFor}
 use Rattle.rank_tasks.proofs.Begun.{begun, can-install}
@@ -11,22 +9,19 @@ use Rattle.rank_tasks.proofs.installing.install.Goals as goal
 
 pub install-requires : goal.install-requires
 install-requires c =
-    let o = c.args.job.now.shape in
+    let o = c.args.job.now.schedule in
     let same = c.schedule.ensures in
     can-install o c.args.job.now.inputs c.args.r (task_of c.in_ok-compiled.compiled)
-    (subst (λ (s : Outline). SoundPlan (plan_of s) s.inputs) same c.plan.ensures.sound)
-    (subst (λ (s : Outline). length (plan_of s).links ≤ MOST_LINKS) same c.plan.ensures.at_most)
-    (subst (λ (s : Outline). (plan_of s).ranks ≡ s.ranks) same c.plan.ensures.ranks)
+    (subst (λ (s : ScheduleOf). SoundPlan s.plan s.inputs) same c.plan.ensures.sound)
+    (subst (λ (s : ScheduleOf). length s.plan.cells + length s.plan.links < 2 ^ 27) same c.plan.ensures.at_most)
     c.inputs.ensures.inputs c.requires c.in_ok-compiled.ensures
 
 pub returns : goal.returns
 returns c =
-    let o = c.args.job.now.shape in
-    let p = plan_of o in
+    let p = c.args.job.now.schedule.plan in
     let inputs = c.args.job.now.inputs in
     let r = c.args.r in
     let node = c.in_ok-node.node in
-    let ranks : p.ranks ≡ o.ranks = subst (λ (s : Outline). (plan_of s).ranks ≡ s.ranks) c.schedule.ensures c.plan.ensures.ranks in
     let for_rank : IsCompiledFor p inputs r node.task = subst (IsCompiledFor p inputs r) (sym c.in_ok-node.ensures.task)
     c.in_ok-compiled.ensures in
     let is : IsNode node = c.history.ensures.kept in
@@ -37,6 +32,6 @@ returns c =
       history = none;
       steps = c.in_ok-node.ensures.steps;
       strays = c.in_ok-node.ensures.strays;
-      gates = c.in_ok-node.ensures.gates ∙ ap (λ n. replicate n false) (c.in_ok-compiled.ensures.ranks ∙ ranks);
+      gates = c.in_ok-node.ensures.gates ∙ ap (λ n. replicate n false) c.in_ok-compiled.ensures.ranks;
       first = λ slots agrees. begun p inputs r node for_rank is none slots agrees;
     }

@@ -6,13 +6,12 @@ use Rattle.ptl_types.specs.declared.steps.Call.TheVariants.{PtAlloc}
 use Rattle.plan_core.specs.Plan.{Plan, cell, own}
 use Rattle.plan_calls.specs.Calls.{append_call, own_cell}
 use Rattle.plan_tables.proofs.Indexed.{all-below}
-use Rattle.shape_plans.specs.Drawing.{plan_of}
 use Rattle.rank_tasks.proofs.own.own_cells.Goals as goal
 use Rattle.rank_tasks.proofs.own.own_cells.Goals.{in-Some+in_ok-push, in_default}
 
 pub loop-call-preserved : goal.loop-call-preserved
 loop-call-preserved c =
-    let p = plan_of c.args.schedule.now in
+    let p = c.args.schedule.now.plan in
     let r = c.args.r in
     let i = c.loop-call.call-index in
     let xs = own p r in

@@ -2,16 +2,15 @@
 use Rattle.std.proofs.Common.{◌+◌, ◌≡◌, ap, ap₂, ◌∙◌, sym, arith}
 use Rattle.plan_core.specs.Plan.{Plan}
 use Rattle.plan_calls.specs.Lanes.{lane_bytes}
-use Rattle.shape_plans.specs.Drawing.{plan_of}
 use Rattle.rank_tasks.proofs.Lanes.{all-bytes, bytes_below, at_most-bytes_below, more-bytes, no-bytes}
 use Rattle.rank_tasks.proofs.receipts.bytes_to.Goals as goal
 
 pub loop-source-init : goal.loop-source-init
-loop-source-init c = sym (no-bytes (plan_of c.args.schedule.now) c.args.r)
+loop-source-init c = sym (no-bytes c.args.schedule.now.plan c.args.r)
 
 pub overflow_add-bytes : goal.overflow_add-bytes
 overflow_add-bytes c =
-    let p = plan_of c.args.schedule.now in
+    let p = c.args.schedule.now.plan in
     let k = c.loop-source.source in
     let i : c.loop-source.bytes ≡ bytes_below p c.args.r k = c.loop-source.invariant in
     let e : c.lane_bytes-bytes.result ≡ lane_bytes p k c.args.r = c.lane_bytes-bytes.ensures in
@@ -21,11 +20,11 @@ overflow_add-bytes c =
 
 pub loop-source-preserved : goal.loop-source-preserved
 loop-source-preserved c = ap₂ (λ a b. a + b) c.loop-source.invariant c.lane_bytes-bytes.ensures
-    ∙ more-bytes (plan_of c.args.schedule.now) c.args.r c.loop-source.source
+    ∙ more-bytes c.args.schedule.now.plan c.args.r c.loop-source.source
 
 pub returns : goal.returns
 returns c =
-    let p = plan_of c.args.schedule.now in
+    let p = c.args.schedule.now.plan in
     let t = c.loop-source-test.false in
     let u = c.loop-source.auto.source-end in
     let n = c.ranks-source-end.ensures in

@@ -4,13 +4,12 @@ use Rattle.plan_core.specs.Plan.{own}
 use Rattle.plan_calls.specs.Areas.{links_to}
 use Rattle.plan_calls.specs.RankOps.{sends_of}
 use Rattle.plan_tables.specs.Installed.{Installed}
-use Rattle.shape_plans.specs.Drawing.{plan_of}
 use Rattle.rank_tasks.proofs.Lanes.{at_most-messages}
 use Rattle.rank_tasks.proofs.receipts.receipts_of.Goals as goal
 
 pub overflow_add-result : goal.overflow_add-result
 overflow_add-result c =
-    let p = plan_of c.args.schedule.now in
+    let p = c.args.schedule.now.plan in
     let a : c.limits.result.now.unexpected ≡ length (links_to p c.args.r) =
     ap (λ (l : Limits). l.unexpected) (c.limits.ensures ∙ ap (λ (t : Installed). t.limits) c.requires.table) in
     let b = c.from-requests.ensures in

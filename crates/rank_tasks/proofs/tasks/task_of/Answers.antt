@@ -7,29 +7,29 @@ use Rattle.plan_calls.specs.Calls.{own_cells, prepare_calls}
 use Rattle.plan_calls.specs.Limits.{limits_for}
 use Rattle.plan_calls.specs.RankOps.{sends_of}
 use Rattle.plan_tables.specs.Installed.{Installed}
-use Rattle.coll_shape.specs.Outline.{Outline}
-use Rattle.shape_plans.specs.Drawing.{plan_of}
+use Rattle.schedule_compiler.specs.Schedules.{ScheduleOf}
 use Rattle.rank_tasks.proofs.tasks.task_of.Goals as goal
 
 pub returns : goal.returns
 returns c = record {
   rank = refl;
   ranks = c.ranks.ensures ∙ ap (λ (q : Plan). q.ranks) c.plan.ensures.value
-      ∙ ap (λ (o : Outline). (plan_of o).ranks) c.schedule-schedule.ensures;
+      ∙ ap (λ (o : ScheduleOf). o.plan.ranks) c.schedule-schedule.ensures;
   limits = c.limits-limits.ensures ∙ ap (λ (t : Installed). t.limits) c.in_ok-table.ensures
-      ∙ ap (λ (o : Outline). limits_for (plan_of o) c.args.r) c.schedule-schedule.ensures;
-  region = c.in_ok-region.ensures ∙ ap₂ (λ (o : Outline) (v : Inputs). initial_region (plan_of o) v c.args.r) c.schedule-schedule.ensures
-      c.inputs.ensures.value;
+      ∙ ap (λ (o : ScheduleOf). limits_for o.plan c.args.r) c.schedule-schedule.ensures;
+  region = c.in_ok-region.ensures
+      ∙ ap₂ (λ (o : ScheduleOf) (v : Inputs). initial_region o.plan v c.args.r) c.schedule-schedule.ensures c.inputs.ensures.value;
   cells = c.into_lists-cells.ensures.cells ∙ ap (λ (t : Installed). t.cells) c.in_ok-table.ensures
-      ∙ ap (λ (o : Outline). own (plan_of o) c.args.r) c.schedule-schedule.ensures;
+      ∙ ap (λ (o : ScheduleOf). own o.plan c.args.r) c.schedule-schedule.ensures;
   calls = c.into_lists-cells.ensures.calls ∙ ap (λ (t : Installed). t.calls) c.in_ok-table.ensures
-      ∙ ap (λ (o : Outline). prepare_calls (plan_of o) c.args.r) c.schedule-schedule.ensures;
-  own = c.in_ok-own.ensures ∙ ap (λ (o : Outline). own_cells (plan_of o) c.args.r) c.schedule-schedule.ensures;
+      ∙ ap (λ (o : ScheduleOf). prepare_calls o.plan c.args.r) c.schedule-schedule.ensures;
+  own = c.in_ok-own.ensures ∙ ap (λ (o : ScheduleOf). own_cells o.plan c.args.r) c.schedule-schedule.ensures;
   go = refl;
   longest = c.longest-longest.ensures ∙ ap (λ (t : Installed). t.longest) c.in_ok-table.ensures
-      ∙ ap (λ (o : Outline). longest_to (plan_of o) c.args.r) c.schedule-schedule.ensures;
-  receipts = c.receipts_of-receipts.ensures ∙ ap (λ (o : Outline). length (links_to (plan_of o) c.args.r)
-      + (if (plan_of o).remote then sends_of (plan_of o) c.args.r else 0)) c.schedule-schedule.ensures;
-  bytes = c.bytes_to.ensures ∙ ap (λ (o : Outline). sum_by (λ l. (link (plan_of o) l).length) (links_to (plan_of o) c.args.r))
+      ∙ ap (λ (o : ScheduleOf). longest_to o.plan c.args.r) c.schedule-schedule.ensures;
+  receipts = c.receipts_of-receipts.ensures
+      ∙ ap (λ (o : ScheduleOf). length (links_to o.plan c.args.r) + (if o.plan.remote then sends_of o.plan c.args.r else 0))
       c.schedule-schedule.ensures;
+  bytes = c.bytes_to.ensures
+      ∙ ap (λ (o : ScheduleOf). sum_by (λ l. (link o.plan l).length) (links_to o.plan c.args.r)) c.schedule-schedule.ensures;
 }

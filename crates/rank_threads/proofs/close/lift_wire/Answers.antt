@@ -1,6 +1,5 @@
 use Rattle.std.proofs.Common.{◌≡◌, ◌<◌, ◌≤◌, ◌++◌, Bool, true, false, List, length, min, sym, ap, ◌∙◌, subst, arith}
 use lib.ListN.{get_elem?}
-use Rattle.shape_plans.specs.Drawing.{plan_of}
 use Rattle.pair_wires.specs.declared.bounds.Bounds.{Bounds}
 use Rattle.pair_wires.specs.Lanes.{Plain}
 use Rattle.pair_wires.specs.Wires.{one_if}
@@ -39,15 +38,15 @@ pull_in-into-requires-clause-nonempty g c = let b = c.bounds-bounds.ensures in �
 
 pub lane-lane-requires-clause-source : goal.lane-lane-requires-clause-source
 lane-lane-requires-clause-source g c = let n = c.requires.ranks in let h = c.requires.between.source in
-    subst (λ (z : Bounds). z.source < c.args.frame.now.shape.ranks) (sym c.bounds-bounds.ensures) (omega (arith, n, h))
+    subst (λ (z : Bounds). z.source < c.args.frame.now.schedule.plan.ranks) (sym c.bounds-bounds.ensures) (omega (arith, n, h))
 
 pub lane-lane-requires-clause-target : goal.lane-lane-requires-clause-target
 lane-lane-requires-clause-target g c = let n = c.requires.ranks in let h = c.requires.between.target in
-    subst (λ (z : Bounds). z.target < c.args.frame.now.shape.ranks) (sym c.bounds-bounds.ensures) (omega (arith, n, h))
+    subst (λ (z : Bounds). z.target < c.args.frame.now.schedule.plan.ranks) (sym c.bounds-bounds.ensures) (omega (arith, n, h))
 
 pub lane-lane-requires-clause-used : goal.lane-lane-requires-clause-used
 lane-lane-requires-clause-used g c =
-    subst (λ (z : Bounds). is_used_lane (plan_of c.args.frame.now.shape) z.source z.target z.lane ≡ true)
+    subst (λ (z : Bounds). is_used_lane c.args.frame.now.schedule.plan z.source z.target z.lane ≡ true)
     (sym c.bounds-bounds.ensures) c.requires.lane.used
 
 pub drain-requires-clause-ends : goal.drain-requires-clause-ends
@@ -95,7 +94,7 @@ returns-clause-lifted g c = let b = c.bounds-bounds.ensures in let o = c.pull_ou
     let capacity : l.capacity ≡ min 4 c.args.wire.now.bounds.messages =
     c.drain.ensures.capacity ∙ (ap (λ (z : Plain). z.capacity) is ∙ sym all) in (
       l,
-      ap (λ (z : Bounds). with_lane f (lane_place f.shape.ranks z.source z.target z.lane) l) b,
+      ap (λ (z : Bounds). with_lane f (lane_place f.schedule.plan.ranks z.source z.target z.lane) l) b,
       record {
         held = λ x y ex ey.
             (let u = node_before c.args.slots.now o.new.slots
@@ -103,7 +102,7 @@ returns-clause-lifted g c = let b = c.bounds-bounds.ensures in let o = c.pull_ou
             c.args.wire.now.bounds.target y ey in
             held-between c.args.wire.now.bounds x y o.result i.result h.0 l
             (o.ensures.port x (ap (λ (z : Bounds). get_elem? c.args.slots.now z.source) b ∙ ex))
-            (subst (λ (z : JobOf × NodeState). InOk (plan_of z.0.shape) z.1 i.result) (λ k. (u.2.job_is k, u.2.node k))
+            (subst (λ (z : JobOf × NodeState). InOk z.0.schedule.plan z.1 i.result) (λ k. (u.2.job_is k, u.2.node k))
             (i.ensures.port u.0 (ap (λ (z : Bounds). get_elem? o.new.slots z.target) b ∙ u.1)))
             w.0.1 w.1.1 h.2 (h.1 ∙ ap (λ (z : Plain). z.messages ++ h.0) is));
         at_most = (let k = c.drain.ensures.at_most in omega (arith, k, capacity));

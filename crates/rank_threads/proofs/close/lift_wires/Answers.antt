@@ -5,8 +5,7 @@ use lib.ListN.{get_elem?}
 use Rattle.pair_wires.specs.Lanes.{Plain}
 use Rattle.pair_wires.specs.Wires.{WireState}
 use Rattle.cuts.specs.windows.Places.{lane_place}
-use Rattle.shape_plans.specs.Drawing.{plan_of}
-use Rattle.coll_shape.specs.Outline.{Outline}
+use Rattle.schedule_compiler.specs.Schedules.{ScheduleOf}
 use Rattle.worlds.specs.parts.Layout.{lane_at}
 use Rattle.worlds.specs.FrameState.{FrameState}
 use Rattle.worlds.specs.Frames.{frame_lane}
@@ -34,9 +33,9 @@ loop-wire-init g c = let f = c.args.frame.now in record {
   count = refl;
   nodes = stay c.args.slots.now;
   laid = c.requires.laid;
-  shape = refl;
+  schedule = refl;
   inputs = refl;
-  lifted = none-lifted (plan_of f.shape) f.shape.ranks c.requires.count c.args.wires.now c.requires.lanes c.args.slots.now f.lanes;
+  lifted = none-lifted f.schedule.plan f.schedule.plan.ranks refl c.args.wires.now c.requires.lanes c.args.slots.now f.lanes;
 }
 
 pub lift_wire-requires-clause-laid : goal.lift_wire-requires-clause-laid
@@ -47,21 +46,21 @@ pub lift_wire-requires-clause-between : goal.lift_wire-requires-clause-between
 lift_wire-requires-clause-between g c = let i = c.loop-wire.invariant in let f = c.args.frame.now in
     let w = c.in-Some.ensures.cases.0 in
     let at = wire_at c.args.wires.now c.loop-wire.wires.now c.in-Some.before.now c.in-Some.wire.now i.front w in
-    let b = between (plan_of f.shape) f.shape.ranks c.requires.count c.args.wires.now c.requires.lanes c.args.slots.now f.lanes
+    let b = between f.schedule.plan f.schedule.plan.ranks refl c.args.wires.now c.requires.lanes c.args.slots.now f.lanes
     (length c.in-Some.before.now) c.in-Some.wire.now at in
     let n = i.count in let m = c.requires.ranks in
     record { source = (let h = b.0 in omega (arith, h, n, m)); target = (let h = b.1 in omega (arith, h, n, m)) }
 
 pub lift_wire-requires-clause-ranks : goal.lift_wire-requires-clause-ranks
-lift_wire-requires-clause-ranks g c = let i = c.loop-wire.invariant in i.count
-    ∙ (c.requires.ranks ∙ sym (ap (λ (o : Outline). o.ranks) i.shape))
+lift_wire-requires-clause-ranks g c = let i = c.loop-wire.invariant in
+    i.count ∙ (c.requires.ranks ∙ sym (ap (λ (o : ScheduleOf). o.plan.ranks) i.schedule))
 
 pub lift_wire-requires-clause-lane : goal.lift_wire-requires-clause-lane
 lift_wire-requires-clause-lane g c = let i = c.loop-wire.invariant in let f = c.args.frame.now in let v = c.in-Some.wire.now in
     let w = c.in-Some.ensures.cases.0 in
     let at = wire_at c.args.wires.now c.loop-wire.wires.now c.in-Some.before.now v i.front w in
-    subst (λ (o : Outline). IsLane (plan_of o) v.bounds) (sym i.shape)
-    (is-lane (plan_of f.shape) f.shape.ranks c.requires.count c.args.wires.now c.requires.lanes c.args.slots.now f.lanes
+    subst (λ (o : ScheduleOf). IsLane o.plan v.bounds) (sym i.schedule)
+    (is-lane f.schedule.plan f.schedule.plan.ranks refl c.args.wires.now c.requires.lanes c.args.slots.now f.lanes
     (length c.in-Some.before.now) v at)
 
 pub lift_wire-requires-clause-room : goal.lift_wire-requires-clause-room
@@ -75,13 +74,14 @@ lift_wire-requires-clause-empty g c = let i = c.loop-wire.invariant in let f = c
     let w = c.in-Some.ensures.cases.0 in
     let lw = one_more c.loop-wire.wires.now c.in-Some.before.now v w in
     let at = wire_at c.args.wires.now c.loop-wire.wires.now c.in-Some.before.now v i.front w in
-    let p = plan_of f.shape in let n = f.shape.ranks in let r = c.requires in
-    let b = between p n r.count c.args.wires.now r.lanes c.args.slots.now f.lanes m v at in
+    let p = f.schedule.plan in let n = f.schedule.plan.ranks in let r = c.requires in
+    let b = between p n refl c.args.wires.now r.lanes c.args.slots.now f.lanes m v at in
     let lifted = subst (λ k. AreLifted n c.args.wires.now c.args.slots.now f.lanes k c.loop-wire.frame.lanes) lw i.lifted in
-    ap (λ (o : Outline). lane_at c.loop-wire.frame.lanes (lane_place o.ranks v.bounds.source v.bounds.target v.bounds.lane)) i.shape
-    ∙ (lane-first p n r.count c.args.wires.now r.lanes c.args.slots.now f.lanes m c.loop-wire.frame.lanes lifted v at
+    ap (λ (o : ScheduleOf). lane_at c.loop-wire.frame.lanes (lane_place o.plan.ranks v.bounds.source v.bounds.target v.bounds.lane))
+    i.schedule
+    ∙ (lane-first p n refl c.args.wires.now r.lanes c.args.slots.now f.lanes m c.loop-wire.frame.lanes lifted v at
     ∙ (r.empty v.bounds.source v.bounds.target v.bounds.lane b.0 b.1
-    ∙ ap (λ (o : Outline). frame_lane (plan_of o) v.bounds.source v.bounds.target v.bounds.lane) (sym i.shape)))
+    ∙ ap (λ (o : ScheduleOf). frame_lane o.plan v.bounds.source v.bounds.target v.bounds.lane) (sym i.schedule)))
 
 pub loop-wire-preserved : goal.loop-wire-preserved
 loop-wire-preserved g c = let i = c.loop-wire.invariant in let f = c.args.frame.now in let v = c.in-Some.wire.now in
@@ -89,40 +89,42 @@ loop-wire-preserved g c = let i = c.loop-wire.invariant in let f = c.args.frame.
     let w = c.in-Some.ensures.cases.0 in
     let lw = one_more c.loop-wire.wires.now c.in-Some.before.now v w in
     let at = wire_at c.args.wires.now c.loop-wire.wires.now c.in-Some.before.now v i.front w in
-    let p = plan_of f.shape in let n = f.shape.ranks in let r = c.requires in let e = c.lift_wire.ensures in let t = e.lifted in
-    let b = between p n r.count c.args.wires.now r.lanes c.args.slots.now f.lanes m v at in
+    let p = f.schedule.plan in let n = f.schedule.plan.ranks in let r = c.requires in let e = c.lift_wire.ensures in let t = e.lifted in
+    let b = between p n refl c.args.wires.now r.lanes c.args.slots.now f.lanes m v at in
     let ls = c.loop-wire.frame.lanes in
     let lifted = subst (λ k. AreLifted n c.args.wires.now c.args.slots.now f.lanes k ls) lw i.lifted in
     let place = lane_place n v.bounds.source v.bounds.target v.bounds.lane in
-    let empty = lane-first p n r.count c.args.wires.now r.lanes c.args.slots.now f.lanes m ls lifted v at
+    let empty = lane-first p n refl c.args.wires.now r.lanes c.args.slots.now f.lanes m ls lifted v at
     ∙ r.empty v.bounds.source v.bounds.target v.bounds.lane b.0 b.1 in
-    let some = some-room p v.bounds (is-lane p n r.count c.args.wires.now r.lanes c.args.slots.now f.lanes m v at) in
+    let some = some-room p v.bounds (is-lane p n refl c.args.wires.now r.lanes c.args.slots.now f.lanes m v at) in
     let low = in-lanes ls place (subst (λ (z : Plain). 0 < z.capacity) (sym empty) some) in
-    let more = lifted-more p n r.count c.args.wires.now r.lanes c.args.slots.now f.lanes m ls lifted v at t.0
+    let more = lifted-more p n refl c.args.wires.now r.lanes c.args.slots.now f.lanes m ls lifted v at t.0
     (lifted-before v.bounds c.args.slots.now c.loop-wire.slots t.0 i.nodes i.count t.2) low in
     let lanes = ap (λ (z : FrameState). z.lanes) t.1 in record {
       front = (v ∷ i.front.0, i.front.1 ∙ (ap (λ l. l ++ i.front.0) w ∙ append_assoc c.in-Some.before.now (v ∷ []) i.front.0));
       count = e.count ∙ i.count;
       nodes = chain c.args.slots.now c.loop-wire.slots c.lift_wire.new.slots i.nodes e.nodes;
       laid = e.laid c.in-Some.before.now (subst (λ l. AllLaid l c.loop-wire.slots) w i.laid);
-      shape = ap (λ (z : FrameState). z.shape) t.1 ∙ i.shape;
+      schedule = ap (λ (z : FrameState). z.schedule) t.1 ∙ i.schedule;
       inputs = ap (λ (z : FrameState). z.inputs) t.1 ∙ i.inputs;
       lifted = subst (AreLifted n c.args.wires.now c.args.slots.now f.lanes m)
-          (sym (lanes ∙ ap (λ (o : Outline). set ls (lane_place o.ranks v.bounds.source v.bounds.target v.bounds.lane) t.0) i.shape)) more;
+          (sym (lanes ∙ ap (λ (o : ScheduleOf). set ls (lane_place o.plan.ranks v.bounds.source v.bounds.target v.bounds.lane) t.0)
+          i.schedule)) more;
     }
 
 pub returns-clause-lifted : goal.returns-clause-lifted
 returns-clause-lifted g c = λ k w at. let i = c.loop-wire.invariant in let f = c.args.frame.now in
     let none : length c.loop-wire.wires.now ≤ k = search (rules, arith, c.split_last.ensures, c.in_default.ensures) in
-    subst (λ (o : Outline). IsLifted w.bounds c.args.slots.now
-    (lane_at c.loop-wire.frame.lanes (lane_place o.ranks w.bounds.source w.bounds.target w.bounds.lane))) (sym i.shape)
+    subst (λ (o : ScheduleOf). IsLifted w.bounds c.args.slots.now
+    (lane_at c.loop-wire.frame.lanes (lane_place o.plan.ranks w.bounds.source w.bounds.target w.bounds.lane))) (sym i.schedule)
     (i.lifted.done k w none at)
 
 pub returns-clause-unused : goal.returns-clause-unused
 returns-clause-unused g c = λ s d lane hs hd unused. let i = c.loop-wire.invariant in let f = c.args.frame.now in let r = c.requires in
     let none : length c.loop-wire.wires.now ≡ 0 = search (rules, arith, c.split_last.ensures, c.in_default.ensures) in
-    let lifted = subst (λ k. AreLifted f.shape.ranks c.args.wires.now c.args.slots.now f.lanes k c.loop-wire.frame.lanes) none i.lifted in
-    ap (λ (o : Outline). lane_at c.loop-wire.frame.lanes (lane_place o.ranks s d lane)) i.shape
-    ∙ (unused-left (plan_of f.shape) f.shape.ranks r.count c.args.wires.now r.lanes c.args.slots.now f.lanes
+    let lifted = subst (λ k. AreLifted f.schedule.plan.ranks c.args.wires.now c.args.slots.now f.lanes k c.loop-wire.frame.lanes) none
+    i.lifted in
+    ap (λ (o : ScheduleOf). lane_at c.loop-wire.frame.lanes (lane_place o.plan.ranks s d lane)) i.schedule
+    ∙ (unused-left f.schedule.plan f.schedule.plan.ranks refl c.args.wires.now r.lanes c.args.slots.now f.lanes
     c.loop-wire.frame.lanes lifted s d lane hs hd unused
     ∙ r.empty s d lane hs hd)

@@ -12,9 +12,10 @@ invariant-loop-wire g l = record {
   count : length l.slots ≡ length l.initial.slots;
   nodes : Slotwise SameNode l.initial.slots l.slots;
   laid : AllLaid l.wires l.slots;
-  shape : l.frame.shape ≡ l.initial.frame.shape;
+  schedule : l.frame.schedule ≡ l.initial.frame.schedule;
   inputs : l.frame.inputs ≡ l.initial.frame.inputs;
-  lifted : AreLifted l.initial.frame.shape.ranks l.initial.wires l.initial.slots l.initial.frame.lanes (length l.wires) l.frame.lanes;
+  lifted : AreLifted l.initial.frame.schedule.plan.ranks l.initial.wires l.initial.slots l.initial.frame.lanes
+      (length l.wires) l.frame.lanes;
 }
 
 abbrev pub decreases-loop-wire : goal.decreases-loop-wire

@@ -4,7 +4,6 @@ use Rattle.std.proofs.lemmas.List.{nil_from_length}
 use lib.ListN.{get_elem?}
 use Rattle.std.specs.Vec.Iter.{into_iter_items}
 use Rattle.pair_wires.specs.Wires.{WireState}
-use Rattle.shape_plans.specs.Drawing.{plan_of}
 use Rattle.rank_wiring.specs.declared.open.OutWires.{OutWires}
 use Rattle.rank_slots.specs.Lanes.{lanes_before}
 use Rattle.rank_wiring.specs.Opening.{IsHanded}
@@ -72,7 +71,7 @@ loop-load-preserved c =
       len = (let gone = c.in-Some.ensures.steps.1 in let was = i.len in let short = ap (λ (l : List OutWires). length l) step in
           omega (arith, gone, was, short));
       rest = append_assoc c.loop-load.yielded (load ∷ []) left ∙ (ap (λ (l : List OutWires). c.loop-load.yielded ++ l) (sym step) ∙ i.rest);
-      lanes = ap (λ (l : List WireState). bounds_of l) e.wires ∙ (lanes ∙ ap (λ k. lanes_before (plan_of job.shape) k) many);
+      lanes = ap (λ (l : List WireState). bounds_of l) e.wires ∙ (lanes ∙ ap (λ k. lanes_before job.schedule.plan k) many);
       handed = e.handed;
       count = c.hand_load.ensures.count ∙ i.count;
       outs = outs-chain c.args.slots.now c.loop-load.slots c.hand_load.new.slots i.outs e.outs;
@@ -82,17 +81,17 @@ loop-load-preserved c =
 
 pub returns-clause-wired : goal.returns-clause-wired
 returns-clause-wired c =
-    let i = c.loop-load.invariant in let job = c.args.job.now in let p = plan_of job.shape in
+    let i = c.loop-load.invariant in let job = c.args.job.now in let p = job.schedule.plan in
     let none = c.in-None.ensures.steps in let at = c.loop-load in
     let empty : into_iter_items at.load-iterator ≡ [] = nil_from_length _ (sym i.len ∙ none.0) in
     let all : at.yielded ≡ c.args.loads.items =
     sym (append-nil at.yielded) ∙ (ap (λ (l : List OutWires). at.yielded ++ l) (sym empty)
     ∙ (i.rest ∙ c.into_iter-load-iterator.ensures.into_iter_gives.0)) in
-    let done : length at.yielded ≡ job.shape.ranks = ap (λ (l : List OutWires). length l) all ∙ c.requires.count.1 in
-    let n = c.requires.sound.ranks in record {
+    let done : length at.yielded ≡ job.schedule.plan.ranks = ap (λ (l : List OutWires). length l) all ∙ c.requires.count.1 in
+    record {
       count = i.handed.count;
       fresh = i.handed.fresh;
-      wires_are = record { bounds_are = i.lanes ∙ ap (λ k. lanes_before p k) (done ∙ sym n); rooms = i.handed.rooms };
+      wires_are = record { bounds_are = i.lanes ∙ ap (λ k. lanes_before p k) done; rooms = i.handed.rooms };
       laid = λ r x at. record {
         outs_are = i.laid r x at (let low = within c.loop-load.slots r x at in let k = i.handed.count in omega (arith, low, k, done));
         ins_are = i.handed.ins r x at;

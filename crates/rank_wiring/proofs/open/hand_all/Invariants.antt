@@ -2,7 +2,6 @@ use Rattle.std.proofs.Common.{◌≡◌, ◌++◌, ◌<◌, ℕ, length, map}
 use mathlib.Core.Option.{some}
 use lib.ListN.{get_elem?}
 use Rattle.std.specs.Vec.Iter.{into_iter_items, into_iter_len}
-use Rattle.shape_plans.specs.Drawing.{plan_of}
 use Rattle.rank_slots.specs.declared.slot.TurnRank.{TurnRank}
 use Rattle.rank_slots.specs.Joints.{out_joint}
 use Rattle.rank_slots.specs.Lanes.{lanes_before}
@@ -16,7 +15,7 @@ abbrev pub invariant-loop-load : goal.invariant-loop-load
 invariant-loop-load l = record {
   len : into_iter_len l.load-iterator ≡ length (into_iter_items l.load-iterator);
   rest : l.yielded ++ into_iter_items l.load-iterator ≡ into_iter_items l.initial.load-iterator;
-  lanes : bounds_of l.wires.items ≡ lanes_before (plan_of l.job.shape) (length l.yielded);
+  lanes : bounds_of l.wires.items ≡ lanes_before l.job.schedule.plan (length l.yielded);
   handed : IsHanded l.job l.wires.items l.slots;
   count : length l.slots ≡ length l.initial.slots;
   outs : Slotwise SameOuts l.initial.slots l.slots;

@@ -2,7 +2,6 @@ use Rattle.std.proofs.Common.{◌≡◌, ◌<◌, ◌+◌, ◌∙◌, ◌∷◌,
 use lib.ListN.{get_elem?}
 use Rattle.pair_wires.specs.declared.bounds.Bounds.{Bounds}
 use Rattle.pair_wires.specs.Wires.{WireState}
-use Rattle.shape_plans.specs.Drawing.{plan_of}
 use Rattle.rank_wiring.specs.declared.open.WireEnd.{WireEnd}
 use Rattle.rank_slots.specs.Joints.{Joint, joint, out_joint}
 use Rattle.rank_slots.specs.Lanes.{IsLane, lanes_before, lanes_from}
@@ -20,7 +19,7 @@ abbrev wire_of : WireEnd → WireState
 wire_of l = l.wire
 
 pub loop-k-init : goal.loop-k-init
-loop-k-init c = let none = c.in_ok-lines.ensures.items in let n = length (lanes_before (plan_of c.args.job.now.shape) c.args.rank) in
+loop-k-init c = let none = c.in_ok-lines.ensures.items in let n = length (lanes_before c.args.job.now.schedule.plan c.args.rank) in
     record {
       count = ap (λ (l : List WireEnd). length l) none;
       fresh = c.requires.bare.fresh;
@@ -30,21 +29,18 @@ loop-k-init c = let none = c.in_ok-lines.ensures.items in let n = length (lanes_
       bounds_are = ap (λ (l : List WireEnd). bounds_of (wires_in l)) none;
     }
 
-pub lay_line-requires-clause-ranks : goal.lay_line-requires-clause-ranks
-lay_line-requires-clause-ranks c = c.requires.sound.ranks
-
 pub lay_line-requires-clause-lane : goal.lay_line-requires-clause-lane
 lay_line-requires-clause-lane c =
-    let job = c.args.job.now in let p = plan_of job.shape in let k = c.loop-k.k in let lanes = c.args.fan.now.lanes.items in
+    let job = c.args.job.now in let p = job.schedule.plan in let k = c.loop-k.k in let lanes = c.args.fan.now.lanes.items in
     let x = exists_at lanes k (omega arith) in
     let there = ap (λ (l : List Bounds). get_elem? l k) (sym c.requires.fan.lanes) ∙ x.1 in
-    let low : c.args.rank < p.ranks = (let r = c.requires.rank in let n = c.requires.sound.ranks in omega (arith, r, n)) in
+    let low : c.args.rank < p.ranks = c.requires.rank in
     subst (IsLane p) (sym (c.index.ensures ∙ read lanes k x.0 _ x.1))
     (is-lane p (length job.inputs) c.requires.sound.plan c.args.rank low k x.0 there)
 
 pub lay_line-requires-clause-fresh : goal.lay_line-requires-clause-fresh
 lay_line-requires-clause-fresh c =
-    let job = c.args.job.now in let p = plan_of job.shape in let k = c.loop-k.k in let lanes = c.args.fan.now.lanes.items in
+    let job = c.args.job.now in let p = job.schedule.plan in let k = c.loop-k.k in let lanes = c.args.fan.now.lanes.items in
     let x = exists_at lanes k (omega arith) in
     let there = ap (λ (l : List Bounds). get_elem? l k) (sym c.requires.fan.lanes) ∙ x.1 in
     let from : c.index.result.now.source ≡ c.args.rank =
@@ -53,11 +49,11 @@ lay_line-requires-clause-fresh c =
 
 pub lay_line-requires-clause-apart : goal.lay_line-requires-clause-apart
 lay_line-requires-clause-apart c =
-    let i = c.loop-k.invariant in let job = c.args.job.now in let p = plan_of job.shape in let k = c.loop-k.k in
+    let i = c.loop-k.invariant in let job = c.args.job.now in let p = job.schedule.plan in let k = c.loop-k.k in
     let lanes = c.args.fan.now.lanes.items in
     let x = exists_at lanes k (omega arith) in
     let there = ap (λ (l : List Bounds). get_elem? l k) (sym c.requires.fan.lanes) ∙ x.1 in
-    let low : c.args.rank < p.ranks = (let r = c.requires.rank in let n = c.requires.sound.ranks in omega (arith, r, n)) in
+    let low : c.args.rank < p.ranks = c.requires.rank in
     let wires = wires_in c.loop-k.lines.items in
     subst (λ (b : Bounds). HasNoOut b c.loop-k.slot.outs.items) (sym (c.index.ensures ∙ read lanes k x.0 _ x.1))
     (no-out p (length job.inputs) c.requires.sound.plan c.args.rank low (length (lanes_before p c.args.rank)) k wires i.bounds_are
@@ -67,23 +63,23 @@ lay_line-requires-clause-apart c =
 -- few lanes come from the rank and those below it
 pub overflow_cast-k : goal.overflow_cast-k
 overflow_cast-k c =
-    let job = c.args.job.now in let p = plan_of job.shape in
-    let low : c.args.rank < p.ranks = (let r = c.requires.rank in let n = c.requires.sound.ranks in omega (arith, r, n)) in
+    let job = c.args.job.now in let p = job.schedule.plan in
+    let low : c.args.rank < p.ranks = c.requires.rank in
     let at_most = next-at_most p (length job.inputs) c.requires.sound.plan c.args.rank low in
     let many = ap (λ (l : List Bounds). length l) c.requires.fan.lanes in
     record { fits = omega (arith, at_most, many) }
 
 pub overflow_add-fan : goal.overflow_add-fan
 overflow_add-fan c =
-    let job = c.args.job.now in let p = plan_of job.shape in
-    let low : c.args.rank < p.ranks = (let r = c.requires.rank in let n = c.requires.sound.ranks in omega (arith, r, n)) in
+    let job = c.args.job.now in let p = job.schedule.plan in
+    let low : c.args.rank < p.ranks = c.requires.rank in
     let at_most = next-at_most p (length job.inputs) c.requires.sound.plan c.args.rank low in
     let many = ap (λ (l : List Bounds). length l) c.requires.fan.lanes in let first = c.requires.fan.first in
     omega (arith, at_most, many, first)
 
 pub loop-k-preserved : goal.loop-k-preserved
 loop-k-preserved c =
-    let i = c.loop-k.invariant in let job = c.args.job.now in let p = plan_of job.shape in let k = c.loop-k.k in
+    let i = c.loop-k.invariant in let job = c.args.job.now in let p = job.schedule.plan in let k = c.loop-k.k in
     let lanes = c.args.fan.now.lanes.items in
     let n = length (lanes_before p c.args.rank) in let lines = c.loop-k.lines.items in let ws = wires_in lines in
     let x = exists_at lanes k (omega arith) in
@@ -112,7 +108,7 @@ loop-k-preserved c =
 
 pub returns : goal.returns
 returns c =
-    let i = c.loop-k.invariant in let p = plan_of c.args.job.now.shape in let lanes = lanes_from p c.args.rank in
+    let i = c.loop-k.invariant in let p = c.args.job.now.schedule.plan in let lanes = lanes_from p c.args.rank in
     let many = ap (λ (l : List Bounds). length l) c.requires.fan.lanes in
     let all : c.loop-k.k ≡ length lanes = omega (arith, many) in record {
       fresh = i.fresh;

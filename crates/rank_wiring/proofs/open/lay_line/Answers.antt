@@ -1,6 +1,5 @@
 use Rattle.std.proofs.Common.{◌≡◌, ◌∙◌, ◌∷◌, ◌++◌, [], sym, refl, ap, map, arith}
 use Rattle.pair_wires.specs.declared.bounds.Bounds.{Bounds}
-use Rattle.shape_plans.specs.Drawing.{plan_of}
 use Rattle.rank_slots.specs.declared.ports.OutPort.{OutPort}
 use Rattle.rank_slots.specs.Joints.{Joint, joint, out_joint}
 use Rattle.rank_wiring.specs.Opening.{wire_room}
@@ -11,12 +10,12 @@ use Rattle.rank_slots.proofs.Snocs.{map_snoc}
 use Rattle.rank_wiring.proofs.open.lay_line.Goals as goal
 
 pub open-requires : goal.open-requires
-open-requires c = let sends = lane-sends (plan_of c.args.job.now.shape) c.args.lane c.requires.lane in let least = c.min.ensures in
+open-requires c = let sends = lane-sends c.args.job.now.schedule.plan c.args.lane c.requires.lane in let least = c.min.ensures in
     omega (arith, sends, least)
 
 pub add_out-requires : goal.add_out-requires
 add_out-requires c = let o = c.in_ok-wire.ensures in let lane = c.args.lane in
-    fresh_out c.args.job.now lane.source c.args.slot.now c.requires.fresh lane _ c.requires.lane refl c.requires.ranks refl refl
+    fresh_out c.args.job.now lane.source c.args.slot.now c.requires.fresh lane _ c.requires.lane refl refl refl
     (o.out_is.1 ∙ o.bounds_are) o.sent o.waits c.requires.apart
 
 pub returns-clause-fresh : goal.returns-clause-fresh

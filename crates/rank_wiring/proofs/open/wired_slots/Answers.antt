@@ -1,6 +1,5 @@
 use Rattle.std.proofs.Common.{◌≡◌, ◌++◌, ◌∙◌, List, ap, drop, length, subst, sym, take}
-use Rattle.coll_shape.specs.Outline.{Outline}
-use Rattle.shape_plans.specs.Drawing.{plan_of}
+use Rattle.schedule_compiler.specs.Schedules.{ScheduleOf}
 use Rattle.rank_wiring.specs.declared.lanes.OutLanes.{OutLanes}
 use Rattle.rank_slots.specs.declared.slot.TurnRank.{TurnRank}
 use Rattle.rank_wiring.specs.Fans.{AreFans}
@@ -11,22 +10,22 @@ use Rattle.rank_wiring.proofs.open.wired_slots.Goals as goal
 pub make_berths-requires-clause-count : goal.make_berths-requires-clause-count
 make_berths-requires-clause-count g c = λ _ _.
     ap (λ (l : List OutLanes). length l) c.deref.ensures.value
-    ∙ (c.in_ok-fans.ensures.count ∙ ap (λ (o : Outline). o.ranks) c.schedule.ensures)
+    ∙ (c.in_ok-fans.ensures.count ∙ ap (λ (o : ScheduleOf). o.plan.ranks) c.schedule.ensures)
 
 pub make_berths-requires-clause-fans : goal.make_berths-requires-clause-fans
 make_berths-requires-clause-fans g c = λ _ _.
-    subst (AreFans (plan_of c.args.job.now.shape)) (sym c.deref.ensures.value)
-    (subst (λ (o : Outline). AreFans (plan_of o) c.in_ok-fans.fans.items) c.schedule.ensures c.in_ok-fans.ensures.fans)
+    subst (AreFans c.args.job.now.schedule.plan) (sym c.deref.ensures.value)
+    (subst (λ (o : ScheduleOf). AreFans o.plan c.in_ok-fans.fans.items) c.schedule.ensures c.in_ok-fans.ensures.fans)
 
 pub in_order-requires-clause-ranks : goal.in_order-requires-clause-ranks
 in_order-requires-clause-ranks g c =
     ap (λ (l : List OutLanes). length l) c.deref-2.ensures.value
-    ∙ (c.in_ok-fans.ensures.count ∙ ap (λ (o : Outline). o.ranks) c.schedule.ensures)
+    ∙ (c.in_ok-fans.ensures.count ∙ ap (λ (o : ScheduleOf). o.plan.ranks) c.schedule.ensures)
 
 pub in_order-requires-clause-fans : goal.in_order-requires-clause-fans
 in_order-requires-clause-fans g c =
-    subst (AreFans (plan_of c.args.job.now.shape)) (sym c.deref-2.ensures.value)
-    (subst (λ (o : Outline). AreFans (plan_of o) c.in_ok-fans.fans.items) c.schedule.ensures c.in_ok-fans.ensures.fans)
+    subst (AreFans c.args.job.now.schedule.plan) (sym c.deref-2.ensures.value)
+    (subst (λ (o : ScheduleOf). AreFans o.plan c.in_ok-fans.fans.items) c.schedule.ensures c.in_ok-fans.ensures.fans)
 
 pub hand_all-requires-clause-count : goal.hand_all-requires-clause-count
 hand_all-requires-clause-count g c = (

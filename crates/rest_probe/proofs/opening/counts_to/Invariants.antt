@@ -1,8 +1,7 @@
 use Rattle.std.proofs.Common.{◌≡◌, flat_map}
 use Rattle.number_lists.specs.Numbers.{from_to}
-use Rattle.shape_plans.specs.Drawing.{plan_of}
 use Rattle.rest_probe.specs.Lanes.{pair_lanes}
 use Rattle.rest_probe.proofs.opening.counts_to.Given as goal
 
 abbrev pub invariant-loop-s : goal.invariant-loop-s
-invariant-loop-s l = l.counts.items ≡ flat_map (λ s. pair_lanes (plan_of l.schedule) s l.r s) (from_to 0 l.s)
+invariant-loop-s l = l.counts.items ≡ flat_map (λ s. pair_lanes l.schedule.plan s l.r s) (from_to 0 l.s)

@@ -1,12 +1,11 @@
 use Rattle.std.proofs.Common.{◌∙◌, subst, sym, true≢false}
-use Rattle.shape_plans.specs.Drawing.{plan_of}
 use Rattle.rank_node.specs.Node.{IsNode, IsStarted, NodeState}
 use Rattle.rank_slots.proofs.Ties.{tied-start}
 use Rattle.rank_slots.proofs.slot.TurnRank.begin.Goals as goal
 
 pub invariant_of-self : goal.invariant_of-self
 invariant_of-self c = let s = c.args.self.now in record {
-  tied = tied-start (plan_of s.job.shape) s.job.inputs s.node.value c.start.new.self s.outs.items s.ins.items
+  tied = tied-start s.job.schedule.plan s.job.inputs s.node.value c.start.new.self s.outs.items s.ins.items
       (subst IsNode c.deref.ensures c.history.ensures.kept)
       (subst (λ (n : NodeState). IsStarted n c.start.new.self) c.deref_mut.ensures.value c.start.ensures) s.tied;
 }

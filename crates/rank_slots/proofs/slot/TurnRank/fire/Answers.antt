@@ -1,5 +1,4 @@
 use Rattle.std.proofs.Common.{◌≡◌, ◌∙◌, map, sym, ap, refl, subst}
-use Rattle.shape_plans.specs.Drawing.{plan_of}
 use Rattle.cuts.specs.histories.History.{made_by}
 use Rattle.cuts.specs.histories.History.Local.{Fire}
 use Rattle.rank_node.specs.Handles.{slots_of}
@@ -18,12 +17,12 @@ pass_on-waits-requires-clause-ends g c = let s = c.args.self.now in
     let step : c.fire-made.new.self ≡ fired_node c.args.number s.node.value = c.fire-made.ensures.step
     ∙ ap (fired_node c.args.number) c.deref_mut.ensures.value in
     subst (λ (n : NodeState). AreEnds c.args.wires.now n.closed s.outs.items) (sym (c.deref_mut-2.ensures.value ∙ step))
-    (ends-of (plan_of s.job.shape) s.job.inputs c.args.wires.now s.node.value s.outs.items s.ins.items c.requires.wired.outs
+    (ends-of s.job.schedule.plan s.job.inputs c.args.wires.now s.node.value s.outs.items s.ins.items c.requires.wired.outs
     (subst IsNode c.deref.ensures c.history.ensures.kept) s.tied)
 
 pub pass_on-waits-requires-clause-may : goal.pass_on-waits-requires-clause-may
-pass_on-waits-requires-clause-may g c = let s = c.args.self.now in let p = plan_of s.job.shape in let n = s.node.value in let t =
-    c.args.number in
+pass_on-waits-requires-clause-may g c = let s = c.args.self.now in let p = s.job.schedule.plan in let n = s.node.value in
+    let t = c.args.number in
     let is = subst IsNode c.deref.ensures c.history.ensures.kept in
     let step : c.fire-made.new.self ≡ fired_node t n = c.fire-made.ensures.step ∙ ap (fired_node t) c.deref_mut.ensures.value in
     let went = fired-went n c.fire-made.new.self t step in
@@ -36,8 +35,8 @@ pass_on-waits-requires-clause-may g c = let s = c.args.self.now in let p = plan_
     (node-of p s.job.inputs c.requires.sound.plan n s.tied.compiled is) c.requires.open s.tied.gated i o m a (sym by ∙ made) f)
 
 pub invariant_of-self : goal.invariant_of-self
-invariant_of-self g c = let s = c.args.self.now in let p = plan_of s.job.shape in let n = s.node.value in let t = c.args.number in let e =
-    c.pass_on-waits.ensures in
+invariant_of-self g c = let s = c.args.self.now in let p = s.job.schedule.plan in let n = s.node.value in let t = c.args.number in
+    let e = c.pass_on-waits.ensures in
     let step : c.fire-made.new.self ≡ fired_node t n = c.fire-made.ensures.step ∙ ap (fired_node t) c.deref_mut.ensures.value in
     let re = subst (λ (m : NodeState). Regated m c.pass_on-waits.new.node) c.deref_mut-2.ensures.value e.node in
     let went = fired-went n c.fire-made.new.self t step in

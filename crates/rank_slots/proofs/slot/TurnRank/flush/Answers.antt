@@ -1,5 +1,4 @@
 use Rattle.std.proofs.Common.{map, sym, ap, subst}
-use Rattle.shape_plans.specs.Drawing.{plan_of}
 use Rattle.rank_node.specs.Node.{IsNode, NodeState}
 use Rattle.rank_slots.specs.Joints.{out_joint}
 use Rattle.rank_slots.specs.Ports.{AreEnds, Flushed, Regated}
@@ -11,13 +10,13 @@ use Rattle.rank_slots.proofs.slot.TurnRank.flush.Goals as goal
 pub flush_all-free-requires : goal.flush_all-free-requires
 flush_all-free-requires g c = let s = c.args.self.now in
     subst (λ (n : NodeState). AreEnds c.args.wires.now n.closed s.outs.items) (sym c.deref_mut.ensures.value)
-    (ends-of (plan_of s.job.shape) s.job.inputs c.args.wires.now s.node.value s.outs.items s.ins.items c.requires.wired.outs
+    (ends-of s.job.schedule.plan s.job.inputs c.args.wires.now s.node.value s.outs.items s.ins.items c.requires.wired.outs
     (subst IsNode c.deref.ensures c.history.ensures.kept) s.tied)
 
 pub invariant_of-self : goal.invariant_of-self
 invariant_of-self g c = let s = c.args.self.now in let f = c.flush_all-free.ensures in record {
-  tied = tied-flushed (plan_of s.job.shape) s.job.inputs s.node.value c.flush_all-free.new.node s.outs.items
-      c.flush_all-free.new.outs.items s.ins.items
+  tied = tied-flushed s.job.schedule.plan s.job.inputs s.node.value c.flush_all-free.new.node s.outs.items c.flush_all-free.new.outs.items
+      s.ins.items
       (subst (λ (n : NodeState). Regated n c.flush_all-free.new.node) c.deref_mut.ensures.value f.node) f.flushed f.ends.gated s.tied;
 }
 

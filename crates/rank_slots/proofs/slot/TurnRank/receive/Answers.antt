@@ -1,5 +1,4 @@
 use Rattle.std.proofs.Common.{◌≡◌, ◌<◌, ◌≤◌, ◌∙◌, map, length, set, sym, ap, refl, subst, inl, length-set}
-use Rattle.shape_plans.specs.Drawing.{plan_of}
 use Rattle.cuts.specs.histories.History.{IsDue, got, made_by}
 use Rattle.cuts.specs.histories.History.Local.{Receive}
 use Rattle.atomic_table.proofs.Lists.{at_index, at_map, set_else, set_here}
@@ -21,15 +20,15 @@ use Rattle.rank_slots.proofs.slot.TurnRank.receive.Goals as goal
 
 pub pop_at-requires : goal.pop_at-requires
 pop_at-requires g c =
-    let s = c.args.self.now in let p = plan_of s.job.shape in let n = s.node.value in let ins = s.ins.items in let o =
-    c.index_mut-port.result.now in
+    let s = c.args.self.now in let p = s.job.schedule.plan in let n = s.node.value in let ins = s.ins.items in
+    let o = c.index_mut-port.result.now in
     let there = at_index ins c.args.at o c.requires.at c.index_mut-port.ensures.value in
     c.requires.wired.ins c.args.at (in_joint o) (at_map in_joint ins c.args.at o there)
 
 pub invariant_of-self : goal.invariant_of-self
 invariant_of-self g c =
-    let s = c.args.self.now in let p = plan_of s.job.shape in let n = s.node.value in let ins = s.ins.items in let o =
-    c.index_mut-port.result.now in
+    let s = c.args.self.now in let p = s.job.schedule.plan in let n = s.node.value in let ins = s.ins.items in
+    let o = c.index_mut-port.result.now in
     let there = at_index ins c.args.at o c.requires.at c.index_mut-port.ensures.value in
     record {
       tied = tied-ins p s.job.inputs n s.outs.items ins (set ins c.args.at c.pop_at.new.port)
@@ -38,8 +37,8 @@ invariant_of-self g c =
 
 pub returns-in_default-clause-none : goal.returns-in_default-clause-none
 returns-in_default-clause-none g c = λ f.
-    let s = c.args.self.now in let p = plan_of s.job.shape in let n = s.node.value in let ins = s.ins.items in let o =
-    c.index_mut-port.result.now in
+    let s = c.args.self.now in let p = s.job.schedule.plan in let n = s.node.value in let ins = s.ins.items in
+    let o = c.index_mut-port.result.now in
     let there = at_index ins c.args.at o c.requires.at c.index_mut-port.ensures.value in
     let q = c.pop_at.new.port in let none = (c.in_default.ensures).none in record {
       node = refl;
@@ -57,8 +56,8 @@ returns-in_default-clause-none g c = λ f.
 
 pub returns-in_default-clause-name : goal.returns-in_default-clause-name
 returns-in_default-clause-name g c =
-    let s = c.args.self.now in let p = plan_of s.job.shape in let n = s.node.value in let ins = s.ins.items in let o =
-    c.index_mut-port.result.now in
+    let s = c.args.self.now in let p = s.job.schedule.plan in let n = s.node.value in let ins = s.ins.items in
+    let o = c.index_mut-port.result.now in
     let there = at_index ins c.args.at o c.requires.at c.index_mut-port.ensures.value in
     let q = c.pop_at.new.port in
     named-all s.job n.task n.task (map out_joint s.outs.items) (map out_joint s.outs.items) (map in_joint ins)
@@ -68,8 +67,8 @@ returns-in_default-clause-name g c =
 
 pub receive-answer-requires-clause-source : goal.receive-answer-requires-clause-source
 receive-answer-requires-clause-source g c =
-    let s = c.args.self.now in let p = plan_of s.job.shape in let n = s.node.value in let ins = s.ins.items in let o =
-    c.index_mut-port.result.now in
+    let s = c.args.self.now in let p = s.job.schedule.plan in let n = s.node.value in let ins = s.ins.items in
+    let o = c.index_mut-port.result.now in
     let there = at_index ins c.args.at o c.requires.at c.index_mut-port.ensures.value in
     let q = c.pop_at.new.port in let m = c.in-Some.message in let got_it = (c.in-Some.ensures).some in
     let is = subst IsNode c.deref.ensures c.history.ensures.kept in
@@ -79,8 +78,8 @@ receive-answer-requires-clause-source g c =
 
 pub receive-answer-requires-clause-target : goal.receive-answer-requires-clause-target
 receive-answer-requires-clause-target g c =
-    let s = c.args.self.now in let p = plan_of s.job.shape in let n = s.node.value in let ins = s.ins.items in let o =
-    c.index_mut-port.result.now in
+    let s = c.args.self.now in let p = s.job.schedule.plan in let n = s.node.value in let ins = s.ins.items in
+    let o = c.index_mut-port.result.now in
     let there = at_index ins c.args.at o c.requires.at c.index_mut-port.ensures.value in
     let q = c.pop_at.new.port in let m = c.in-Some.message in let got_it = (c.in-Some.ensures).some in
     let is = subst IsNode c.deref.ensures c.history.ensures.kept in
@@ -91,8 +90,8 @@ receive-answer-requires-clause-target g c =
 
 pub receive-answer-requires-clause-lane : goal.receive-answer-requires-clause-lane
 receive-answer-requires-clause-lane g c =
-    let s = c.args.self.now in let p = plan_of s.job.shape in let n = s.node.value in let ins = s.ins.items in let o =
-    c.index_mut-port.result.now in
+    let s = c.args.self.now in let p = s.job.schedule.plan in let n = s.node.value in let ins = s.ins.items in
+    let o = c.index_mut-port.result.now in
     let there = at_index ins c.args.at o c.requires.at c.index_mut-port.ensures.value in
     let q = c.pop_at.new.port in let m = c.in-Some.message in let got_it = (c.in-Some.ensures).some in
     let is = subst IsNode c.deref.ensures c.history.ensures.kept in
@@ -102,16 +101,16 @@ receive-answer-requires-clause-lane g c =
 
 pub receive-answer-requires-clause-due : goal.receive-answer-requires-clause-due
 receive-answer-requires-clause-due g c =
-    let s = c.args.self.now in let p = plan_of s.job.shape in let n = s.node.value in let ins = s.ins.items in let o =
-    c.index_mut-port.result.now in
+    let s = c.args.self.now in let p = s.job.schedule.plan in let n = s.node.value in let ins = s.ins.items in
+    let o = c.index_mut-port.result.now in
     let there = at_index ins c.args.at o c.requires.at c.index_mut-port.ensures.value in
     subst (λ (x : NodeState). IsDue x.nic o.lane c.in-Some.message) (sym c.deref_mut.ensures.value)
     (due-of n.nic o.lane c.in-Some.message (c.requires.due o there))
 
 pub receive-answer-requires-clause-receipts : goal.receive-answer-requires-clause-receipts
 receive-answer-requires-clause-receipts g c =
-    let s = c.args.self.now in let p = plan_of s.job.shape in let n = s.node.value in let ins = s.ins.items in let o =
-    c.index_mut-port.result.now in
+    let s = c.args.self.now in let p = s.job.schedule.plan in let n = s.node.value in let ins = s.ins.items in
+    let o = c.index_mut-port.result.now in
     let there = at_index ins c.args.at o c.requires.at c.index_mut-port.ensures.value in
     let q = c.pop_at.new.port in let m = c.in-Some.message in let got_it = (c.in-Some.ensures).some in
     let is = subst IsNode c.deref.ensures c.history.ensures.kept in
@@ -123,8 +122,8 @@ receive-answer-requires-clause-receipts g c =
 
 pub receive-answer-requires-clause-bytes : goal.receive-answer-requires-clause-bytes
 receive-answer-requires-clause-bytes g c =
-    let s = c.args.self.now in let p = plan_of s.job.shape in let n = s.node.value in let ins = s.ins.items in let o =
-    c.index_mut-port.result.now in
+    let s = c.args.self.now in let p = s.job.schedule.plan in let n = s.node.value in let ins = s.ins.items in
+    let o = c.index_mut-port.result.now in
     let there = at_index ins c.args.at o c.requires.at c.index_mut-port.ensures.value in
     let q = c.pop_at.new.port in let m = c.in-Some.message in let got_it = (c.in-Some.ensures).some in
     let is = subst IsNode c.deref.ensures c.history.ensures.kept in
@@ -136,8 +135,8 @@ receive-answer-requires-clause-bytes g c =
 
 pub pass_on-waits-requires-clause-ends : goal.pass_on-waits-requires-clause-ends
 pass_on-waits-requires-clause-ends g c =
-    let s = c.args.self.now in let p = plan_of s.job.shape in let n = s.node.value in let ins = s.ins.items in let o =
-    c.index_mut-port.result.now in
+    let s = c.args.self.now in let p = s.job.schedule.plan in let n = s.node.value in let ins = s.ins.items in
+    let o = c.index_mut-port.result.now in
     let there = at_index ins c.args.at o c.requires.at c.index_mut-port.ensures.value in
     let q = c.pop_at.new.port in let m = c.in-Some.message in let got_it = (c.in-Some.ensures).some in
     let is = subst IsNode c.deref.ensures c.history.ensures.kept in
@@ -155,8 +154,8 @@ pass_on-waits-requires-clause-ends g c =
 
 pub pass_on-waits-requires-clause-may : goal.pass_on-waits-requires-clause-may
 pass_on-waits-requires-clause-may g c =
-    let s = c.args.self.now in let p = plan_of s.job.shape in let n = s.node.value in let ins = s.ins.items in let o =
-    c.index_mut-port.result.now in
+    let s = c.args.self.now in let p = s.job.schedule.plan in let n = s.node.value in let ins = s.ins.items in
+    let o = c.index_mut-port.result.now in
     let there = at_index ins c.args.at o c.requires.at c.index_mut-port.ensures.value in
     let q = c.pop_at.new.port in let m = c.in-Some.message in let got_it = (c.in-Some.ensures).some in
     let is = subst IsNode c.deref.ensures c.history.ensures.kept in
@@ -176,8 +175,8 @@ pass_on-waits-requires-clause-may g c =
 
 pub invariant_of-self-2 : goal.invariant_of-self-2
 invariant_of-self-2 g c =
-    let s = c.args.self.now in let p = plan_of s.job.shape in let n = s.node.value in let ins = s.ins.items in let o =
-    c.index_mut-port.result.now in
+    let s = c.args.self.now in let p = s.job.schedule.plan in let n = s.node.value in let ins = s.ins.items in
+    let o = c.index_mut-port.result.now in
     let there = at_index ins c.args.at o c.requires.at c.index_mut-port.ensures.value in
     let q = c.pop_at.new.port in let m = c.in-Some.message in let got_it = (c.in-Some.ensures).some in
     let is = subst IsNode c.deref.ensures c.history.ensures.kept in
@@ -201,8 +200,8 @@ invariant_of-self-2 g c =
 
 pub returns-clause-some : goal.returns-clause-some
 returns-clause-some g c = λ f.
-    let s = c.args.self.now in let p = plan_of s.job.shape in let n = s.node.value in let ins = s.ins.items in let o =
-    c.index_mut-port.result.now in
+    let s = c.args.self.now in let p = s.job.schedule.plan in let n = s.node.value in let ins = s.ins.items in
+    let o = c.index_mut-port.result.now in
     let there = at_index ins c.args.at o c.requires.at c.index_mut-port.ensures.value in
     let q = c.pop_at.new.port in let m = c.in-Some.message in let got_it = (c.in-Some.ensures).some in
     let is = subst IsNode c.deref.ensures c.history.ensures.kept in
@@ -226,8 +225,8 @@ returns-clause-some g c = λ f.
 
 pub returns-clause-name : goal.returns-clause-name
 returns-clause-name g c =
-    let s = c.args.self.now in let p = plan_of s.job.shape in let n = s.node.value in let ins = s.ins.items in let o =
-    c.index_mut-port.result.now in
+    let s = c.args.self.now in let p = s.job.schedule.plan in let n = s.node.value in let ins = s.ins.items in
+    let o = c.index_mut-port.result.now in
     let there = at_index ins c.args.at o c.requires.at c.index_mut-port.ensures.value in
     let q = c.pop_at.new.port in let m = c.in-Some.message in let got_it = (c.in-Some.ensures).some in
     let is = subst IsNode c.deref.ensures c.history.ensures.kept in

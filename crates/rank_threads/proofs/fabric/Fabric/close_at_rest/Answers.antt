@@ -2,7 +2,6 @@ use Rattle.std.proofs.Common.{ℕ, ap, sym, subst, arith}
 use Rattle.cuts.specs.view.Slots.{Slots}
 use Rattle.cuts.specs.histories.Plans.{system_of}
 use Rattle.cuts.specs.histories.Wave.{IsWave}
-use Rattle.shape_plans.specs.Drawing.{plan_of}
 use Rattle.schedule_compiler.specs.Jobs.{JobOf}
 use Rattle.worlds.specs.World.{histories_in, ranks_in}
 use Rattle.worlds.specs.parts.Layout.{node_at}
@@ -18,13 +17,13 @@ returns-clause-rest g c = λ k agree. let f = c.args.self in let w = c.close_kee
     let sound : IsSound f.job = subst (λ (f : FabricState). IsSound f.job) c.self.view_is c.sound.ensures in
     let job = job-of f c.args.hands.items w e.world in
     let fit = subst IsSound job sound in
-    let wave = subst (λ (j : JobOf). IsWave (system_of (plan_of j.shape) j.inputs k) fronts.0 (histories_in w)) job
+    let wave = subst (λ (j : JobOf). IsWave (system_of j.schedule.plan j.inputs k) fronts.0 (histories_in w)) job
     (is-wave f sound c.args.hands.items w e.world c.args.wave c.requires.lanes c.requires.answer fronts.0 fronts.1 k agree) in
     let cut = (e.kept.moment k agree).cut in
-    let clean = no-stray w k e.kept e.world.spare fit.ranks in
+    let clean = no-stray w k e.kept e.world.spare in
     rest-same (ranks_in w k) fronts.0 (histories_in w)
-    (λ r low. c.one_wave.ensures.whole (plan_of w.shape) w.inputs k fronts.0 (histories_in w) fit.plan fit.inputs cut clean wave r low)
-    (c.one_wave.ensures.rest (plan_of w.shape) w.inputs k fronts.0 (histories_in w) fit.plan fit.inputs cut clean wave)
+    (λ r low. c.one_wave.ensures.whole w.schedule.plan w.inputs k fronts.0 (histories_in w) fit.plan fit.inputs cut clean wave r low)
+    (c.one_wave.ensures.rest w.schedule.plan w.inputs k fronts.0 (histories_in w) fit.plan fit.inputs cut clean wave)
 
 pub returns-clause-whole : goal.returns-clause-whole
 returns-clause-whole g c = λ fronts seen r low. let f = c.args.self in let w = c.close_keeping.result.0 in let e =
@@ -33,9 +32,9 @@ returns-clause-whole g c = λ fronts seen r low. let f = c.args.self in let w = 
     let sound : IsSound f.job = subst (λ (f : FabricState). IsSound f.job) c.self.view_is c.sound.ensures in
     let job = job-of f c.args.hands.items w e.world in
     let fit = subst IsSound job sound in
-    let wave = subst (λ (j : JobOf). IsWave (system_of (plan_of j.shape) j.inputs k) fronts (histories_in w)) job
+    let wave = subst (λ (j : JobOf). IsWave (system_of j.schedule.plan j.inputs k) fronts (histories_in w)) job
     (is-wave f sound c.args.hands.items w e.world c.args.wave c.requires.lanes c.requires.answer fronts seen k agree) in
     let cut = (e.kept.moment k agree).cut in
-    let clean = no-stray w k e.kept e.world.spare fit.ranks in
-    sym (c.one_wave.ensures.whole (plan_of w.shape) w.inputs k fronts (histories_in w) fit.plan fit.inputs cut clean wave r
-    (let a = fit.ranks in let b = ap (λ (j : JobOf). j.shape.ranks) job in omega (arith, low, a, b)))
+    let clean = no-stray w k e.kept e.world.spare in
+    sym (c.one_wave.ensures.whole w.schedule.plan w.inputs k fronts (histories_in w) fit.plan fit.inputs cut clean wave r
+    (let b = ap (λ (j : JobOf). j.schedule.plan.ranks) job in omega (arith, low, b)))

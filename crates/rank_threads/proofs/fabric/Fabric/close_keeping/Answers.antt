@@ -2,12 +2,11 @@ use Rattle.std.proofs.Common.{◌≡◌, ◌<◌, ◌++◌, ◌∙◌, ℕ, fals
 use mathlib.Core.Option.{some}
 use lib.ListN.{get_elem?}
 use Rattle.ptl_types.specs.declared.headers.Lane.{Lane}
-use Rattle.coll_shape.specs.Outline.{Outline}
+use Rattle.schedule_compiler.specs.Schedules.{ScheduleOf}
 use Rattle.pair_wires.specs.Wires.{WireState}
 use Rattle.plan_calls.specs.Lanes.{is_used_lane}
 use Rattle.cuts.specs.orders.Chosen.{Scene}
 use Rattle.cuts.specs.windows.Places.{lane_place}
-use Rattle.shape_plans.specs.Drawing.{plan_of}
 use Rattle.rank_node.specs.Handles.{Agrees}
 use Rattle.rank_node.specs.Node.{NodeState}
 use Rattle.worlds.specs.Frames.{frame_lane}
@@ -39,25 +38,21 @@ pub lift_wires-requires-clause-ranks : goal.lift_wires-requires-clause-ranks
 lift_wires-requires-clause-ranks g c =
     let s = c.self.inside in let k = c.self.invariant in let e = c.close-slots.ensures in
     ap (λ (l : List TurnRank). length l) c.deref_mut.ensures.value
-    ∙ (e.length ∙ (k.fabric.count ∙ sym (ap (λ (o : Outline). o.ranks) k.frame_is.shape)))
-
-pub lift_wires-requires-clause-count : goal.lift_wires-requires-clause-count
-lift_wires-requires-clause-count g c = let k = c.self.invariant in subst (λ (o : Outline). (plan_of o).ranks ≡ o.ranks)
-    (sym k.frame_is.shape) k.fabric.sound.ranks
+    ∙ (e.length ∙ (k.fabric.count ∙ sym (ap (λ (o : ScheduleOf). o.plan.ranks) k.frame_is.schedule)))
 
 pub lift_wires-requires-clause-lanes : goal.lift_wires-requires-clause-lanes
 lift_wires-requires-clause-lanes g c = let s = c.self.inside in let k = c.self.invariant in
-    subst (λ (l : List WireState). AreLanes (plan_of s.frame.shape) (bounds_of l)) (sym c.deref.ensures.value)
-    (subst (λ (o : Outline). AreLanes (plan_of o) (bounds_of s.wires.items)) (sym k.frame_is.shape) k.fabric.lanes)
+    subst (λ (l : List WireState). AreLanes s.frame.schedule.plan (bounds_of l)) (sym c.deref.ensures.value)
+    (subst (λ (o : ScheduleOf). AreLanes o.plan (bounds_of s.wires.items)) (sym k.frame_is.schedule) k.fabric.lanes)
 
 pub lift_wires-requires-clause-rooms : goal.lift_wires-requires-clause-rooms
 lift_wires-requires-clause-rooms g c = subst (Each HasWireRoom) (sym c.deref.ensures.value) c.self.invariant.rooms
 
 pub lift_wires-requires-clause-empty : goal.lift_wires-requires-clause-empty
 lift_wires-requires-clause-empty g c = let s = c.self.inside in let k = c.self.invariant in
-    subst (λ (o : Outline). (q d : ℕ) (lane : Lane) → q < o.ranks → d < o.ranks → lane_at s.frame.lanes (lane_place o.ranks q d lane)
-    ≡ frame_lane (plan_of o) q d lane)
-    (sym k.frame_is.shape) k.frame_is.lanes
+    subst (λ (o : ScheduleOf). (q d : ℕ) (lane : Lane) → q < o.plan.ranks → d < o.plan.ranks
+    → lane_at s.frame.lanes (lane_place o.plan.ranks q d lane) ≡ frame_lane o.plan q d lane)
+    (sym k.frame_is.schedule) k.frame_is.lanes
 
 pub take_nodes-nodes-requires : goal.take_nodes-nodes-requires
 take_nodes-nodes-requires g c =
@@ -79,28 +74,28 @@ into_world-world-requires g c =
     written c.close-slots.result.len last _ (sym (v.count ∙ c.deref_mut.ensures.len)) in
     let is : nodes ≡ map (λ (x : TurnRank). x.node.value) last = t.nodes
     ∙ ap (λ (l : List TurnRank). map (λ (x : TurnRank). x.node.value) l) slots in
-    let many : length now ≡ s.job.shape.ranks = ap (λ (l : List TurnRank). length l) c.deref_mut.ensures.value
+    let many : length now ≡ s.job.schedule.plan.ranks = ap (λ (l : List TurnRank). length l) c.deref_mut.ensures.value
     ∙ (e.length ∙ k.fabric.count) in
-    let size : length nodes ≡ s.job.shape.ranks = as-many last nodes is ∙ (v.count ∙ many) in
-    let shape : f.shape ≡ s.job.shape = v.shape ∙ k.frame_is.shape in
+    let size : length nodes ≡ s.job.schedule.plan.ranks = as-many last nodes is ∙ (v.count ∙ many) in
+    let same : f.schedule ≡ s.job.schedule = v.schedule ∙ k.frame_is.schedule in
     let named = subst (λ (l : List TurnRank). (r : ℕ) (x : TurnRank) → get_elem? l r ≡ some x → IsNamed s.job s.wires.items r (plate x))
     (sym c.deref_mut.ensures.value)
     (named-left s.job s.wires.items s.turns.start c.close-slots.result.items e.length k.fabric.named
     (λ r x y a b. (e.values r x a).named y b)) in
-    may-frame s.job f nodes shape (v.inputs ∙ k.frame_is.inputs)
+    may-frame s.job f nodes same (v.inputs ∙ k.frame_is.inputs)
     (may-close s.job k.fabric.sound now s.wires.items nodes f.lanes size
     (λ r h. kept-at nodes t.kept r (omega (arith, h, size)))
     (λ r h. node-of-slot now last nodes v.nodes v.count is r (omega (arith, h, many)))
     named k.fabric.lanes
-    (λ i w at. subst (λ (o : Outline). IsLifted w.bounds now
-    (lane_at f.lanes (lane_place o.ranks w.bounds.source w.bounds.target w.bounds.lane))) shape
+    (λ i w at. subst (λ (o : ScheduleOf). IsLifted w.bounds now
+    (lane_at f.lanes (lane_place o.plan.ranks w.bounds.source w.bounds.target w.bounds.lane))) same
     (v.lifted i w (ap (λ (l : List WireState). get_elem? l i) c.deref.ensures.value ∙ at)))
     (λ q d lane hq hd none.
-    subst (λ (o : Outline). lane_at f.lanes (lane_place o.ranks q d lane) ≡ frame_lane (plan_of s.job.shape) q d lane) shape
-    (v.unused q d lane (subst (λ (o : Outline). q < o.ranks) (sym k.frame_is.shape) hq)
-    (subst (λ (o : Outline). d < o.ranks) (sym k.frame_is.shape) hd)
-    (subst (λ (o : Outline). is_used_lane (plan_of o) q d lane ≡ false) (sym k.frame_is.shape) none)
-    ∙ ap (λ (o : Outline). frame_lane (plan_of o) q d lane) k.frame_is.shape)))
+    subst (λ (o : ScheduleOf). lane_at f.lanes (lane_place o.plan.ranks q d lane) ≡ frame_lane s.job.schedule.plan q d lane) same
+    (v.unused q d lane (subst (λ (o : ScheduleOf). q < o.plan.ranks) (sym k.frame_is.schedule) hq)
+    (subst (λ (o : ScheduleOf). d < o.plan.ranks) (sym k.frame_is.schedule) hd)
+    (subst (λ (o : ScheduleOf). is_used_lane o.plan q d lane ≡ false) (sym k.frame_is.schedule) none)
+    ∙ ap (λ (o : ScheduleOf). frame_lane o.plan q d lane) k.frame_is.schedule)))
 
 pub returns-clause-world : goal.returns-clause-world
 returns-clause-world g c =
@@ -112,12 +107,12 @@ returns-clause-world g c =
     written c.close-slots.result.len last _ (sym (v.count ∙ c.deref_mut.ensures.len)) in
     let is : nodes ≡ map (λ (x : TurnRank). x.node.value) last = t.nodes
     ∙ ap (λ (l : List TurnRank). map (λ (x : TurnRank). x.node.value) l) slots in
-    let many : length now ≡ s.job.shape.ranks = ap (λ (l : List TurnRank). length l) c.deref_mut.ensures.value
+    let many : length now ≡ s.job.schedule.plan.ranks = ap (λ (l : List TurnRank). length l) c.deref_mut.ensures.value
     ∙ (e.length ∙ k.fabric.count) in
     let w = c.into_world-world.ensures in
-    let shape : f.shape ≡ s.job.shape = v.shape ∙ k.frame_is.shape in
+    let same : f.schedule ≡ s.job.schedule = v.schedule ∙ k.frame_is.schedule in
     subst (λ (z : FabricState). IsWorldOf z c.args.hands.items c.into_world-world.result) c.self.view_is (record {
-      shape = w.shape ∙ shape;
+      schedule = w.schedule ∙ same;
       inputs = w.inputs ∙ (v.inputs ∙ k.frame_is.inputs);
       window = w.window;
       strays = w.strays;
@@ -130,7 +125,7 @@ returns-clause-world g c =
                 (e.values r x.slot (ap (λ (l : List TurnRank). get_elem? l r) (sym c.deref_mut.ensures.value) ∙ x.there));
             dated = (e.values r x.slot (ap (λ (l : List TurnRank). get_elem? l r) (sym c.deref_mut.ensures.value) ∙ x.there)).begun;
             slots = λ k a. subst (λ (n : NodeState). Agrees (k r) n.kept) x.node_is
-                (w.slots k a r (subst (λ (o : Outline). r < o.ranks) (sym shape) h));
+                (w.slots k a r (subst (λ (o : ScheduleOf). r < o.plan.ranks) (sym same) h));
           });
     })
 

@@ -1,5 +1,4 @@
 use Rattle.std.proofs.Common.{◌^◌, ◌<◌, ap, subst, sym}
-use Rattle.shape_plans.specs.Drawing.{plan_of}
 use Rattle.turn_table.specs.declared.views.HandView.{HandView}
 use Rattle.rank_node.specs.Node.{IsNode}
 use Rattle.rank_slots.specs.declared.slot.TurnRank.{TurnRank}
@@ -14,8 +13,9 @@ give-requires-clause-turn g c = let t = c.requires.taken in let s = c.args.turn.
   turn = ap (λ (v : HandView TurnRank). v.turn) t.took.taken;
   grows = t.grows;
   named = t.named;
-  short = subst (λ n. n < 2 ^ 62) (sym (as-long s)) (short-history (plan_of s.job.shape) s.job.inputs c.requires.sound.plan s.node.value
-      s.tied.compiled (subst IsNode c.deref.ensures c.history.ensures.kept) s.tied.strays);
+  short = subst (λ n. n < 2 ^ 62) (sym (as-long s))
+      (short-history s.job.schedule.plan s.job.inputs c.requires.sound.plan s.node.value s.tied.compiled
+      (subst IsNode c.deref.ensures c.history.ensures.kept) s.tied.strays);
 }
 
 pub returns-clause-turned : goal.returns-clause-turned

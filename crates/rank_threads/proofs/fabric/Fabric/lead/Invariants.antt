@@ -1,5 +1,4 @@
 use Rattle.std.proofs.Common.{◌≡◌}
-use Rattle.shape_plans.specs.Drawing.{plan_of}
 use Rattle.rest_probe.specs.Waves.{IsFor}
 use Rattle.turn_table.specs.Hands.{IsFree}
 use Rattle.rank_threads.proofs.fabric.Fabric.lead.Given as goal
@@ -8,5 +7,5 @@ abbrev pub invariant-loop : goal.invariant-loop
 invariant-loop g l = record {
   hand : IsFree l.self.turns l.hand;
   parts : l.hand.knows.parts ≡ l.initial.hand.knows.parts;
-  lanes : IsFor (plan_of l.self.job.shape) l.wave;
+  lanes : IsFor l.self.job.schedule.plan l.wave;
 }

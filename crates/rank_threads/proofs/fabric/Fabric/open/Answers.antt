@@ -1,8 +1,7 @@
 use Rattle.std.proofs.Common.{arith, ◌≡◌, ℕ, List, length, map, sym, ap, ◌∙◌, subst}
 use mathlib.Core.Option.{some}
 use lib.ListN.{get_elem?}
-use Rattle.coll_shape.specs.Outline.{Outline}
-use Rattle.shape_plans.specs.Drawing.{plan_of}
+use Rattle.schedule_compiler.specs.Schedules.{ScheduleOf}
 use Rattle.rank_slots.specs.declared.slot.TurnRank.{TurnRank}
 use Rattle.schedule_compiler.specs.Jobs.{JobOf}
 use Rattle.worlds.specs.Frames.{IsFrameOf}
@@ -24,12 +23,12 @@ open-requires-clause-empty g c =
 
 pub invariant_of-fabric : goal.invariant_of-fabric
 invariant_of-fabric g c =
-    let job = c.args.job.now in let p = plan_of job.shape in let w = c.in_ok-slots.ensures.wired in
+    let job = c.args.job.now in let p = job.schedule.plan in let w = c.in_ok-slots.ensures.wired in
     let wires = c.in_ok-slots.wires.items in let same = c.in_ok-shared.ensures in let sound = c.sound.ensures in
     let start : c.in_ok-turns.turns.start ≡ c.in_ok-slots.slots.items = c.in_ok-turns.ensures.table in
-    let count : length c.in_ok-turns.turns.start ≡ job.shape.ranks = ap (λ (l : List TurnRank). length l) start ∙ w.count in
-    let ranks : c.ranks-ranks.result ≡ job.shape.ranks = c.ranks-ranks.ensures.value
-    ∙ ap (λ (o : Outline). o.ranks) (c.shape.ensures.value ∙ c.schedule.ensures) in
+    let count : length c.in_ok-turns.turns.start ≡ job.schedule.plan.ranks = ap (λ (l : List TurnRank). length l) start ∙ w.count in
+    let ranks : c.ranks-ranks.result ≡ job.schedule.plan.ranks = c.ranks-ranks.ensures.value
+    ∙ ap (λ (o : ScheduleOf). o.plan.ranks) c.schedule.ensures in
     let room = c.in_ok-room.ensures.capacity in
     let fabric : IsFabric job c.in_ok-turns.turns.start wires = record {
       sound = sound;
@@ -39,7 +38,7 @@ invariant_of-fabric g c =
           (λ r x at. let f = w.fresh r x at in record { job_is = f.job_is; rank = f.compiled.rank; laid = w.laid r x at });
     } in record {
       fabric = subst (λ (j : JobOf). IsFabric j c.in_ok-turns.turns.start wires) (sym same) fabric;
-      ranks_are = ranks ∙ sym (ap (λ (j : JobOf). j.shape.ranks) same);
+      ranks_are = ranks ∙ sym (ap (λ (j : JobOf). j.schedule.plan.ranks) same);
       rooms = w.wires_are.rooms;
       frame_is = subst (λ (j : JobOf). IsFrameOf j c.in_ok-slots.frame) (sym same) c.in_ok-slots.ensures.frame;
       empty = c.in_ok-room.ensures.items;

@@ -2,7 +2,6 @@ use Rattle.std.proofs.Common.{append-nil, ◌<◌, [], ◌∙◌, List, length, 
 use Rattle.std.specs.Prelude.{slice_set}
 use lib.ListN.{get_elem?}
 use Rattle.atomic_table.proofs.Lists.{set_else, set_here}
-use Rattle.shape_plans.specs.Drawing.{plan_of}
 use Rattle.turn_table.specs.Hands.{Took}
 use Rattle.rest_probe.specs.declared.notes.RankNote.{RankNote}
 use Rattle.rest_probe.specs.Waves.{IsFor}
@@ -19,8 +18,7 @@ use Rattle.rank_threads.proofs.Turns.{may-end}
 use Rattle.rank_threads.proofs.fabric.Fabric.probe.Goals as goal
 
 pub note_in-requires-clause-rank : goal.note_in-requires-clause-rank
-note_in-requires-clause-rank g c = let n = c.requires.lanes.count in let s = c.take-slot.ensures.sound.ranks in let r = c.requires.rank in
-    omega (arith, n, s, r)
+note_in-requires-clause-rank g c = let n = c.requires.lanes.count in let r = c.requires.rank in omega (arith, n, r)
 
 pub note_in-requires-clause-outs : goal.note_in-requires-clause-outs
 note_in-requires-clause-outs g c = let t = c.take-slot in let now = c.args.self.now in
@@ -44,8 +42,7 @@ returns-clause-noted g c = let t = c.take-slot in let x = t.result.value in let 
     let took = subst (λ k. Took chronicle plate c.args.hand.now.knows k x t.new.hand.knows) (sym t.ensures.slot) t.ensures.took in
     let one = subst (λ k. Turned c.args.hand.now.knows c.give.new.hand.knows k (mark x) (mark x)) t.ensures.slot
     (c.give.ensures.turned c.args.hand.now.knows x took) in
-    let low : r < length w = (let n = c.requires.lanes.count in let s = t.ensures.sound.ranks in let h = c.requires.rank in
-    omega (arith, n, s, h)) in
+    let low : r < length w = (let n = c.requires.lanes.count in let h = c.requires.rank in omega (arith, n, h)) in
     let y = exists_at w r low in let e = c.note_in.ensures y.0 y.1 in (
       mark x,
       one,
@@ -59,14 +56,12 @@ returns-clause-noted g c = let t = c.take-slot in let x = t.result.value in let 
 
 pub returns-clause-others : goal.returns-clause-others
 returns-clause-others g c = λ q apart. let t = c.take-slot in let w = c.args.wave.now in let r = c.args.rank in
-    let low : r < length w = (let n = c.requires.lanes.count in let s = t.ensures.sound.ranks in let h = c.requires.rank in
-    omega (arith, n, s, h)) in
+    let low : r < length w = (let n = c.requires.lanes.count in let h = c.requires.rank in omega (arith, n, h)) in
     let y = exists_at w r low in let e = c.note_in.ensures y.0 y.1 in
     ap (λ (l : List RankNote). get_elem? l q) e.1 ∙ set_else w r q e.0 apart
 
 pub returns-clause-lanes : goal.returns-clause-lanes
 returns-clause-lanes g c = let t = c.take-slot in let w = c.args.wave.now in let r = c.args.rank in
-    let low : r < length w = (let n = c.requires.lanes.count in let s = t.ensures.sound.ranks in let h = c.requires.rank in
-    omega (arith, n, s, h)) in
-    let y = exists_at w r low in let e = c.note_in.ensures y.0 y.1 in let p = plan_of c.args.self.now.job.shape in
+    let low : r < length w = (let n = c.requires.lanes.count in let h = c.requires.rank in omega (arith, n, h)) in
+    let y = exists_at w r low in let e = c.note_in.ensures y.0 y.1 in let p = c.args.self.now.job.schedule.plan in
     subst (IsFor p) (sym e.1) (for-set p w r y.0 e.0 y.1 e.2.lanes c.requires.lanes)

@@ -1,17 +1,16 @@
 use Rattle.std.proofs.Common.{◌≡◌, ◌≢◌, ◌∙◌, ⊎_elim, false, List, ap, refl, sym, subst, arith}
 use Rattle.std.proofs.lemmas.Bool.{cases_eq}
 use lib.ListN.{get_elem?}
-use Rattle.shape_plans.specs.Drawing.{plan_of}
 use Rattle.rest_probe.specs.declared.notes.RankNote.{RankNote}
 use Rattle.rest_probe.specs.Waves.{IsFor}
 use Rattle.rest_probe.proofs.Kept.{for-emptied}
-use Rattle.rank_threads.specs.Fabrics.{FabricState, IsFabric}
+use Rattle.rank_threads.specs.Fabrics.{FabricState}
 use Rattle.rank_threads.proofs.Fronts.{more-noted, none-noted}
 use Rattle.rank_slots.proofs.Pairs.{at_map_back, within}
 use Rattle.rank_threads.proofs.fabric.Fabric.probe_all.Goals as goal
 
 pub loop-rank-init : goal.loop-rank-init
-loop-rank-init g c = let now = c.args.self.now in let p = plan_of now.job.shape in record {
+loop-rank-init g c = let now = c.args.self.now in let p = now.job.schedule.plan in record {
   hand = c.requires.hand;
   parts = refl;
   lanes = subst (IsFor p) (sym c.clear.ensures) (for-emptied p c.args.wave.now c.requires.lanes);
@@ -23,8 +22,8 @@ loop-rank-init g c = let now = c.args.self.now in let p = plan_of now.job.shape 
 }
 
 pub probe-requires-clause-rank : goal.probe-requires-clause-rank
-probe-requires-clause-rank g c = let k = c.self.invariant.ranks_are in let e = ap (λ (f : FabricState). f.job.shape.ranks) c.self.view_is
-    in let t = c.loop-rank-test.true in omega (arith, t, k, e)
+probe-requires-clause-rank g c = let k = c.self.invariant.ranks_are in
+    let e = ap (λ (f : FabricState). f.job.schedule.plan.ranks) c.self.view_is in let t = c.loop-rank-test.true in omega (arith, t, k, e)
 
 pub probe-requires-clause-empty : goal.probe-requires-clause-empty
 probe-requires-clause-empty g c = λ _ _ x at. c.loop-rank.invariant.later c.loop-rank.rank x (omega arith) at
@@ -44,17 +43,15 @@ loop-rank-preserved g c = let i = c.loop-rank.invariant in let e = c.probe.ensur
     }
 
 pub returns-clause-all : goal.returns-clause-all
-returns-clause-all g c = let i = c.loop-rank.invariant in let f = subst (λ (f : FabricState). IsFabric f.job f.turns.start f.wires)
-    c.self.view_is c.self.invariant.fabric in
+returns-clause-all g c = let i = c.loop-rank.invariant in
     λ r x at. i.there r x (let n = within c.loop-rank.wave r x at in let m = i.lanes.count in let k = c.self.invariant.ranks_are in
-    let e = ap (λ (f : FabricState). f.job.shape.ranks) c.self.view_is in
-    let s = f.sound.ranks in let t = c.loop-rank-test.false in omega (arith, n, m, k, e, s, t)) at
+    let e = ap (λ (f : FabricState). f.job.schedule.plan.ranks) c.self.view_is in
+    let t = c.loop-rank-test.false in omega (arith, n, m, k, e, t)) at
 
 pub returns-clause-noted : goal.returns-clause-noted
-returns-clause-noted g c = let i = c.loop-rank.invariant in let f = subst (λ (f : FabricState). IsFabric f.job f.turns.start f.wires)
-    c.self.view_is c.self.invariant.fabric in (
-      i.noted.0,
-      λ r x at. i.noted.1 r x (let n = within c.loop-rank.wave r x at in let m = i.lanes.count in let k = c.self.invariant.ranks_are in
-          let e = ap (λ (f : FabricState). f.job.shape.ranks) c.self.view_is in
-          let s = f.sound.ranks in let t = c.loop-rank-test.false in omega (arith, n, m, k, e, s, t)) at,
-    )
+returns-clause-noted g c = let i = c.loop-rank.invariant in (
+  i.noted.0,
+  λ r x at. i.noted.1 r x (let n = within c.loop-rank.wave r x at in let m = i.lanes.count in let k = c.self.invariant.ranks_are in
+      let e = ap (λ (f : FabricState). f.job.schedule.plan.ranks) c.self.view_is in
+      let t = c.loop-rank-test.false in omega (arith, n, m, k, e, t)) at,
+)

@@ -11,8 +11,8 @@ returns-clause-swept g c = λ r h. ⊎_elim
     (λ (low : r < c.args.first). c.sweep_part-below.ensures.idle r (omega arith) low)
     (λ (high : c.args.first ≤ r). c.sweep_part-below.ensures.others r (inr high)
     (c.sweep_part-above.ensures.idle r high
-    (let k = c.self.invariant.ranks_are in let e = ap (λ (f : FabricState). f.job.shape.ranks) c.self.view_is in omega (arith, h, k, e))))
-    (cases_lt r c.args.first)
+    (let k = c.self.invariant.ranks_are in let e = ap (λ (f : FabricState). f.job.schedule.plan.ranks) c.self.view_is in
+    omega (arith, h, k, e)))) (cases_lt r c.args.first)
 
 pub returns-clause-none : goal.returns-clause-none
 returns-clause-none g c = λ no. let h = or_parts _ _ no in

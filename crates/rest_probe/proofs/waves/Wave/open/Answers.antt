@@ -1,7 +1,5 @@
 use Rattle.std.proofs.Common.{◌∙◌, ◌∷◌, [], List, length, length-append, ap, arith, subst, sym}
 use lib.ListN.{get_elem?}
-use Rattle.coll_shape.specs.Outline.{Outline}
-use Rattle.shape_plans.specs.Drawing.{plan_of}
 use Rattle.rest_probe.specs.declared.notes.RankNote.{RankNote}
 use Rattle.rest_probe.specs.Counted.{cleared}
 use Rattle.rest_probe.specs.Waves.{IsRoomFor}
@@ -13,7 +11,7 @@ pub loop-r-preserved : goal.loop-r-preserved
 loop-r-preserved c =
     let i = c.loop-r.invariant in let p = c.in_ok-push.ensures.items in let old = c.loop-r.places.items in let x = c.in_ok-bare.field-0 in
     let e = c.in_ok-bare.ensures in
-    let plan = plan_of c.args.schedule.now in
+    let plan = c.args.schedule.now.plan in
     let here : IsRoomFor plan c.loop-r.r x = record { there = e.there; sent = e.sent; got = e.got } in record {
       count = (let a = ap (λ (l : List RankNote). length l) p in let b = length-append old (x ∷ []) in let k = i.count in
           omega (arith, a, b, k));
@@ -23,10 +21,10 @@ loop-r-preserved c =
 
 pub returns-clause-lanes : goal.returns-clause-lanes
 returns-clause-lanes c =
-    let i = c.loop-r.invariant in let plan = plan_of c.args.schedule.now in
-    let told = c.ranks-ranks.ensures.value ∙ ap (λ (o : Outline). o.ranks) c.shape.ensures.value in let same = c.plan.ensures.ranks in
+    let i = c.loop-r.invariant in let plan = c.args.schedule.now.plan in
+    let told = c.ranks-ranks.ensures.value in
     let test = c.loop-r-test.false in let end = c.loop-r.auto.r-end in let count = i.count in record {
-      count = omega (arith, told, same, test, end, count);
+      count = omega (arith, told, test, end, count);
       sent = λ r x at. let e = (i.each r x at).sent in ap cleared e ∙ (cleared-from plan r ∙ sym e) ∙ e;
       got = λ r x at. let e = (i.each r x at).got in ap cleared e ∙ (cleared-to plan r ∙ sym e) ∙ e;
     }

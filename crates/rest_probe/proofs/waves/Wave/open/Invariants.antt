@@ -1,7 +1,6 @@
 use Rattle.std.proofs.Common.{◌≡◌, ℕ, length}
 use mathlib.Core.Option.{some}
 use lib.ListN.{get_elem?}
-use Rattle.shape_plans.specs.Drawing.{plan_of}
 use Rattle.rest_probe.specs.declared.notes.RankNote.{RankNote}
 use Rattle.rest_probe.specs.Waves.{IsRoomFor}
 use Rattle.rest_probe.proofs.waves.Wave.open.Given as goal
@@ -9,5 +8,5 @@ use Rattle.rest_probe.proofs.waves.Wave.open.Given as goal
 abbrev pub invariant-loop-r : goal.invariant-loop-r
 invariant-loop-r l = record {
   count : length l.places.items ≡ l.r;
-  each : (r : ℕ) (x : RankNote) → get_elem? l.places.items r ≡ some x → IsRoomFor (plan_of l.schedule) r x;
+  each : (r : ℕ) (x : RankNote) → get_elem? l.places.items r ≡ some x → IsRoomFor l.schedule.plan r x;
 }

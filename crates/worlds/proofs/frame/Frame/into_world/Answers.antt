@@ -53,9 +53,8 @@ returns c =
     let same = with_items_is c.args.nodes c.mark_all.new.nodes (let h : length c.mark_all.new.nodes ≡ c.args.nodes.len =
     omega (arith, l, x, n) in h) in
     subst (λ (f : FrameState). IsClosed f c.args.nodes.items c.around.result) c.self.view_is
-    (subst (λ (w : WorldState). IsClosed (let f : FrameState =
-    record { shape = s.job.shape; inputs = s.job.inputs; lanes = s.lanes.items } in f)
-    c.args.nodes.items w) (sym c.around.ensures)
+    (subst (λ (w : WorldState). IsClosed (let f : FrameState = record
+    { schedule = s.job.schedule; inputs = s.job.inputs; lanes = s.lanes.items } in f) c.args.nodes.items w) (sym c.around.ensures)
     (left_closed s.job s.ranks s.lanes.items s.starts s.deliveries s.firings c.self.invariant c.args.nodes.items may
     c.deref_mut.result.now c.deref.result.now a b
     c.mark_all.new.nodes (with_items c.args.nodes c.mark_all.new.nodes).items same v.size v.same v.kept

@@ -8,9 +8,6 @@ invariant_of-self-lent c w =
     let s = c.self.inside in
     let k = c.self.invariant in
     record {
-      formed = k.formed;
-      accepted = k.accepted;
-      given = k.given;
       ranks = k.ranks;
       bare = record {
         count = k.bare.count;

@@ -4,7 +4,7 @@ use Rattle.worlds.proofs.opening.framing.mark_all.Goals as goal
 
 pub gate_all-requires : goal.gate_all-requires
 gate_all-requires c = record {
-  some = c.requires.sized.some;
+  nonempty = c.requires.sized.some;
   at_most = c.requires.sized.at_most;
   nodes = c.requires.nodes;
   lanes = c.requires.sized.wide_lanes;

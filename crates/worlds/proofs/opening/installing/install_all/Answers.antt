@@ -1,7 +1,6 @@
 -- One node more in each turn.
 use Rattle.std.proofs.Common.{ℕ, ◌+◌, ◌<◌, ◌∙◌, List, ap, length, subst, sym}
 use Rattle.std.proofs.lemmas.List.{length_push}
-use Rattle.shape_plans.specs.Drawing.{plan_of}
 use Rattle.rank_node.specs.Node.{NodeState}
 use Rattle.worlds.specs.parts.Layout.{no_node, node_at}
 use Rattle.worlds.specs.opening.Fresh.{IsFresh}
@@ -20,10 +19,10 @@ loop-r-preserved c =
     let news = c.in_ok-push.ensures.items in
     record {
       size = ap length news ∙ length_push nodes node ∙ ap (λ n. n + 1) before.size;
-      fresh = subst (λ (v : List NodeState). (k : ℕ) → k < r + 1 → IsFresh (plan_of job.shape) job.inputs job.shape.ranks strays k
-          (node_at v k)) (sym news)
-          (pushed (λ k x. IsFresh (plan_of job.shape) job.inputs job.shape.ranks strays k x) nodes node no_node r before.size before.fresh
-          (record {
+      fresh = subst (λ (v : List NodeState). (k : ℕ) → k < r + 1
+          → IsFresh job.schedule.plan job.inputs job.schedule.plan.ranks strays k (node_at v k)) (sym news)
+          (pushed (λ k x. IsFresh job.schedule.plan job.inputs job.schedule.plan.ranks strays k x) nodes node no_node r before.size
+          before.fresh (record {
             compiled = made.compiled;
             kept = made.node;
             locals = made.history;

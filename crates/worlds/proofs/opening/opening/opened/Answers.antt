@@ -1,12 +1,9 @@
 -- The parts are a world of which nothing was done.
-use Rattle.std.proofs.Common.{ℕ, ◌*◌, ◌<◌, ◌≤◌, ◌≡◌, ◌∙◌, List, get_or, length, replicate, ap, subst, sym, arith}
-use Rattle.coll_shape.specs.Outline.{Outline}
-use Rattle.coll_shape.specs.WellFormed.{IsWellFormed}
+use Rattle.std.proofs.Common.{ℕ, ◌*◌, ◌<◌, ◌≤◌, ◌≡◌, ◌∙◌, List, get_or, length, replicate, ap, refl, subst, sym, arith}
+use Rattle.schedule_compiler.specs.Schedules.{ScheduleOf}
 use Rattle.ptl_types.specs.declared.headers.Lane.{Lane}
 use Rattle.plan_core.specs.Sound.{SoundPlan, AreInputsOf}
 use Rattle.cuts.specs.windows.Places.{lane_place}
-use Rattle.shape_plans.proofs.Final.{inputs_fit}
-use Rattle.shape_plans.specs.Drawing.{plan_of}
 use Rattle.rank_node.specs.Node.{NodeState}
 use Rattle.worlds.specs.declared.parts.acts.Setting.{Setting}
 use Rattle.worlds.specs.parts.Layout.{lane_at, node_at}
@@ -20,41 +17,34 @@ use Rattle.worlds.proofs.opening.opening.opened.Goals as goal
 pub overflow_mul-places : goal.overflow_mul-places
 overflow_mul-places c =
     let n = c.ranks-ranks.result in
-    let e : n ≡ c.schedule-schedule.result.now.ranks = c.ranks-ranks.ensures.value
-    ∙ ap (λ (o : Outline). o.ranks) c.shape-shape.ensures.value in
-    let same = c.plan.ensures.ranks in
-    let at_most : n ≤ 256 = let q = c.plan.ensures.sound.few_ranks in omega (arith, e, same, q) in
-    let q = at_most-pairs n at_most in
+    let q = at_most-pairs n c.ranks-ranks.ensures.at_most in
     omega (arith, q)
 
 pub lay_all-requires : goal.lay_all-requires
 lay_all-requires c =
-    subst (λ (s : Outline). FitLanes (plan_of s) c.args.strays) (sym c.schedule-schedule.ensures) c.requires.at_most
+    subst (λ (s : ScheduleOf). FitLanes s.plan c.args.strays) (sym c.schedule-schedule.ensures) c.requires.at_most
 
 pub returns : goal.returns
 returns c =
-    let o = c.args.job.now.shape in
-    let p = plan_of o in
+    let o = c.args.job.now.schedule in
+    let p = o.plan in
     let inputs = c.args.job.now.inputs in
     let strays = c.args.strays in
     let same = c.schedule-schedule.ensures in
-    let n = o.ranks in
+    let n = p.ranks in
     let nodes = c.in_ok-nodes.nodes.items in
     let lanes = c.in_ok-lanes.lanes.items in
     let ins = c.inputs.ensures.inputs in
-    let told : c.shape-shape.result.now ≡ o = c.shape-shape.ensures.value ∙ same in
-    let well : IsWellFormed o = subst IsWellFormed told c.keeps_form.ensures.shape in
-    let ranks : c.ranks-ranks.result ≡ n = c.ranks-ranks.ensures.value ∙ ap (λ (s : Outline). s.ranks) told in
+    let ranks : c.ranks-ranks.result ≡ n = c.ranks-ranks.ensures.value ∙ ap (λ (s : ScheduleOf). s.plan.ranks) same in
     let sound : SoundPlan p (length inputs) = subst (SoundPlan p) (sym ins.many)
-    (subst (λ (s : Outline). SoundPlan (plan_of s) s.inputs) same c.plan.ensures.sound) in
-    let count : p.ranks ≡ n = subst (λ (s : Outline). (plan_of s).ranks ≡ s.ranks) same c.plan.ensures.ranks in
-    let at_most : n ≤ 256 = let q = sound.few_ranks in omega (arith, q, count) in
-    let fit : AreInputsOf p inputs = inputs_fit o inputs well ins in
+    (subst (λ (s : ScheduleOf). SoundPlan s.plan s.inputs) same c.plan.ensures.sound) in
+    let at_most : n ≤ 256 = sound.few_ranks in
+    let fit : AreInputsOf p inputs = ins.fit in
     let size : length nodes ≡ n = c.in_ok-nodes.ensures.size in
     let fresh = c.in_ok-nodes.ensures.fresh in
-    let wide : length lanes ≡ 2 * (n * n) = c.in_ok-lanes.ensures.size ∙ ap (λ (s : Outline). 2 * (s.ranks * s.ranks)) same in
-    let laid = subst (λ (s : Outline). (a d : ℕ) (lane : Lane) → a < s.ranks → d < s.ranks →
-    lane_at lanes (lane_place s.ranks a d lane) ≡ fresh_lane (plan_of s) strays a d lane) same c.in_ok-lanes.ensures.laid in
+    let wide : length lanes ≡ 2 * (n * n) = c.in_ok-lanes.ensures.size ∙ ap (λ (s : ScheduleOf). 2 * (s.plan.ranks * s.plan.ranks)) same in
+    let laid = subst (λ (s : ScheduleOf). (a d : ℕ) (lane : Lane) → a < s.plan.ranks → d < s.plan.ranks
+    → lane_at lanes (lane_place s.plan.ranks a d lane) ≡ fresh_lane s.plan strays a d lane) same c.in_ok-lanes.ensures.laid in
     let starts = c.in_ok-starts.ensures in
     let firings = c.in_ok-firings.ensures in
     let of_starts = subst (λ (v : List NodeState). (r : ℕ) → r < length v → get_or c.in_ok-starts.starts r 0 ≡ start_count (node_at v r))
@@ -62,7 +52,7 @@ returns c =
     let of_firings = subst (λ (v : List NodeState). (r : ℕ) → r < length v → get_or c.in_ok-firings.firings r 0 ≡ firing_count
     (node_at v r)) c.deref-2.ensures.value firings.counts in
     record {
-      world = is-world p inputs n nodes lanes c.args.window strays at_most count sound fit c.requires.window size wide fresh laid
+      world = is-world p inputs n nodes lanes c.args.window strays at_most refl sound fit c.requires.window size wide fresh laid
           c.in_ok-starts.starts c.in_ok-deliveries.deliveries c.in_ok-firings.firings
           (starts.size ∙ ap length c.deref.ensures.value ∙ size)
           (λ r h. of_starts r (subst (λ m. r < m) (sym size) h))
@@ -70,6 +60,6 @@ returns c =
           (firings.size ∙ ap length c.deref-2.ensures.value ∙ size)
           (λ r h. of_firings r (subst (λ m. r < m) (sym size) h));
       setting = ap (λ m. let w : Setting = record { ranks = m; window = c.args.window; strays = strays; spare = strays } in w) ranks;
-      first = is-first p inputs n nodes lanes c.args.window strays at_most count sound fit c.requires.window size wide fresh laid;
+      first = is-first p inputs n nodes lanes c.args.window strays at_most refl sound fit c.requires.window size wide fresh laid;
       steps = λ r h. (fresh r h).steps;
     }

@@ -1,7 +1,7 @@
 -- By the number of possible steps.
 use Rattle.std.proofs.Common.{ap, arith, eqb-true, eq-eqb, length}
 use Rattle.worlds.specs.World.{steps_in}
-use Rattle.worlds.proofs.Ends.{complete, given_slots, meant, none_in, rests, slots_given}
+use Rattle.worlds.proofs.Ends.{all_values, complete, given_slots, none_in, rests, slots_given}
 use Rattle.worlds.proofs.world.World.at_rest.Goals as goal
 
 pub returns-clause-exact : goal.returns-clause-exact
@@ -23,8 +23,9 @@ returns-clause-complete c = λ e slots agree r h.
     let n = c.enabled.ensures.number slots agree in
     complete c.args.self.now slots c.enabled.ensures.kept agree (none_in (steps_in c.args.self.now slots) (omega (arith, z, n))) r h
 
-pub returns-clause-meant : goal.returns-clause-meant
-returns-clause-meant c = λ e.
+pub returns-clause-values : goal.returns-clause-values
+returns-clause-values c = λ e.
     let z = eqb-true c.enabled.result 0 e in
     let n = c.enabled.ensures.number (given_slots c.args.self.now) (slots_given c.args.self.now c.enabled.ensures.kept) in
-    meant c.args.self.now c.enabled.ensures.kept (none_in (steps_in c.args.self.now (given_slots c.args.self.now)) (omega (arith, z, n)))
+    all_values c.args.self.now c.enabled.ensures.kept
+    (none_in (steps_in c.args.self.now (given_slots c.args.self.now)) (omega (arith, z, n)))

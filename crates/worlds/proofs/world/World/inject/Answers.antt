@@ -4,7 +4,6 @@ use Rattle.std.proofs.lemmas.List.{with_items_is}
 use Rattle.std.specs.Vec.{with_items}
 use Rattle.ptl_types.specs.declared.headers.Lane.TheVariants.{Request}
 use Rattle.plan_calls.specs.Lanes.{is_used_lane}
-use Rattle.shape_plans.specs.Drawing.{plan_of}
 use Rattle.worlds.specs.Later.{IsLater}
 use Rattle.worlds.specs.World.{WorldState, state_of}
 use Rattle.worlds.proofs.Behind.{fields_injected, later_injected, left_world, lent_put, lent_world}
@@ -28,11 +27,11 @@ invariant_of-self c =
     let step = lent_put s.job s.setting s.nodes.items s.lanes.items s.starts s.deliveries s.firings c.self.invariant
     c.deref_mut.result.now c.deref_mut-2.result.now c.deref_mut.ensures.value c.deref_mut-2.ensures.value c.args.s c.args.d
     c.args.message c.inject.new.nodes nexts c.inject.new.lanes later nodes lanes c.inject.ensures.step in
-    let used = subst (λ (w : WorldState). is_used_lane (plan_of w.shape) c.args.s c.args.d Request ≡ true) (sym c.self.view_is)
+    let used = subst (λ (w : WorldState). is_used_lane w.schedule.plan c.args.s c.args.d Request ≡ true) (sym c.self.view_is)
     c.requires.used in
     let world = left_world s.job s.setting s.nodes.items s.lanes.items s.starts s.deliveries s.firings c.self.invariant
     (s.setting.strays - 1) c.inject.new.nodes nexts c.inject.new.lanes later c.inject.new.starts c.inject.new.deliveries
-    c.inject.new.firings nodes lanes (c.inject.ensures.world (plan_of s.job.shape) s.job.inputs old used) in
+    c.inject.new.firings nodes lanes (c.inject.ensures.world s.job.schedule.plan s.job.inputs old used) in
     fields_injected s.job s.setting s.nodes.items s.lanes.items s.starts s.deliveries s.firings c.self.invariant c.args.s c.args.d
     c.args.message nexts later c.inject.new.starts c.inject.new.deliveries c.inject.new.firings step world
 
@@ -54,11 +53,11 @@ returns-clause-later c =
     let step = lent_put s.job s.setting s.nodes.items s.lanes.items s.starts s.deliveries s.firings c.self.invariant
     c.deref_mut.result.now c.deref_mut-2.result.now c.deref_mut.ensures.value c.deref_mut-2.ensures.value c.args.s c.args.d
     c.args.message c.inject.new.nodes nexts c.inject.new.lanes later nodes lanes c.inject.ensures.step in
-    let used = subst (λ (w : WorldState). is_used_lane (plan_of w.shape) c.args.s c.args.d Request ≡ true) (sym c.self.view_is)
+    let used = subst (λ (w : WorldState). is_used_lane w.schedule.plan c.args.s c.args.d Request ≡ true) (sym c.self.view_is)
     c.requires.used in
     let world = left_world s.job s.setting s.nodes.items s.lanes.items s.starts s.deliveries s.firings c.self.invariant
     (s.setting.strays - 1) c.inject.new.nodes nexts c.inject.new.lanes later c.inject.new.starts c.inject.new.deliveries
-    c.inject.new.firings nodes lanes (c.inject.ensures.world (plan_of s.job.shape) s.job.inputs old used) in
+    c.inject.new.firings nodes lanes (c.inject.ensures.world s.job.schedule.plan s.job.inputs old used) in
     subst (λ (w : WorldState). IsLater w (state_of s.job (record s.setting { strays = s.setting.strays - 1 }) nexts later)) c.self.view_is
     (later_injected s.job s.setting s.nodes.items s.lanes.items s.starts s.deliveries s.firings c.self.invariant c.args.s c.args.d
     c.args.message nexts later c.inject.new.starts c.inject.new.deliveries c.inject.new.firings step world)

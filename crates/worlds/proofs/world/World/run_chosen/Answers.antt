@@ -1,7 +1,7 @@
 -- Each turn makes the chooser's step; where there is none the world is at rest.
 use Rattle.std.proofs.Common.{◌∙◌, arith, refl}
 use Rattle.worlds.specs.World.{steps_in}
-use Rattle.worlds.proofs.Ends.{barriers_in, complete, given_slots, meant, none_in, rests, slots_given}
+use Rattle.worlds.proofs.Ends.{all_values, barriers_in, complete, given_slots, none_in, rests, slots_given}
 use Rattle.worlds.proofs.Stepping.{In-slice_get, fallen, later_on, no_run, run_more, same_world}
 use Rattle.worlds.proofs.world.World.run_chosen.Goals as goal
 
@@ -47,10 +47,10 @@ returns-then-n-eq0-clause-complete g c = λ slots agree r h.
     complete c.loop-n.self slots c.enabled-n.ensures.kept agree
     (none_in (steps_in c.loop-n.self slots) (omega (arith, n, c.if-n-eq0.true))) r h
 
-pub returns-then-n-eq0-clause-meant : goal.returns-then-n-eq0-clause-meant
-returns-then-n-eq0-clause-meant g c =
+pub returns-then-n-eq0-clause-values : goal.returns-then-n-eq0-clause-values
+returns-then-n-eq0-clause-values g c =
     let n = c.enabled-n.ensures.number (given_slots c.loop-n.self) (slots_given c.loop-n.self c.enabled-n.ensures.kept) in
-    meant c.loop-n.self c.enabled-n.ensures.kept (none_in (steps_in c.loop-n.self (given_slots c.loop-n.self))
+    all_values c.loop-n.self c.enabled-n.ensures.kept (none_in (steps_in c.loop-n.self (given_slots c.loop-n.self))
     (omega (arith, n, c.if-n-eq0.true)))
 
 pub returns-then-n-eq0-clause-barriers : goal.returns-then-n-eq0-clause-barriers

@@ -2,7 +2,7 @@
 use Rattle.std.proofs.Common.{◌∙◌, arith, refl}
 use Rattle.worlds.specs.Runs.IsRun.{Begun}
 use Rattle.worlds.specs.World.{steps_in}
-use Rattle.worlds.proofs.Ends.{barriers_in, complete, given_slots, meant, none_in, rests, slots_given}
+use Rattle.worlds.proofs.Ends.{all_values, barriers_in, complete, given_slots, none_in, rests, slots_given}
 use Rattle.worlds.proofs.Stepping.{In-slice_get, fallen, later_on, leads_on, same_world}
 use Rattle.worlds.proofs.world.World.run_to_rest.Goals as goal
 
@@ -49,11 +49,12 @@ returns-clause-complete c = λ slots agree r h.
     let t = c.loop-self-test.false in
     complete c.loop-self.self slots c.enabled.ensures.kept agree (none_in (steps_in c.loop-self.self slots) (omega (arith, n, t))) r h
 
-pub returns-clause-meant : goal.returns-clause-meant
-returns-clause-meant c =
+pub returns-clause-values : goal.returns-clause-values
+returns-clause-values c =
     let n = c.enabled.ensures.number (given_slots c.loop-self.self) (slots_given c.loop-self.self c.enabled.ensures.kept) in
     let t = c.loop-self-test.false in
-    meant c.loop-self.self c.enabled.ensures.kept (none_in (steps_in c.loop-self.self (given_slots c.loop-self.self)) (omega (arith, n, t)))
+    all_values c.loop-self.self c.enabled.ensures.kept
+    (none_in (steps_in c.loop-self.self (given_slots c.loop-self.self)) (omega (arith, n, t)))
 
 pub returns-clause-barriers : goal.returns-clause-barriers
 returns-clause-barriers c = λ slots agree. barriers_in c.loop-self.self slots c.enabled.ensures.kept agree

@@ -2,7 +2,6 @@
 use Rattle.std.proofs.Common.{◌≡◌, ap, arith, length, subst, sym}
 use Rattle.std.proofs.lemmas.List.{with_items_is}
 use Rattle.std.specs.Vec.{with_items}
-use Rattle.shape_plans.specs.Drawing.{plan_of}
 use Rattle.worlds.specs.Allowed.{Allows}
 use Rattle.worlds.specs.Later.{IsLater}
 use Rattle.worlds.specs.World.{WorldState, state_of}
@@ -36,10 +35,10 @@ invariant_of-self c =
     c.deref_mut.result.now c.deref_mut-2.result.now c.deref_mut.ensures.value c.deref_mut-2.ensures.value in
     let step = lent_step s.job s.setting s.nodes.items s.lanes.items s.starts s.deliveries s.firings c.self.invariant
     c.deref_mut.result.now c.deref_mut-2.result.now c.deref_mut.ensures.value c.deref_mut-2.ensures.value c.args.step c.make.new.nodes
-    nexts c.make.new.lanes later nodes lanes (c.make.ensures.step (plan_of s.job.shape) s.job.inputs old) in
+    nexts c.make.new.lanes later nodes lanes (c.make.ensures.step s.job.schedule.plan s.job.inputs old) in
     let world = left_world s.job s.setting s.nodes.items s.lanes.items s.starts s.deliveries s.firings c.self.invariant s.setting.strays
     c.make.new.nodes nexts c.make.new.lanes later c.make.new.starts c.make.new.deliveries c.make.new.firings nodes lanes
-    (c.make.ensures.world (plan_of s.job.shape) s.job.inputs old) in
+    (c.make.ensures.world s.job.schedule.plan s.job.inputs old) in
     fields_behind s.job s.setting s.nodes.items s.lanes.items s.starts s.deliveries s.firings c.self.invariant c.args.step nexts later
     c.make.new.starts c.make.new.deliveries c.make.new.firings step world
 
@@ -60,10 +59,10 @@ returns-clause-made c =
     c.deref_mut.result.now c.deref_mut-2.result.now c.deref_mut.ensures.value c.deref_mut-2.ensures.value in
     let step = lent_step s.job s.setting s.nodes.items s.lanes.items s.starts s.deliveries s.firings c.self.invariant
     c.deref_mut.result.now c.deref_mut-2.result.now c.deref_mut.ensures.value c.deref_mut-2.ensures.value c.args.step c.make.new.nodes
-    nexts c.make.new.lanes later nodes lanes (c.make.ensures.step (plan_of s.job.shape) s.job.inputs old) in
+    nexts c.make.new.lanes later nodes lanes (c.make.ensures.step s.job.schedule.plan s.job.inputs old) in
     let world = left_world s.job s.setting s.nodes.items s.lanes.items s.starts s.deliveries s.firings c.self.invariant s.setting.strays
     c.make.new.nodes nexts c.make.new.lanes later c.make.new.starts c.make.new.deliveries c.make.new.firings nodes lanes
-    (c.make.ensures.world (plan_of s.job.shape) s.job.inputs old) in
+    (c.make.ensures.world s.job.schedule.plan s.job.inputs old) in
     subst (λ (w : WorldState). IsMade c.args.step w (state_of s.job s.setting nexts later)) c.self.view_is
     (made_behind s.job s.setting s.nodes.items s.lanes.items s.starts s.deliveries s.firings c.self.invariant c.args.step nexts later
     c.make.new.starts c.make.new.deliveries c.make.new.firings step world)
@@ -85,10 +84,10 @@ returns-clause-kept c =
     c.deref_mut.result.now c.deref_mut-2.result.now c.deref_mut.ensures.value c.deref_mut-2.ensures.value in
     let step = lent_step s.job s.setting s.nodes.items s.lanes.items s.starts s.deliveries s.firings c.self.invariant
     c.deref_mut.result.now c.deref_mut-2.result.now c.deref_mut.ensures.value c.deref_mut-2.ensures.value c.args.step c.make.new.nodes
-    nexts c.make.new.lanes later nodes lanes (c.make.ensures.step (plan_of s.job.shape) s.job.inputs old) in
+    nexts c.make.new.lanes later nodes lanes (c.make.ensures.step s.job.schedule.plan s.job.inputs old) in
     let world = left_world s.job s.setting s.nodes.items s.lanes.items s.starts s.deliveries s.firings c.self.invariant s.setting.strays
     c.make.new.nodes nexts c.make.new.lanes later c.make.new.starts c.make.new.deliveries c.make.new.firings nodes lanes
-    (c.make.ensures.world (plan_of s.job.shape) s.job.inputs old) in
+    (c.make.ensures.world s.job.schedule.plan s.job.inputs old) in
     stands s.job s.setting nexts later c.make.new.starts c.make.new.deliveries c.make.new.firings
     (fields_behind s.job s.setting s.nodes.items s.lanes.items s.starts s.deliveries s.firings c.self.invariant c.args.step nexts
     later c.make.new.starts c.make.new.deliveries c.make.new.firings step world)
@@ -110,10 +109,10 @@ returns-clause-later c =
     c.deref_mut.result.now c.deref_mut-2.result.now c.deref_mut.ensures.value c.deref_mut-2.ensures.value in
     let step = lent_step s.job s.setting s.nodes.items s.lanes.items s.starts s.deliveries s.firings c.self.invariant
     c.deref_mut.result.now c.deref_mut-2.result.now c.deref_mut.ensures.value c.deref_mut-2.ensures.value c.args.step c.make.new.nodes
-    nexts c.make.new.lanes later nodes lanes (c.make.ensures.step (plan_of s.job.shape) s.job.inputs old) in
+    nexts c.make.new.lanes later nodes lanes (c.make.ensures.step s.job.schedule.plan s.job.inputs old) in
     let world = left_world s.job s.setting s.nodes.items s.lanes.items s.starts s.deliveries s.firings c.self.invariant s.setting.strays
     c.make.new.nodes nexts c.make.new.lanes later c.make.new.starts c.make.new.deliveries c.make.new.firings nodes lanes
-    (c.make.ensures.world (plan_of s.job.shape) s.job.inputs old) in
+    (c.make.ensures.world s.job.schedule.plan s.job.inputs old) in
     subst (λ (w : WorldState). IsLater w (state_of s.job s.setting nexts later)) c.self.view_is
     (later_behind s.job s.setting s.nodes.items s.lanes.items s.starts s.deliveries s.firings c.self.invariant c.args.step nexts later
     c.make.new.starts c.make.new.deliveries c.make.new.firings step world)
@@ -135,9 +134,9 @@ returns-clause-barriers c =
     c.deref_mut.result.now c.deref_mut-2.result.now c.deref_mut.ensures.value c.deref_mut-2.ensures.value in
     let step = lent_step s.job s.setting s.nodes.items s.lanes.items s.starts s.deliveries s.firings c.self.invariant
     c.deref_mut.result.now c.deref_mut-2.result.now c.deref_mut.ensures.value c.deref_mut-2.ensures.value c.args.step c.make.new.nodes
-    nexts c.make.new.lanes later nodes lanes (c.make.ensures.step (plan_of s.job.shape) s.job.inputs old) in
+    nexts c.make.new.lanes later nodes lanes (c.make.ensures.step s.job.schedule.plan s.job.inputs old) in
     let world = left_world s.job s.setting s.nodes.items s.lanes.items s.starts s.deliveries s.firings c.self.invariant s.setting.strays
     c.make.new.nodes nexts c.make.new.lanes later c.make.new.starts c.make.new.deliveries c.make.new.firings nodes lanes
-    (c.make.ensures.world (plan_of s.job.shape) s.job.inputs old) in
+    (c.make.ensures.world s.job.schedule.plan s.job.inputs old) in
     barriers_behind s.job s.setting s.nodes.items s.lanes.items s.starts s.deliveries s.firings c.self.invariant c.args.step nexts later
     c.make.new.starts c.make.new.deliveries c.make.new.firings step world

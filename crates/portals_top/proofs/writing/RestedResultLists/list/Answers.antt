@@ -1,0 +1,25 @@
+-- The cell that holds the buffer has its list.
+use Rattle.std.proofs.Common.{◌<◌, ◌∙◌, ap, subst, sym}
+use Rattle.cuts.specs.cells.Cells.{result_in}
+use Rattle.schedule_compiler.specs.Schedules.{ScheduleOf}
+use Rattle.shape_plans.proofs.Final.{fine-shape}
+use Rattle.worlds.specs.World.{memory_in}
+use Rattle.portals_top.proofs.writing.RestedResultLists.list.Goals as goal
+
+pub result-requires : goal.result-requires
+result-requires c =
+    let is = c.requires.0.of_shape in
+    let fine = fine-shape c.args.self.now.1.now is.formed in record {
+      buffer = subst (λ (s : ScheduleOf). c.args.buffer < s.held.buffers) (sym is.schedule)
+          (subst (λ n. c.args.buffer < n) (sym fine.held_buffers) c.requires.1);
+      rank = subst (λ (s : ScheduleOf). c.args.rank < s.plan.ranks) (sym is.schedule)
+          (subst (λ n. c.args.rank < n) (sym fine.ranks) c.requires.2);
+    }
+
+pub returns : goal.returns
+returns c =
+    let is = c.requires.0 in
+    let w = c.args.self.now.0 in
+    c.result.ensures
+    ∙ ap (λ (s : ScheduleOf). result_in s.plan s.held c.args.buffer c.args.rank (memory_in w c.args.rank)) is.of_shape.schedule
+    ∙ is.meant c.args.buffer c.args.rank c.requires.1 c.requires.2
