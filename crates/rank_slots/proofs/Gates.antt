@@ -189,7 +189,7 @@ found outs seen at m o p d l same is goal lane to kind read =
     record {
       within = low;
       there = there;
-      goal = ap (λ (z : OutPort). z.target) one ∙ goal ∙ to;
+      destination = ap (λ (z : OutPort). z.target) one ∙ goal ∙ to;
       lane = ap (λ (z : OutPort). z.lane) one
           ∙ lane ∙ kind;
     }

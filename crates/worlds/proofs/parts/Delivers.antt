@@ -317,7 +317,7 @@ module _ (p : Plan) (inputs : Inputs) (n : ℕ) (nodes : List NodeState) (lanes 
           ((lane_at mid (lane_place n d x.header.target (lane_of x.header.kind))).messages ++ x ∷ []) a b l hb
           (λ i. back (record {
             source = i.source;
-            goal = i.destination ∙ back_to x q;
+            destination = i.destination ∙ back_to x q;
             kind = i.kind ∙ answers x q
                 ∙ sym (ap lane_back (request x q));
           }))

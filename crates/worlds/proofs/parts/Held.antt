@@ -137,7 +137,11 @@ sent_there r s d lane m = elim (cases_Bool (is_lane_of r m.header.target (lane_o
         | inl z ↦
             let q = and_parts (m.header.target == d) (is_lane lane m.header.kind) z in
             absurd (not_one r m.header.target (lane_of m.header.kind) s d lane e
-            (record { source = eqb-true s r y; goal = sym (eqb-true m.header.target d q.0); kind = lane_known lane m.header.kind q.1 }))
+            (record {
+              source = eqb-true s r y;
+              destination = sym (eqb-true m.header.target d q.0);
+              kind = lane_known lane m.header.kind q.1;
+            }))
       ]
     ]
 

@@ -65,8 +65,8 @@ module _ (n : ℕ) (lanes : List Plain) (deliveries : List ℕ) (window : ℕ) (
       (λ g. right q u l hq hu ∙ ap (λ t. if t then 1 else 0) (sym (may_same q u l hq hu (either s d l g c) (either d s l b a)))))))
     where
       either : (x y : ℕ) (l : Lane) → (OneLane q u l x y Request → ⊥) → (OneLane q u l x y Answer → ⊥) → (q ≡ x) × (u ≡ y) → ⊥
-      either x y Request a b e = a (record { source = e.0; goal = e.1; kind = refl })
-      either x y Answer a b e = b (record { source = e.0; goal = e.1; kind = refl })
+      either x y Request a b e = a (record { source = e.0; destination = e.1; kind = refl })
+      either x y Answer a b e = b (record { source = e.0; destination = e.1; kind = refl })
 
 module _ (n : ℕ) (lanes : List Plain) (deliveries : List ℕ) (window : ℕ) (later : List Plain) (s d : ℕ) (hs : s < n) (hd : d < n)
     (wide : length deliveries ≡ 2 * (n * n))
@@ -105,5 +105,5 @@ module _ (n : ℕ) (lanes : List Plain) (deliveries : List ℕ) (window : ℕ) (
       same Request x y =
           ap₂ (λ (z w : Plain). nat_lt 0 (length z.messages) && nat_lt (length w.messages) window) (apart q u Request hq hu x y)
           (apart u q Answer hu hq
-          (λ o. y (record { source = o.destination; goal = o.source; kind = ap lane_back o.kind }))
-          (λ o. x (record { source = o.destination; goal = o.source; kind = ap lane_back o.kind ∙ back_back lane })))
+          (λ o. y (record { source = o.destination; destination = o.source; kind = ap lane_back o.kind }))
+          (λ o. x (record { source = o.destination; destination = o.source; kind = ap lane_back o.kind ∙ back_back lane })))

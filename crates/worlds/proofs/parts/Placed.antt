@@ -25,9 +25,9 @@ pub record OneLane (s d : ℕ) (lane : Lane) (t e : ℕ) (way : Lane) : Type 0 w
 pub lane_apart : (n s d : ℕ) (lane : Lane) (t e : ℕ) (way : Lane) → d < n → e < n → lane_place n s d lane ≡ lane_place n t e way →
     OneLane s d lane t e way
 lane_apart n s d Request t e Request h k q = let a = pair_apart n s d t e h k (omega arith) in
-    record { source = a.0; goal = a.1; kind = refl }
+    record { source = a.0; destination = a.1; kind = refl }
 lane_apart n s d Answer t e Answer h k q = let a = pair_apart n s d t e h k (omega arith) in
-    record { source = a.0; goal = a.1; kind = refl }
+    record { source = a.0; destination = a.1; kind = refl }
 lane_apart n s d Request t e Answer h k q = absurd (omega arith)
 lane_apart n s d Answer t e Request h k q = absurd (omega arith)
 
@@ -60,7 +60,7 @@ pub one_lane : (s d : ℕ) (lane : Lane) (q u : ℕ) (l : Lane) → is_lane_of s
 one_lane s d lane q u l e =
     let a = and_parts (q == s) ((u == d) && same_lane l lane) e in
     let b = and_parts (u == d) (same_lane l lane) a.1 in
-    record { source = eqb-true q s a.0; goal = eqb-true u d b.0; kind = same_is l lane b.1 }
+    record { source = eqb-true q s a.0; destination = eqb-true u d b.0; kind = same_is l lane b.1 }
 
 pub is_one : (s d : ℕ) (lane : Lane) (q u : ℕ) (l : Lane) → OneLane q u l s d lane → is_lane_of s d lane q u l ≡ true
 is_one s d lane q u l o =

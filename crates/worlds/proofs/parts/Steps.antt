@@ -206,7 +206,7 @@ module _ (p : Plan) (inputs : Inputs) (n : ℕ) (nodes : List NodeState) (lanes 
       fire_apart m q a b l ha hb x =
           set_other n lanes k.parts.wide r m.header.target (lane_of m.header.kind) hr (fire_to m q)
           ((lane_at lanes (lane_place n r m.header.target (lane_of m.header.kind))).messages ++ m ∷ []) a b l hb
-          (λ i. x (record { source = i.source; goal = i.destination; kind = i.kind ∙ fire_asks m q }))
+          (λ i. x (record { source = i.source; destination = i.destination; kind = i.kind ∙ fire_asks m q }))
 
       fire_renewed : (x : Option Sent) → o ≡ x → IsRenewed n window fire_news (out_with n r x lanes)
           (if is_some x then gated (out_with n r x lanes) n window r (receiver r x) fire_news else fire_news) starts

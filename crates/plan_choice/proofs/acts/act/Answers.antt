@@ -49,15 +49,15 @@ pub returns-in-Start : goal.returns-in-Start
 returns-in-Start c =
     let m = subst (MayMake c.args.ranks c.args.seats.now c.args.lanes.now) c.in-Start.is c.requires.may in
     record {
-      made = rw c.in-Start.is (record { seats = c.start.ensures; lanes = refl; source = refl; goal = refl });
+      made = rw c.in-Start.is (record { seats = c.start.ensures; lanes = refl; source = refl; destination = refl });
       source = m.0;
-      goal = m.0;
+      destination = m.0;
     }
 
 pub returns-in-Deliver : goal.returns-in-Deliver
 returns-in-Deliver c =
     let m = subst (MayMake c.args.ranks c.args.seats.now c.args.lanes.now) c.in-Deliver.is c.requires.may in
-    record { made = rw c.in-Deliver.is c.deliver.ensures; source = m.0; goal = m.1 }
+    record { made = rw c.in-Deliver.is c.deliver.ensures; source = m.0; destination = m.1 }
 
 pub returns-in-Fire : goal.returns-in-Fire
 returns-in-Fire c =
@@ -67,8 +67,8 @@ returns-in-Fire c =
         seats = c.fire.ensures.seats;
         lanes = c.fire.ensures.lanes;
         source = refl;
-        goal = c.fire.ensures.for_whom;
+        destination = c.fire.ensures.for_whom;
       });
       source = m.0;
-      goal = c.fire.ensures.destination;
+      destination = c.fire.ensures.destination;
     }

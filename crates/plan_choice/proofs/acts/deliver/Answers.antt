@@ -84,5 +84,5 @@ returns c = λ m rest first.
           ∙ ap (λ o. out_with c.args.ranks c.args.d o mid)
           (answer ∙ ap (λ x. made_at c.args.seats.now c.args.d (Received c.args.s c.args.lane x)) mine);
       source = refl;
-      goal = refl;
+      destination = refl;
     }

@@ -21,7 +21,7 @@ refresh-requires c = record {
     firings = c.requires.sized.firings;
   };
   source = c.act-s.ensures.source;
-  goal = c.act-s.ensures.destination;
+  destination = c.act-s.ensures.destination;
 }
 
 pub returns : goal.returns
@@ -29,7 +29,7 @@ returns c = record {
   s = c.act-s.result.0;
   d = c.act-s.result.1;
   source = c.act-s.ensures.source;
-  goal = c.act-s.ensures.destination;
+  destination = c.act-s.ensures.destination;
   made = c.act-s.ensures.made;
   marked = c.refresh.ensures;
 }

@@ -42,7 +42,7 @@ mark_lanes-requires c = record {
   counted = c.requires.sized.deliveries;
   size = c.requires.sized.lanes;
   source = c.requires.source;
-  goal = c.requires.destination;
+  destination = c.requires.destination;
 }
 
 pub returns : goal.returns

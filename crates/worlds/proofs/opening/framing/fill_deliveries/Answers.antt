@@ -21,7 +21,7 @@ mark_pair-requires c =
       counted = c.loop-pair.invariant.size;
       size = c.requires.lanes;
       source = div_below c.loop-pair.pair n n c.requires.nonempty h;
-      goal = mod_below c.loop-pair.pair n c.requires.nonempty;
+      destination = mod_below c.loop-pair.pair n c.requires.nonempty;
     }
 
 pub loop-pair-preserved : goal.loop-pair-preserved

@@ -27,7 +27,8 @@ gate-requires c =
       at_most = c.requires.at_most;
       size = c.requires.lanes;
       source = source_in n c.args.window c.args.lanes.now c.args.nodes.now c.loop-pair.nodes i c.requires.nonempty h c.requires.wide v;
-      goal = destination_in n c.args.window c.args.lanes.now c.args.nodes.now c.loop-pair.nodes i c.requires.nonempty h c.requires.wide v;
+      destination = destination_in n c.args.window c.args.lanes.now c.args.nodes.now c.loop-pair.nodes i c.requires.nonempty h
+          c.requires.wide v;
       nodes = v.size;
       closed = (v.same (i / n)).wide ∙ c.requires.wide (i / n)
           (source_in n c.args.window c.args.lanes.now c.args.nodes.now c.loop-pair.nodes i c.requires.nonempty h c.requires.wide v);
