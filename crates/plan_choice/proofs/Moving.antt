@@ -29,7 +29,7 @@ use Rattle.rank_node.specs.Handles.{Handles}
 use Rattle.worlds.specs.parts.Layout.{held_in, lane_at}
 use Rattle.worlds.specs.parts.Marks.{HasPlace, out_with, sent_out}
 use Rattle.worlds.proofs.parts.Gated.{scene_by}
-use Rattle.worlds.proofs.parts.BufferCells.{held_here, held_out, set_capacity, set_here, set_size}
+use Rattle.worlds.proofs.parts.Held.{held_here, held_out, set_capacity, set_here, set_size}
 use Rattle.worlds.proofs.parts.Sets.{at_set}
 use Rattle.choice_texts.specs.machine.Counted.{steps_due}
 use Rattle.choice_texts.specs.view.Install.{Slots, ct_of}

@@ -22,7 +22,7 @@ use Rattle.cuts.specs.windows.Places.{lane_place}
 use Rattle.worlds.specs.parts.Layout.{held_in, lane_at}
 use Rattle.worlds.specs.parts.Marks.{out_with, popped, receiver}
 use Rattle.worlds.proofs.parts.Gated.{scene_by}
-use Rattle.worlds.proofs.parts.BufferCells.{held_here, held_set, set_capacity, set_other, set_size}
+use Rattle.worlds.proofs.parts.Held.{held_here, held_set, set_capacity, set_other, set_size}
 use Rattle.worlds.proofs.Listed.{offered, ready_is}
 use Rattle.choice_texts.specs.machine.Counted.{steps_due}
 use Rattle.choice_texts.specs.laws.Traffic.{IsMade as IsSent}

@@ -5,7 +5,7 @@ use mathlib.Core.Option.{some}
 use lib.ListN.{get_elem?}
 use Rattle.atomic_table.proofs.Lists.{at_map}
 use Rattle.turn_table.specs.declared.views.HandView.{HandView}
-use Rattle.turn_table.specs.declared.views.TurnRankView.{TurnRankView}
+use Rattle.turn_table.specs.declared.views.SlotView.{SlotView}
 use Rattle.turn_table.specs.Views.{without_busy_slot}
 use Rattle.turn_table.specs.Hands.{marks}
 use Rattle.cuts.specs.histories.History.{Local}
@@ -45,7 +45,7 @@ seen-else job v w r q a b front n t apart h =
       slot_is = x.1;
       at = h.at;
       turn = h.turn;
-      turn_is = ap (λ (s : TurnRankView TurnRank). get_elem? s.seen h.at) x.2 ∙ h.turn_is;
+      turn_is = ap (λ (s : SlotView TurnRank). get_elem? s.seen h.at) x.2 ∙ h.turn_is;
       begins = h.begins;
       says = h.says;
     }

@@ -10,7 +10,7 @@ use Rattle.ptl_types.specs.declared.steps.LocalStep.{LocalStep}
 use Rattle.atomic_table.proofs.Lists.{at_map}
 use Rattle.turn_table.specs.declared.views.EndedTurn.{EndedTurn}
 use Rattle.turn_table.specs.declared.views.HandView.{HandView}
-use Rattle.turn_table.specs.declared.views.TurnRankView.{TurnRankView}
+use Rattle.turn_table.specs.declared.views.SlotView.{SlotView}
 use Rattle.turn_table.specs.Views.{adjusted, after_busy, after_give, after_turn, busier_slot, numbers_from, places, places_in}
 use Rattle.turn_table.specs.Views.{without_busy_slot}
 use Rattle.turn_table.specs.Hands.{LastTurn, Took, marks}
@@ -29,7 +29,7 @@ use Rattle.rank_slots.proofs.Chronicles.{as-long, bare-history, begins-chronicle
 use Rattle.rank_slots.proofs.Pairs.{at_map_back, within}
 
 -- ---- the views without the counts of busy tries
-adjusted-else : (l : List (TurnRankView TurnRank)) (k q : ℕ) (f : TurnRankView TurnRank → TurnRankView TurnRank) → q ≢ k →
+adjusted-else : (l : List (SlotView TurnRank)) (k q : ℕ) (f : SlotView TurnRank → SlotView TurnRank) → q ≢ k →
     get_elem? (map without_busy_slot (adjusted l k f)) q ≡ get_elem? (map without_busy_slot l) q
 adjusted-else [] k q f apart = refl
 adjusted-else (x ∷ xs) zero zero f apart = absurd (apart refl)
@@ -37,14 +37,14 @@ adjusted-else (x ∷ xs) zero (suc q) f apart = refl
 adjusted-else (x ∷ xs) (suc k) zero f apart = refl
 adjusted-else (x ∷ xs) (suc k) (suc q) f apart = adjusted-else xs k q f (λ e. apart (ap suc e))
 
-places-here : (l : List (TurnRankView TurnRank)) (k : ℕ) (x y : TurnRank) → k < length l →
+places-here : (l : List (SlotView TurnRank)) (k : ℕ) (x y : TurnRank) → k < length l →
     places_in (adjusted l k (after_turn chronicle x y)) k ≡ places_in l k ++ numbers_from (length (history x))
     (length (history y) - length (history x))
 places-here [] k x y h = absurd (omega (arith, h))
 places-here (s ∷ l) zero x y h = λ k. s.places ++ numbers_from (as-long x k) (as-long y k - as-long x k)
 places-here (s ∷ l) (suc k) x y h = places-here l k x y (omega (arith, h))
 
-places-still : (l : List (TurnRankView TurnRank)) (k : ℕ) → places_in (map without_busy_slot l) k ≡ places_in l k
+places-still : (l : List (SlotView TurnRank)) (k : ℕ) → places_in (map without_busy_slot l) k ≡ places_in l k
 places-still [] k = refl
 places-still (s ∷ l) zero = refl
 places-still (s ∷ l) (suc k) = places-still l k
@@ -83,7 +83,7 @@ turned v u w r x y took given last =
     let slots : w.slots ≡ adjusted took.tried.slots r (after_turn chronicle x y) = ap (λ (z : HandView TurnRank). z.slots) given
     ∙ ap (λ (z : HandView TurnRank). adjusted z.slots r (after_turn chronicle x y)) took.taken in
     let low : r < length took.tried.slots = (let k = within w.slots r last.slot last.slot_is in let a =
-    ap (λ (l : List (TurnRankView
+    ap (λ (l : List (SlotView
     TurnRank)). length l) slots in
     let b = adjusted_length
     took.tried.slots r (after_turn
@@ -93,18 +93,18 @@ turned v u w r x y took given last =
       parts = ap (λ (z : HandView TurnRank). z.parts) given ∙ (ap (λ (z : HandView TurnRank). z.parts) took.taken
           ∙ ap (λ (z : HandView TurnRank). z.parts) took.alike);
       begins = λ s i t a b. (let z = at_map_back without_busy_slot took.tried.slots r (without_busy_slot s)
-          (ap (λ (l : List (TurnRankView TurnRank)). get_elem? l r) alike
+          (ap (λ (l : List (SlotView TurnRank)). get_elem? l r) alike
           ∙ at_map without_busy_slot v.slots r s a) in
-          begins-history t.given x (took.found.follows z.0 i t z.1 (ap (λ (s : TurnRankView TurnRank). get_elem? s.seen i) z.2 ∙ b)));
+          begins-history t.given x (took.found.follows z.0 i t z.1 (ap (λ (s : SlotView TurnRank). get_elem? s.seen i) z.2 ∙ b)));
       last = last-history w r x y last;
-      mine = ap (λ (l : List (TurnRankView TurnRank)). places_in l r) slots
+      mine = ap (λ (l : List (SlotView TurnRank)). places_in l r) slots
           ∙ (places-here took.tried.slots r x y low
           ∙ ap (λ ps. ps ++ numbers_from (length (history x)) (length (history y) - length (history x)))
-          (sym (places-still took.tried.slots r) ∙ (ap (λ (l : List (TurnRankView TurnRank)). places_in l r) alike
+          (sym (places-still took.tried.slots r) ∙ (ap (λ (l : List (SlotView TurnRank)). places_in l r) alike
           ∙ places-still v.slots r)));
-      others = λ q apart. ap (λ (l : List (TurnRankView TurnRank)). get_elem? (map without_busy_slot l) q) slots
+      others = λ q apart. ap (λ (l : List (SlotView TurnRank)). get_elem? (map without_busy_slot l) q) slots
           ∙ (adjusted-else took.tried.slots r q (after_turn chronicle x y) apart
-          ∙ ap (λ (l : List (TurnRankView TurnRank)). get_elem? l q) alike);
+          ∙ ap (λ (l : List (SlotView TurnRank)). get_elem? l q) alike);
     }
 
 -- ---- the last turns of a hand
@@ -112,7 +112,7 @@ last-same : (v w : HandView TurnRank) (q : ℕ) (a b : Mark) → get_elem? (map 
     (map without_busy_slot v.slots) q → LastTurn history note v q a b → LastTurn history note w q a b
 last-same v w q a b e h =
     let x = at_map_back without_busy_slot w.slots q (without_busy_slot h.slot) (e ∙ at_map without_busy_slot v.slots q h.slot h.slot_is) in
-    record { slot = x.0; slot_is = x.1; turn_is = ap (λ (s : TurnRankView TurnRank). map (marks history note) s.seen) x.2 ∙ h.turn_is }
+    record { slot = x.0; slot_is = x.1; turn_is = ap (λ (s : SlotView TurnRank). map (marks history note) s.seen) x.2 ∙ h.turn_is }
 
 turned-else : (job : JobOf) (v w : HandView TurnRank) (r q : ℕ) (a b : Mark) → Turned v w r a b → q ≢ r → FoundIdle job v q →
     FoundIdle job w q
@@ -171,18 +171,18 @@ with-none None f h = f h
 with-none (Some step) f h = tt
 
 -- ---- a turn that follows hints
-places-busier : (l : List (TurnRankView TurnRank)) (k q : ℕ) → places_in (adjusted l k busier_slot) q ≡ places_in l q
+places-busier : (l : List (SlotView TurnRank)) (k q : ℕ) → places_in (adjusted l k busier_slot) q ≡ places_in l q
 places-busier [] k q = refl
 places-busier (s ∷ l) zero zero = refl
 places-busier (s ∷ l) zero (suc q) = refl
 places-busier (s ∷ l) (suc k) zero = refl
 places-busier (s ∷ l) (suc k) (suc q) = places-busier l k q
 
-abbrev places-of : mathlib.Core.Option.Option (TurnRankView TurnRank) → List ℕ
+abbrev places-of : mathlib.Core.Option.Option (SlotView TurnRank) → List ℕ
 places-of none = []
 places-of (some s) = s.places
 
-places-at : (l : List (TurnRankView TurnRank)) (q : ℕ) → places-of (get_elem? (map without_busy_slot l) q) ≡ places_in l q
+places-at : (l : List (SlotView TurnRank)) (q : ℕ) → places-of (get_elem? (map without_busy_slot l) q) ≡ places_in l q
 places-at [] q = refl
 places-at (s ∷ l) zero = refl
 places-at (s ∷ l) (suc q) = places-at l q

@@ -17,13 +17,13 @@ use Rattle.rank_threads.specs.Fabrics.{FabricState}
 use mathlib.Core.List.{IsPrefix}
 use Rattle.cuts.specs.histories.History.{Local}
 use Rattle.turn_table.specs.declared.views.EndedTurn.{EndedTurn}
-use Rattle.turn_table.specs.declared.views.TurnRankView.{TurnRankView}
+use Rattle.turn_table.specs.declared.views.SlotView.{SlotView}
 use Rattle.rank_slots.specs.Names.{history}
 use Rattle.rank_slots.specs.Probes.{Says}
 
 -- a history that was seen at rank r begins with this front, and the note says what the front says
 pub record SaysSeen (job : JobOf) (v : HandView TurnRank) (r : ℕ) (front : List Local) (n : ProbeNote) : Type 0 where
-  pub slot : TurnRankView TurnRank
+  pub slot : SlotView TurnRank
   pub slot_is : get_elem? v.slots r ≡ some slot
   pub at : ℕ
   pub turn : EndedTurn TurnRank

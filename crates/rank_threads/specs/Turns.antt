@@ -5,7 +5,7 @@ use mathlib.Core.Option.{some}
 use mathlib.Core.List.{IsPrefix}
 use lib.ListN.{get_elem?}
 use Rattle.turn_table.specs.declared.views.HandView.{HandView}
-use Rattle.turn_table.specs.declared.views.TurnRankView.{TurnRankView}
+use Rattle.turn_table.specs.declared.views.SlotView.{SlotView}
 use Rattle.turn_table.specs.declared.views.EndedTurn.{EndedTurn}
 use Rattle.turn_table.specs.Views.{numbers_from, places, without_busy_slot}
 use Rattle.turn_table.specs.Hands.{LastTurn, Took}
@@ -19,7 +19,7 @@ use Rattle.rank_slots.specs.Steps.{IsIdle, Made}
 -- the history begins with each that the hand saw at rank r
 abbrev pub BeginsSeen : HandView TurnRank → ℕ → List Local → Type 0
 BeginsSeen v r h =
-    (s : TurnRankView TurnRank) (i : ℕ) (t : EndedTurn TurnRank) → get_elem? v.slots r ≡ some s → get_elem? s.seen i ≡ some t
+    (s : SlotView TurnRank) (i : ℕ) (t : EndedTurn TurnRank) → get_elem? v.slots r ≡ some s → get_elem? s.seen i ≡ some t
     → IsPrefix (history t.given) h
 
 -- from the view v to the view w the hand had one turn, at rank r, and took a and gave b; busy tries aside, nothing else changed
