@@ -40,7 +40,7 @@ impl<G: Gate + Drop> Fabric<G> {
         unreachable!()
     }
 
-    // RankOps once at each rank from `first` to before `end`, and answers whether there was a step.
+    // Works once at each rank from `first` to before `end`, and answers whether there was a step.
     fn sweep_part<R: Wait>(&self, rt: &R, hand: &mut Hand, first: Rank, end: Rank) -> bool
         requires hand { IsFree self.now.turns hand.old }
         requires end { end ≤ self.now.job.schedule.plan.ranks }
@@ -60,7 +60,7 @@ impl<G: Gate + Drop> Fabric<G> {
         worked
     }
 
-    // RankOps once at each rank, beginning at `first`, and answers whether there was a step.
+    // Works once at each rank, beginning at `first`, and answers whether there was a step.
     pub(crate) fn sweep<R: Wait>(&self, rt: &R, hand: &mut Hand, first: Rank) -> bool
         requires hand { IsFree self.now.turns hand.old }
         requires first { first ≤ self.now.job.schedule.plan.ranks }

@@ -11,10 +11,10 @@ pub finished-world-requires : goal.finished-world-requires
 finished-world-requires g c =
     let opened = c.in_ok-fabric.ensures in
     let worked = c.run_keeping-world.ensures.world in
-    let of = opened.job ∙ c.job.ensures.value in record {
+    let same = opened.job ∙ c.job.ensures.value in record {
       own = worked.world.spare;
-      schedule = worked.world.schedule ∙ ap (λ (j : JobOf). j.schedule) of;
-      inputs = worked.world.inputs ∙ ap (λ (j : JobOf). j.inputs) of;
+      schedule = worked.world.schedule ∙ ap (λ (j : JobOf). j.schedule) same;
+      inputs = worked.world.inputs ∙ ap (λ (j : JobOf). j.inputs) same;
     }
 
 pub returns : goal.returns

@@ -5,10 +5,10 @@ use Rattle.portals_top.proofs.running.run_once.Goals as goal
 pub finished-requires : goal.finished-requires
 finished-requires c =
     let opened = c.in_ok-world.ensures in
-    let of = c.job.ensures.value in record {
+    let same = c.job.ensures.value in record {
       own = opened.spare;
-      schedule = opened.schedule ∙ ap (λ (j : JobOf). j.schedule) of;
-      inputs = opened.inputs ∙ ap (λ (j : JobOf). j.inputs) of;
+      schedule = opened.schedule ∙ ap (λ (j : JobOf). j.schedule) same;
+      inputs = opened.inputs ∙ ap (λ (j : JobOf). j.inputs) same;
     }
 
 pub returns : goal.returns

@@ -10,10 +10,10 @@ close_steady-world-requires-clause-hands g c = λ _ _. λ i d low. (c.in_ok-fabr
 pub finished-requires : goal.finished-requires
 finished-requires g c =
     let closed = c.close_steady-world.ensures in
-    let of = c.in_ok-fabric.ensures.job ∙ c.job-own.ensures.value in record {
+    let same = c.in_ok-fabric.ensures.job ∙ c.job-own.ensures.value in record {
       own = closed.own;
-      schedule = closed.schedule ∙ ap (λ (j : JobOf). j.schedule) of;
-      inputs = closed.inputs ∙ ap (λ (j : JobOf). j.inputs) of;
+      schedule = closed.schedule ∙ ap (λ (j : JobOf). j.schedule) same;
+      inputs = closed.inputs ∙ ap (λ (j : JobOf). j.inputs) same;
     }
 
 pub returns : goal.returns
