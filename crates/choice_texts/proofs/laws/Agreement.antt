@@ -134,49 +134,51 @@ module _ (k : Slots) (ks : List ChoiceKind) (r s : ℕ) where
   sent_no_answer d (Told old value) = refl
 
 -- ---- a step of an interleaving
-module _ (n : System) (w : Histories) (held : Lanes) (next : Histories) (later : Lanes) (step : IsLocalStep n w held next later) where
+module _ (n : System) (world : Histories) (held : Lanes) (world_after : Histories) (held_after : Lanes)
+    (step : IsLocalStep n world held world_after held_after) where
   pub by_rank : {X : Type 0} (q : ℕ) (x y : X) → ((q ≡ step.r) → cond (q == step.r) x y ≡ x)
       × ((q ≡ step.r → ⊥) → cond (q == step.r) x y ≡ y)
   by_rank q x y = ((λ e. ap (λ b. cond b x y) (eq-eqb q step.r e)), (λ n. ap (λ b. cond b x y) (ne_eqb q step.r n)))
 
-  pub state_here : (e : Local) → step.e ≡ e → state_at n next step.r ≡ after (n.go step.r) (state_at n w step.r) e
-  state_here e q = ap (state (n.go step.r) (n.first step.r)) step.rank
-      ∙ state-append (n.go step.r) (n.first step.r) (w step.r) (step.e ∷ []) ∙ ap (after (n.go step.r) (state_at n w step.r)) q
+  pub state_moved : (e : Local) → step.e ≡ e → state_at n world_after step.r ≡ after (n.go step.r) (state_at n world step.r) e
+  state_moved e q = ap (state (n.go step.r) (n.first step.r)) step.rank
+      ∙ state-append (n.go step.r) (n.first step.r) (world step.r) (step.e ∷ []) ∙ ap (after (n.go step.r) (state_at n world step.r)) q
 
-  pub state_there : (q : ℕ) → (q ≡ step.r → ⊥) → state_at n next q ≡ state_at n w q
-  state_there q m = ap (state (n.go q) (n.first q)) (step.others q m)
+  pub state_stays : (q : ℕ) → (q ≡ step.r → ⊥) → state_at n world_after q ≡ state_at n world q
+  state_stays q m = ap (state (n.go q) (n.first q)) (step.others q m)
 
-  pub left_here : (e : Local) → step.e ≡ e → (d : ℕ) (lane : Lane)
-      → later step.r d lane ≡ step.rest step.r d lane ++ filter (is_for d lane) (and_then (made_by (state_at n w step.r) e) [])
-  left_here e q d lane = step.left step.r d lane
+  pub lane_gains : (e : Local) → step.e ≡ e → (d : ℕ) (lane : Lane)
+      → held_after step.r d lane ≡ step.rest step.r d lane ++ filter (is_for d lane) (and_then (made_by (state_at n world step.r) e) [])
+  lane_gains e q d lane = step.left step.r d lane
       ∙ ap (λ v. step.rest step.r d lane ++ v)
-      ((by_rank step.r _ []).0 refl ∙ ap (λ v. filter (is_for d lane) (and_then (made_by (state_at n w step.r) v) [])) q)
+      ((by_rank step.r _ []).0 refl ∙ ap (λ v. filter (is_for d lane) (and_then (made_by (state_at n world step.r) v) [])) q)
 
-  pub left_there : (s d : ℕ) (lane : Lane) → (s ≡ step.r → ⊥) → later s d lane ≡ step.rest s d lane
-  left_there s d lane m = step.left s d lane ∙ ap (λ v. step.rest s d lane ++ v) ((by_rank s _ []).1 m) ∙ append-nil (step.rest s d lane)
+  pub lane_gains_none : (s d : ℕ) (lane : Lane) → (s ≡ step.r → ⊥) → held_after s d lane ≡ step.rest s d lane
+  lane_gains_none s d lane m =
+      step.left s d lane ∙ ap (λ v. step.rest s d lane ++ v) ((by_rank s _ []).1 m) ∙ append-nil (step.rest s d lane)
 
-  pub taken_here : (e : Local) → step.e ≡ e → (s : ℕ) (lane : Lane) → held s step.r lane ≡ got (e ∷ []) s lane ++ step.rest s step.r lane
-  taken_here e q s lane = step.taken s step.r lane
+  pub lane_gives : (e : Local) → step.e ≡ e → (s : ℕ) (lane : Lane) → held s step.r lane ≡ got (e ∷ []) s lane ++ step.rest s step.r lane
+  lane_gives e q s lane = step.taken s step.r lane
       ∙ ap (λ v. v ++ step.rest s step.r lane) ((by_rank step.r _ []).0 refl ∙ ap (λ v. got (v ∷ []) s lane) q)
 
-  pub taken_there : (s d : ℕ) (lane : Lane) → (d ≡ step.r → ⊥) → step.rest s d lane ≡ held s d lane
-  taken_there s d lane m = sym (step.taken s d lane ∙ ap (λ v. v ++ step.rest s d lane) ((by_rank d (got (step.e ∷ []) s lane) []).1 m))
+  pub lane_gives_none : (s d : ℕ) (lane : Lane) → (d ≡ step.r → ⊥) → step.rest s d lane ≡ held s d lane
+  lane_gives_none s d lane m = sym (step.taken s d lane ∙ ap (λ v. v ++ step.rest s d lane) ((by_rank d (got (step.e ∷ []) s lane) []).1 m))
 
   -- a lane from which this step takes nothing
   pub untaken : (e : Local) → step.e ≡ e → (s d : ℕ) (lane : Lane) → got (e ∷ []) s lane ≡ [] → step.rest s d lane ≡ held s d lane
   untaken e q s d lane f = elim (cases_eq d step.r) [
     | inl i ↦ subst (λ v. step.rest s v lane ≡ held s v lane) (sym i)
-        (sym (taken_here e q s lane ∙ ap (λ v. v ++ step.rest s step.r lane) f))
-    | inr m ↦ taken_there s d lane m
+        (sym (lane_gives e q s lane ∙ ap (λ v. v ++ step.rest s step.r lane) f))
+    | inr m ↦ lane_gives_none s d lane m
   ]
 
   -- starts
-  pub starts_here : (e : Local) → step.e ≡ e
-      → count_by is_start (next step.r) ≡ count_by is_start (w step.r) + (if is_start e then 1 else 0)
-  starts_here e q =
-      ap (count_by is_start) step.rank ∙ count-append is_start (w step.r) (step.e ∷ [])
-      ∙ ap (λ v. count_by is_start (w step.r) + count_by is_start (v ∷ [])) q
-      ∙ ap (λ v. count_by is_start (w step.r) + v) (one e)
+  pub starts_counted : (e : Local) → step.e ≡ e
+      → count_by is_start (world_after step.r) ≡ count_by is_start (world step.r) + (if is_start e then 1 else 0)
+  starts_counted e q =
+      ap (count_by is_start) step.rank ∙ count-append is_start (world step.r) (step.e ∷ [])
+      ∙ ap (λ v. count_by is_start (world step.r) + count_by is_start (v ∷ [])) q
+      ∙ ap (λ v. count_by is_start (world step.r) + v) (one e)
     where
       one : (e : Local) → count_by is_start (e ∷ []) ≡ cond (is_start e) 1 0
       one Start = refl
@@ -184,37 +186,40 @@ module _ (n : System) (w : Histories) (held : Lanes) (next : Histories) (later :
       one (Fire t) = refl
 
   -- a step that isn't a start leaves how many there were
-  pub starts_stay : (e : Local) → step.e ≡ e → is_start e ≡ false → (q : ℕ) → count_by is_start (next q) ≡ count_by is_start (w q)
+  pub starts_stay : (e : Local) → step.e ≡ e → is_start e ≡ false → (q : ℕ)
+      → count_by is_start (world_after q) ≡ count_by is_start (world q)
   starts_stay e i f q = elim (cases_eq q step.r) [
-    | inl j ↦ subst (λ v. count_by is_start (next v) ≡ count_by is_start (w v)) (sym j)
-        (starts_here e i ∙ ap (λ b. count_by is_start (w step.r) + (if b then 1 else 0)) f ∙ add-zero (count_by is_start (w step.r)))
+    | inl j ↦ subst (λ v. count_by is_start (world_after v) ≡ count_by is_start (world v)) (sym j)
+        (starts_counted e i
+        ∙ ap (λ b. count_by is_start (world step.r) + (if b then 1 else 0)) f
+        ∙ add-zero (count_by is_start (world step.r)))
     | inr m ↦ ap (count_by is_start) (step.others q m)
   ]
 
   -- a history grows by one
-  pub length_here : length (next step.r) ≡ suc (length (w step.r))
-  length_here = ap length step.rank ∙ length-append (w step.r) (step.e ∷ [])
-      ∙ (let q : length (w step.r) + 1 ≡ suc (length (w step.r)) = omega arith in q)
+  pub history_grows : length (world_after step.r) ≡ suc (length (world step.r))
+  history_grows = ap length step.rank ∙ length-append (world step.r) (step.e ∷ [])
+      ∙ (let q : length (world step.r) + 1 ≡ suc (length (world step.r)) = omega arith in q)
 
-  pub length_there : (q : ℕ) → (q ≡ step.r → ⊥) → length (next q) ≡ length (w q)
-  length_there q m = ap length (step.others q m)
+  pub history_stays : (q : ℕ) → (q ≡ step.r → ⊥) → length (world_after q) ≡ length (world q)
+  history_stays q m = ap length (step.others q m)
 
   -- so does what was made
-  pub lengths_next : (before behind : ℕ → ℕ) → ((q : ℕ) → length (w q) ≡ before q) → behind step.r ≡ suc (before step.r)
-      → ((q : ℕ) → (q ≡ step.r → ⊥) → behind q ≡ before q) → (q : ℕ) → length (next q) ≡ behind q
-  lengths_next before behind now more same q = elim (cases_eq q step.r) [
-    | inl i ↦ subst (λ v. length (next v) ≡ behind v) (sym i) (length_here ∙ ap suc (now step.r) ∙ sym more)
-    | inr m ↦ length_there q m ∙ now q ∙ sym (same q m)
+  pub lengths_next : (before behind : ℕ → ℕ) → ((q : ℕ) → length (world q) ≡ before q) → behind step.r ≡ suc (before step.r)
+      → ((q : ℕ) → (q ≡ step.r → ⊥) → behind q ≡ before q) → (q : ℕ) → length (world_after q) ≡ behind q
+  lengths_next before behind agreed more same q = elim (cases_eq q step.r) [
+    | inl i ↦ subst (λ v. length (world_after v) ≡ behind v) (sym i) (history_grows ∙ ap suc (agreed step.r) ∙ sym more)
+    | inr m ↦ history_stays q m ∙ agreed q ∙ sym (same q m)
   ]
 
 -- ---- a moment of the machine that the interfaces and the lanes agree with
-pub record Agrees (ranks : ℕ) (ks : List ChoiceKind) (slots : ℕ → Slots) (w : Histories) (held : Lanes) : Type 0 where
+pub record Agrees (ranks : ℕ) (ks : List ChoiceKind) (slots : ℕ → Slots) (world : Histories) (held : Lanes) : Type 0 where
   pub m : Moment
   pub lawful : IsLawful ranks ks m
-  pub states : (r : ℕ) → state_at (choice_system ranks ks slots) w r ≡ view (slots r) ranks ks r (seat_of ks m r)
-  pub fresh : (r : ℕ) → count_by is_start (w r) ≡ 0 → m.started r ≡ false
-  pub begun : (r : ℕ) → 0 < count_by is_start (w r) → m.started r ≡ true
-  pub lengths : (r : ℕ) → length (w r) ≡ steps_made ranks ks m r
+  pub states : (r : ℕ) → state_at (choice_system ranks ks slots) world r ≡ view (slots r) ranks ks r (seat_of ks m r)
+  pub fresh : (r : ℕ) → count_by is_start (world r) ≡ 0 → m.started r ≡ false
+  pub begun : (r : ℕ) → 0 < count_by is_start (world r) → m.started r ≡ true
+  pub lengths : (r : ℕ) → length (world r) ≡ steps_made ranks ks m r
   pub asks : (r : ℕ) → held r 0 Request ≡ map (ask_message (slots r) ks r) (m.asks r)
   pub answers : (r : ℕ) → held 0 r AnswerLane ≡ map (answer_message (slots r) ks r) (m.answers r)
   pub no_request : (s d : ℕ) → (0 ≡ d → ⊥) → held s d Request ≡ []
@@ -230,14 +235,14 @@ module _ (ranks : ℕ) (ks : List ChoiceKind) (slots : ℕ → Slots) where
   Follows m r (Receive s AnswerLane msg) n = (a : Answer) × (rest : List Answer) × (m.answers r ≡ a ∷ rest) × (n ≡ returned ks r a rest m)
 
   -- what a step leaves agrees with a moment that follows
-  pub record Moved (m : Moment) (r : ℕ) (e : Local) (next : Histories) (later : Lanes) : Type 0 where
-    pub agrees : Agrees ranks ks slots next later
+  pub record Moved (m : Moment) (r : ℕ) (e : Local) (world_after : Histories) (held_after : Lanes) : Type 0 where
+    pub agrees : Agrees ranks ks slots world_after held_after
     pub follows : Follows m r e agrees.m
 
   -- the first moment
-  pub agrees_opened : (w : Histories) (held : Lanes) → ((r : ℕ) → w r ≡ []) → ((s d : ℕ) (lane : Lane) → held s d lane ≡ [])
-      → (now : Agrees ranks ks slots w held) × (now.m ≡ opened ks)
-  agrees_opened w held h e = (
+  pub agrees_opened : (world : Histories) (held : Lanes) → ((r : ℕ) → world r ≡ []) → ((s d : ℕ) (lane : Lane) → held s d lane ≡ [])
+      → (agreed : Agrees ranks ks slots world held) × (agreed.m ≡ opened ks)
+  agrees_opened world held h e = (
     record {
       m = opened ks;
       lawful = opened_lawful ranks ks;

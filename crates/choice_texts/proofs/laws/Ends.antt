@@ -20,17 +20,18 @@ use Rattle.choice_texts.proofs.laws.Agreement.{Agrees}
 use Rattle.choice_texts.proofs.laws.Resting.{resting}
 
 module _ (ranks : ℕ) (ks : List ChoiceKind) (slots : ℕ → Slots) (in_range : IsInRange ranks ks) (w : Histories) (held : Lanes)
-    (now : Agrees ranks ks slots w held) where
+    (agreed : Agrees ranks ks slots w held) where
   pub history_le : (r : ℕ) → r < ranks → length (w r) ≤ steps_due ranks ks r
-  history_le r i = let a = made_le ranks ks now.m now.lawful r i in let b = now.lengths r in omega (arith, a, b)
+  history_le r i = let a = made_le ranks ks agreed.m agreed.lawful r i in let b = agreed.lengths r in omega (arith, a, b)
 
   pub still_full : IsStill (choice_system ranks ks slots) w held → (r : ℕ) → r < ranks → length (w r) ≡ steps_due ranks ks r
-  still_full still r i = now.lengths r
-      ∙ made_all ranks ks now.m now.lawful (resting ranks ks slots in_range w held now still) r i (now.begun r (still.started r i))
+  still_full still r i = agreed.lengths r
+      ∙ made_all ranks ks agreed.m agreed.lawful (resting ranks ks slots in_range w held agreed still) r i
+      (agreed.begun r (still.started r i))
 
   module _ (full : (r : ℕ) → r < ranks → length (w r) ≡ steps_due ranks ks r) where
-    made : (r : ℕ) → r < ranks → steps_made ranks ks now.m r ≡ steps_due ranks ks r
-    made r i = sym (now.lengths r) ∙ full r i
+    made : (r : ℕ) → r < ranks → steps_made ranks ks agreed.m r ≡ steps_due ranks ks r
+    made r i = sym (agreed.lengths r) ∙ full r i
 
     full_started : (r : ℕ) → r < ranks → 0 < count_by is_start (w r)
     full_started r i = at (cases_eq (count_by is_start (w r)) 0)
@@ -39,19 +40,19 @@ module _ (ranks : ℕ) (ks : List ChoiceKind) (slots : ℕ → Slots) (in_range 
         no_both e f = cc
 
         at : ((count_by is_start (w r) ≡ 0) ⊎ (count_by is_start (w r) ≡ 0 → ⊥)) → 0 < count_by is_start (w r)
-        at (inl e) = absurd (no_both (now.fresh r e) (full_parts ranks ks now.m now.lawful r i (made r i)).0)
+        at (inl e) = absurd (no_both (agreed.fresh r e) (full_parts ranks ks agreed.m agreed.lawful r i (made r i)).0)
         at (inr n) = omega arith
 
     full_empty : (s d : ℕ) (lane : Lane) → s < ranks → d < ranks → held s d lane ≡ []
     full_empty s d Request i j = elim (cases_eq d 0) [
-      | inl e ↦ ap (λ v. held s v Request) e ∙ now.asks s
-          ∙ ap (map (ask_message (slots s) ks s)) (full_no_asks ranks ks now.m now.lawful s i (made s i))
-      | inr n ↦ now.no_request s d (λ e. n (sym e))
+      | inl e ↦ ap (λ v. held s v Request) e ∙ agreed.asks s
+          ∙ ap (map (ask_message (slots s) ks s)) (full_no_asks ranks ks agreed.m agreed.lawful s i (made s i))
+      | inr n ↦ agreed.no_request s d (λ e. n (sym e))
     ]
     full_empty s d AnswerLane i j = elim (cases_eq s 0) [
-      | inl e ↦ ap (λ v. held v d AnswerLane) e ∙ now.answers d
-          ∙ ap (map (answer_message (slots d) ks d)) (full_no_answers ranks ks now.m now.lawful d j (made d j))
-      | inr n ↦ now.no_answer s d n
+      | inl e ↦ ap (λ v. held v d AnswerLane) e ∙ agreed.answers d
+          ∙ ap (map (answer_message (slots d) ks d)) (full_no_answers ranks ks agreed.m agreed.lawful d j (made d j))
+      | inr n ↦ agreed.no_answer s d n
     ]
 
     full_none : (r t : ℕ) → r < ranks → is_ready (state_at (choice_system ranks ks slots) w r) t ≡ false
@@ -63,8 +64,8 @@ module _ (ranks : ℕ) (ks : List ChoiceKind) (slots : ℕ → Slots) (in_range 
         at : (b : Bool) → is_ready (state_at (choice_system ranks ks slots) w r) t ≡ b → b ≡ false
         at false e = refl
         at true e =
-            let f = step_fire (slots r) ranks ks r (seat_of ks now.m r) t (ap (λ v. is_ready v t) (sym (now.states r)) ∙ e) in
-            absurd (no_both (full_idle ranks ks now.m now.lawful r i (made r i) f.0 f.1.known) f.1.ready)
+            let f = step_fire (slots r) ranks ks r (seat_of ks agreed.m r) t (ap (λ v. is_ready v t) (sym (agreed.states r)) ∙ e) in
+            absurd (no_both (full_idle ranks ks agreed.m agreed.lawful r i (made r i) f.0 f.1.known) f.1.ready)
 
     pub full_still : IsStill (choice_system ranks ks slots) w held
     full_still = record { started = full_started; empty = full_empty; idle = full_none }
@@ -72,13 +73,14 @@ module _ (ranks : ℕ) (ks : List ChoiceKind) (slots : ℕ → Slots) (in_range 
   -- a lane holds at most one message for each step of the text
   pub lane_few : (s d : ℕ) (lane : Lane) → s < ranks → d < ranks → length (held s d lane) ≤ length ks
   lane_few s d Request i j = elim (cases_eq d 0) [
-    | inl e ↦ (let a = ap length (ap (λ v. held s v Request) e ∙ now.asks s) in let b =
-        length-map (now.m.asks s) (ask_message (slots s) ks s) in let c = asks_few ranks ks now.m now.lawful s i in omega (arith, a, b, c))
-    | inr n ↦ (let a = ap length (now.no_request s d (λ e. n (sym e))) in omega (arith, a))
+    | inl e ↦ (let a = ap length (ap (λ v. held s v Request) e ∙ agreed.asks s) in let b =
+        length-map (agreed.m.asks s) (ask_message (slots s) ks s) in let c = asks_few ranks ks agreed.m agreed.lawful s i in
+        omega (arith, a, b, c))
+    | inr n ↦ (let a = ap length (agreed.no_request s d (λ e. n (sym e))) in omega (arith, a))
   ]
   lane_few s d AnswerLane i j = elim (cases_eq s 0) [
-    | inl e ↦ (let a = ap length (ap (λ v. held v d AnswerLane) e ∙ now.answers d) in let b =
-        length-map (now.m.answers d) (answer_message (slots d) ks d) in let c = answers_few ranks ks now.m now.lawful d j in
+    | inl e ↦ (let a = ap length (ap (λ v. held v d AnswerLane) e ∙ agreed.answers d) in let b =
+        length-map (agreed.m.answers d) (answer_message (slots d) ks d) in let c = answers_few ranks ks agreed.m agreed.lawful d j in
         omega (arith, a, b, c))
-    | inr n ↦ (let a = ap length (now.no_answer s d n) in omega (arith, a))
+    | inr n ↦ (let a = ap length (agreed.no_answer s d n) in omega (arith, a))
   ]

@@ -37,22 +37,25 @@ use Rattle.choice_texts.proofs.laws.Returning.{agrees_answer}
 
 module _ (ranks : ℕ) (ks : List ChoiceKind) (slots : ℕ → Slots) (in_range : IsInRange ranks ks) where
   -- a step keeps the agreement, and is a move of the machine
-  pub agrees_step : (w : Histories) (held : Lanes) (next : Histories) (later : Lanes) (now : Agrees ranks ks slots w held)
-      (step : IsLocalStep (choice_system ranks ks slots) w held next later) → Moved ranks ks slots now.m step.r step.e next later
-  agrees_step w held next later now step = at step.e refl step.enabled
+  pub agrees_step : (world : Histories) (held : Lanes) (world_after : Histories) (held_after : Lanes)
+      (agreed : Agrees ranks ks slots world held) (step : IsLocalStep (choice_system ranks ks slots) world held world_after held_after)
+      → Moved ranks ks slots agreed.m step.r step.e world_after held_after
+  agrees_step world held world_after held_after agreed step = at step.e refl step.enabled
     where
-      at : (e : Local) → step.e ≡ e → IsEnabled (choice_system ranks ks slots) w held step.r e
-          → Moved ranks ks slots now.m step.r e next later
-      at Start is fresh = agrees_start ranks ks slots w held now next later step is fresh
-      at (Fire t) is ready = agrees_firing ranks ks slots w held now next later step t is ready
-      at (Receive s Request m) is source = agrees_request ranks ks slots in_range w held now next later step s m is source.0
-      at (Receive s AnswerLane m) is source = agrees_answer ranks ks slots w held now next later step s m is
+      at : (e : Local) → step.e ≡ e → IsEnabled (choice_system ranks ks slots) world held step.r e
+          → Moved ranks ks slots agreed.m step.r e world_after held_after
+      at Start is fresh = agrees_start ranks ks slots world held agreed world_after held_after step is fresh
+      at (Fire t) is ready = agrees_firing ranks ks slots world held agreed world_after held_after step t is ready
+      at (Receive s Request m) is source =
+          agrees_request ranks ks slots in_range world held agreed world_after held_after step s m is source.0
+      at (Receive s AnswerLane m) is source = agrees_answer ranks ks slots world held agreed world_after held_after step s m is
 
   -- so every moment has it
-  pub agrees_reached : (w : Histories) (held : Lanes) → IsReached (choice_system ranks ks slots) w held → Agrees ranks ks slots w held
-  agrees_reached w held Begun = (agrees_opened ranks ks slots (λ r. []) (λ s d lane. []) (λ r. refl) (λ s d lane. refl)).0
-  agrees_reached next later (Stepped {w = w} {held = held} before step) =
-      (agrees_step w held next later (agrees_reached w held before) step).agrees
+  pub agrees_reached : (world : Histories) (held : Lanes) → IsReached (choice_system ranks ks slots) world held
+      → Agrees ranks ks slots world held
+  agrees_reached world held Begun = (agrees_opened ranks ks slots (λ r. []) (λ s d lane. []) (λ r. refl) (λ s d lane. refl)).0
+  agrees_reached world_after held_after (Stepped {w = world} {held = held} before step) =
+      (agrees_step world held world_after held_after (agrees_reached world held before) step).agrees
 
 -- values below the number of ranks, and values that are equal at every rank
 value_small : (k : ChoiceKind) (ranks : ℕ) (value : ℕ → ℕ) (r : ℕ) → r < ranks → IsRight k ranks value → value r < ranks
@@ -70,49 +73,52 @@ right_same Tickets ranks f g e h = record {
 read_result : (h v o b : ℕ) → part 24 8 (four_words h v o b) ≡ word b
 read_result h v o b = refl
 
-module _ (ranks : ℕ) (ks : List ChoiceKind) (slots : ℕ → Slots) (in_range : IsInRange ranks ks) (w : Histories) (held : Lanes)
-    (now : Agrees ranks ks slots w held) (still : IsStill (choice_system ranks ks slots) w held) where
+module _ (ranks : ℕ) (ks : List ChoiceKind) (slots : ℕ → Slots) (in_range : IsInRange ranks ks) (world : Histories) (held : Lanes)
+    (agreed : Agrees ranks ks slots world held) (still : IsStill (choice_system ranks ks slots) world held) where
   none_left : {X Y : Type 0} (f : X → Y) (xs : List X) → map f xs ≡ [] → length xs ≡ 0
   none_left f [] e = refl
   none_left f (x ∷ xs) e = cc
 
   -- the machine rests
-  pub resting : IsResting ranks ks now.m
+  pub resting : IsResting ranks ks agreed.m
   resting = record {
-    no_asks = λ r i. none_left (ask_message (slots r) ks r) (now.m.asks r) (sym (now.asks r) ∙ still.empty r 0 Request i in_range.some);
-    no_answers = λ r i. none_left (answer_message (slots r) ks r) (now.m.answers r)
-        (sym (now.answers r) ∙ still.empty 0 r AnswerLane in_range.some i);
-    idle = λ r s i j. idle_phase (slots r) ranks ks r (seat_of ks now.m r)
-        (λ t. ap (λ v. is_ready v t) (sym (now.states r)) ∙ still.idle r t i) (now.begun r (still.started r i)) s j;
+    no_asks = λ r i. none_left (ask_message (slots r) ks r) (agreed.m.asks r)
+        (sym (agreed.asks r) ∙ still.empty r 0 Request i in_range.some);
+    no_answers = λ r i. none_left (answer_message (slots r) ks r) (agreed.m.answers r)
+        (sym (agreed.answers r) ∙ still.empty 0 r AnswerLane in_range.some i);
+    idle = λ r s i j. idle_phase (slots r) ranks ks r (seat_of ks agreed.m r)
+        (λ t. ap (λ v. is_ready v t) (sym (agreed.states r)) ∙ still.idle r t i) (agreed.begun r (still.started r i)) s j;
   }
 
   -- all is told
-  all_told : (r : ℕ) → r < ranks → count_of ks (seat_of ks now.m r) Done ≡ length ks
+  all_told : (r : ℕ) → r < ranks → count_of ks (seat_of ks agreed.m r) Done ≡ length ks
   all_told r i =
-      let a = count_all (λ s. is_told (now.m.phase r s)) (steps ks)
-      (λ s j. ap is_told (rest_told ranks ks now.m now.lawful resting r s i (steps-In ks s j)).is) in
+      let a = count_all (λ s. is_told (agreed.m.phase r s)) (steps ks)
+      (λ s j. ap is_told (rest_told ranks ks agreed.m agreed.lawful resting r s i (steps-In ks s j)).is) in
       let b = length-from_to 0 (length ks) in
       let c = in_range.few_steps in
       omega (arith, a, b, c)
 
   -- the word in memory is the machine's value
-  value_is : (r s : ℕ) → r < ranks → s < length ks → result_of s (state_at (choice_system ranks ks slots) w r) ≡ value_of (now.m.phase r s)
+  value_is : (r s : ℕ) → r < ranks → s < length ks
+      → result_of s (state_at (choice_system ranks ks slots) world r) ≡ value_of (agreed.m.phase r s)
   value_is r s i j =
-      let right = rest_right ranks ks now.m in_range.some now.lawful resting s j in
-      let small = value_small (choice_at ks s) ranks (λ q. value_of (now.m.phase q s)) r i right in
-      ap (result_of s) (now.states r)
-      ∙ ap pattern (read_part ks s j (step_bytes ks r (seat_of ks now.m r)) 24 8 (λ t k. length-step ks r (seat_of ks now.m r) t)
+      let right = rest_right ranks ks agreed.m in_range.some agreed.lawful resting s j in
+      let small = value_small (choice_at ks s) ranks (λ q. value_of (agreed.m.phase q s)) r i right in
+      ap (result_of s) (agreed.states r)
+      ∙ ap pattern (read_part ks s j (step_bytes ks r (seat_of ks agreed.m r)) 24 8 (λ t k. length-step ks r (seat_of ks agreed.m r) t)
       (omega arith)
-      ∙ read_result ((seat_of ks now.m r).word s) (given_word (choice_at ks s) r) (old_of (now.m.phase r s)) (value_of (now.m.phase r s)))
-      ∙ pattern-little 8 (value_of (now.m.phase r s)) (let at_most = in_range.few_ranks in omega arith)
+      ∙ read_result ((seat_of ks agreed.m r).word s) (given_word (choice_at ks s) r) (old_of (agreed.m.phase r s))
+      (value_of (agreed.m.phase r s)))
+      ∙ pattern-little 8 (value_of (agreed.m.phase r s)) (let at_most = in_range.few_ranks in omega arith)
 
-  pub rest_decided : IsDecided ranks ks slots w
+  pub rest_decided : IsDecided ranks ks slots world
   rest_decided = record {
     done = λ r i.
-        ap (λ (v : State). lookup (ct_of (slots r) ks Done) v.cts.live) (now.states r)
-        ∙ lookup_ct (slots r) ranks ks r (seat_of ks now.m r) Done (In-done ks)
+        ap (λ (v : State). lookup (ct_of (slots r) ks Done) v.cts.live) (agreed.states r)
+        ∙ lookup_ct (slots r) ranks ks r (seat_of ks agreed.m r) Done (In-done ks)
         ∙ ap (λ n. Some (successes n)) (all_told r i);
-    right = λ s j. right_same (choice_at ks s) ranks (λ r. value_of (now.m.phase r s))
-        (λ r. result_of s (state_at (choice_system ranks ks slots) w r)) (λ r i. value_is r s i j)
-        (rest_right ranks ks now.m in_range.some now.lawful resting s j);
+    right = λ s j. right_same (choice_at ks s) ranks (λ r. value_of (agreed.m.phase r s))
+        (λ r. result_of s (state_at (choice_system ranks ks slots) world r)) (λ r i. value_is r s i j)
+        (rest_right ranks ks agreed.m in_range.some agreed.lawful resting s j);
   }

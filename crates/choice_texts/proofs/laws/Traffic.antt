@@ -52,7 +52,7 @@ answer_source : (k : Slots) (ks : List ChoiceKind) (r : ℕ) (a : Answer) → (a
 answer_source k ks r a = (ask_goes k ks r a.step a.reads).target
 
 module _ (ranks : ℕ) (ks : List ChoiceKind) (slots : ℕ → Slots) (in_range : IsInRange ranks ks) (w : Histories) (held : Lanes)
-    (now : Agrees ranks ks slots w held) where
+    (agreed : Agrees ranks ks slots w held) where
   -- what an ask of rank s and an answer for it are
   ask_made : (s : ℕ) (a : Ask) → IsMade ranks s (ask_message (slots s) ks s a)
   ask_made s a = record {
@@ -81,18 +81,18 @@ module _ (ranks : ℕ) (ks : List ChoiceKind) (slots : ℕ → Slots) (in_range 
 
   asking : (s : ℕ) (m : Sent) (rest : List Sent) → s < ranks → held s 0 Request ≡ m ∷ rest → IsAsking s m
   asking s m rest i e =
-      let f = first_of (ask_message (slots s) ks s) (now.m.asks s) m rest (sym (now.asks s) ∙ e) in
-      let h = ((now.lawful.flight s i).asks_known f.x (subst (In f.x) (sym f.whole) (inl refl))).0 in
-      let small = word_small ranks (choice_at ks f.x.step) (λ q. now.m.phase q f.x.step) (now.m.word f.x.step) in_range.few_ranks
-      (now.lawful.holds f.x.step h) in
+      let f = first_of (ask_message (slots s) ks s) (agreed.m.asks s) m rest (sym (agreed.asks s) ∙ e) in
+      let h = ((agreed.lawful.flight s i).asks_known f.first (subst (In f.first) (sym f.whole) (inl refl))).0 in
+      let small = word_small ranks (choice_at ks f.first.step) (λ q. agreed.m.phase q f.first.step) (agreed.m.word f.first.step)
+      in_range.few_ranks (agreed.lawful.holds f.first.step h) in
       record {
-        a = f.x;
+        a = f.first;
         is = f.is;
         end = _;
-        value = now.m.word f.x.step;
-        does = ap₂ target (now.states 0) (sym f.is)
-            ∙ step_serve (slots 0) ranks ks (seat_of ks now.m 0) f.x.step h (let k = in_range.few_steps in omega arith)
-            (slots s) s f.x.reads small (let k = in_range.few_ranks in omega arith);
+        value = agreed.m.word f.first.step;
+        does = ap₂ target (agreed.states 0) (sym f.is)
+            ∙ step_serve (slots 0) ranks ks (seat_of ks agreed.m 0) f.first.step h (let k = in_range.few_steps in omega arith)
+            (slots s) s f.first.reads small (let k = in_range.few_ranks in omega arith);
       }
 
   -- ---- an answer at home
@@ -102,22 +102,22 @@ module _ (ranks : ℕ) (ks : List ChoiceKind) (slots : ℕ → Slots) (in_range 
     pub end : State
     pub does : target (state_at (choice_system ranks ks slots) w r) m ≡ delivers end IsAnswered None
 
-  plain : (r s : ℕ) → r < ranks → (c : ChoiceKind) → Holds c ranks (λ q. now.m.phase q s) (now.m.word s) → c ≡ Tickets
-      → is_plain (now.m.phase r s) ≡ true
+  plain : (r s : ℕ) → r < ranks → (c : ChoiceKind) → Holds c ranks (λ q. agreed.m.phase q s) (agreed.m.word s) → c ≡ Tickets
+      → is_plain (agreed.m.phase r s) ≡ true
   plain r s i Elect h e = cc
   plain r s i Tickets h e = h.plain r i
 
   pub answering : (r : ℕ) (m : Sent) (rest : List Sent) → r < ranks → held 0 r AnswerLane ≡ m ∷ rest → IsAnswering r m
   answering r m rest i e =
-      let f = first_of (answer_message (slots r) ks r) (now.m.answers r) m rest (sym (now.answers r) ∙ e) in
-      let h = (now.lawful.flight r i).answers_known f.x (subst (In f.x) (sym f.whole) (inl refl)) in
+      let f = first_of (answer_message (slots r) ks r) (agreed.m.answers r) m rest (sym (agreed.answers r) ∙ e) in
+      let h = (agreed.lawful.flight r i).answers_known f.first (subst (In f.first) (sym f.whole) (inl refl)) in
       record {
-        a = f.x;
+        a = f.first;
         is = f.is;
         end = _;
-        does = ap₂ target (now.states r) (sym f.is)
-            ∙ step_return (slots r) ranks ks r (seat_of ks now.m r) f.x h.0 h.1
-            (plain r f.x.step i (choice_at ks f.x.step) (now.lawful.holds f.x.step h.0));
+        does = ap₂ target (agreed.states r) (sym f.is)
+            ∙ step_return (slots r) ranks ks r (seat_of ks agreed.m r) f.first h.0 h.1
+            (plain r f.first.step i (choice_at ks f.first.step) (agreed.lawful.holds f.first.step h.0));
       }
 
   -- ---- the laws
@@ -129,7 +129,7 @@ module _ (ranks : ℕ) (ks : List ChoiceKind) (slots : ℕ → Slots) (in_range 
   comes s d Request m rest i j e = at (cases_eq d 0)
     where
       at : ((d ≡ 0) ⊎ (d ≡ 0 → ⊥)) → IsComing s d Request (state_at (choice_system ranks ks slots) w d) m
-      at (inr n) = nothing (sym (now.no_request s d (λ q. n (sym q))) ∙ e)
+      at (inr n) = nothing (sym (agreed.no_request s d (λ q. n (sym q))) ∙ e)
       at (inl q) =
           let k = asking s m rest i (subst (λ v. held s v Request ≡ m ∷ rest) q e) in
           subst (λ v. IsComing s v Request (state_at (choice_system ranks ks slots) w v) m) (sym q) (record {
@@ -142,7 +142,7 @@ module _ (ranks : ℕ) (ks : List ChoiceKind) (slots : ℕ → Slots) (in_range 
   comes s d AnswerLane m rest i j e = at (cases_eq s 0)
     where
       at : ((s ≡ 0) ⊎ (s ≡ 0 → ⊥)) → IsComing s d AnswerLane (state_at (choice_system ranks ks slots) w d) m
-      at (inr n) = nothing (sym (now.no_answer s d n) ∙ e)
+      at (inr n) = nothing (sym (agreed.no_answer s d n) ∙ e)
       at (inl q) =
           let k = answering d m rest j (subst (λ v. held v d AnswerLane ≡ m ∷ rest) q e) in
           subst (λ v. IsComing v d AnswerLane (state_at (choice_system ranks ks slots) w d) m) (sym q) (record {
@@ -168,7 +168,7 @@ module _ (ranks : ℕ) (ks : List ChoiceKind) (slots : ℕ → Slots) (in_range 
   receipt_makes s d Request m n rest i j e f = at (cases_eq d 0)
     where
       at : ((d ≡ 0) ⊎ (d ≡ 0 → ⊥)) → IsBack s d n
-      at (inr q) = nothing (sym (now.no_request s d (λ q'. q (sym q'))) ∙ e)
+      at (inr q) = nothing (sym (agreed.no_request s d (λ q'. q (sym q'))) ∙ e)
       at (inl q) =
           let k = asking s m rest i (subst (λ v. held s v Request ≡ m ∷ rest) q e) in
           let a = answer k.a.step k.a.reads k.value in
@@ -180,7 +180,7 @@ module _ (ranks : ℕ) (ks : List ChoiceKind) (slots : ℕ → Slots) (in_range 
   receipt_makes s d AnswerLane m n rest i j e f = at (cases_eq s 0)
     where
       at : ((s ≡ 0) ⊎ (s ≡ 0 → ⊥)) → IsBack s d n
-      at (inr q) = nothing (sym (now.no_answer s d q) ∙ e)
+      at (inr q) = nothing (sym (agreed.no_answer s d q) ∙ e)
       at (inl q) =
           let k = answering d m rest j (subst (λ v. held v d AnswerLane ≡ m ∷ rest) q e) in
           no_some n (sym (ap (λ (x : Delivers). x.delivered.answer) k.does) ∙ f)
@@ -188,8 +188,8 @@ module _ (ranks : ℕ) (ks : List ChoiceKind) (slots : ℕ → Slots) (in_range 
   pub firing_makes : (r t : ℕ) (n : Sent) → is_ready (state_at (choice_system ranks ks slots) w r) t ≡ true
       → (fired (state_at (choice_system ranks ks slots) w r) t).message ≡ Some n → IsMade ranks r n
   firing_makes r t n ready f =
-      let k = step_fire (slots r) ranks ks r (seat_of ks now.m r) t (ap (λ v. is_ready v t) (sym (now.states r)) ∙ ready) in
-      at k.0 (now.m.phase r k.0) (sym (ap (λ (x : Fires). x.message) (ap (λ v. fired v t) (now.states r) ∙ k.1.does)) ∙ f)
+      let k = step_fire (slots r) ranks ks r (seat_of ks agreed.m r) t (ap (λ v. is_ready v t) (sym (agreed.states r)) ∙ ready) in
+      at k.0 (agreed.m.phase r k.0) (sym (ap (λ (x : Fires). x.message) (ap (λ v. fired v t) (agreed.states r) ∙ k.1.does)) ∙ f)
     where
       at : (s : ℕ) (p : Phase) → sent_message (slots r) ks r s p ≡ Some n → IsMade ranks r n
       at s Idle e = subst (IsMade ranks r) (some_one (ask_message (slots r) ks r (ask s false)) n e) (ask_made r (ask s false))
@@ -203,14 +203,14 @@ module _ (ranks : ℕ) (ks : List ChoiceKind) (slots : ℕ → Slots) (in_range 
 
   -- the registers
   pub no_drops : (r : ℕ) → (state_at (choice_system ranks ks slots) w r).drops ≡ 0
-  no_drops r = ap (λ (v : State). v.drops) (now.states r)
+  no_drops r = ap (λ (v : State). v.drops) (agreed.states r)
 
   pub no_violations : (r : ℕ) → (state_at (choice_system ranks ks slots) w r).violations ≡ 0
-  no_violations r = ap (λ (v : State). v.violations) (now.states r)
+  no_violations r = ap (λ (v : State). v.violations) (agreed.states r)
 
   -- the four words of a step are within the memory
   pub words_within : (r s : ℕ) → s < length ks → 32 * s + 32 ≤ length (state_at (choice_system ranks ks slots) w r).memory
   words_within r s h =
-      let seat = seat_of ks now.m r in
-      subst (λ (v : State). 32 * s + 32 ≤ length v.memory) (sym (now.states r))
+      let seat = seat_of ks agreed.m r in
+      subst (λ (v : State). 32 * s + 32 ≤ length v.memory) (sym (agreed.states r))
       (inside_step ks s h (step_bytes ks r seat) (λ t i. length-step ks r seat t))
