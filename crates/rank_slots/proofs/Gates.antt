@@ -5,6 +5,7 @@ use Rattle.std.proofs.Common.{eqb-true}
 use mathlib.Core.Option.{some}
 use lib.ListN.{get_elem?}
 use Rattle.std.specs.Prelude.{Some, filter}
+use Rattle.ptl_types.specs.declared.headers.Header.{Header}
 use Rattle.ptl_types.specs.declared.headers.Lane.{Lane}
 use Rattle.ptl_types.specs.declared.headers.Lane.TheVariants.{Request, Answer}
 use Rattle.ptl_types.specs.declared.headers.MessageKind.{MessageKind}
@@ -172,24 +173,27 @@ free-more outs at q now before i y below b = ⊎_elim
     (λ (is : (i ≢ at) × (get_elem? outs i ≡ some y)). before i y (let n = is.0 in omega (arith, n, below)) is.1) (at_set outs at i q y b)
 
 -- ---- the end of a message's lane
+-- the end `p` stands at this place, and it is that of the message's target and lane
 pub record Found (outs : List OutPort) (at : ℕ) (m : Sent) (p : OutPort) : Type 0 where
   pub within : at < length outs
   pub there : get_elem? outs at ≡ some p
   pub destination : p.target ≡ m.header.target
   pub lane : p.lane ≡ lane_of m.header.kind
 
-pub found : (outs seen : List OutPort) (at : ℕ) (m : Sent) (o p : OutPort) (d : ℕ) (l : Lane) → seen ≡ outs → get_elem? seen at ≡ some o →
-    o.target ≡ d → o.lane ≡ l → d ≡ m.header.target → l ≡ lane_of m.header.kind
-    → p ≡ get_or outs at p → Found outs at m p
-found outs seen at m o p d l same is goal lane to kind read =
-    let here = ap (λ (x : List OutPort). get_elem? x at) (sym same) ∙ is in
-    let low = within outs at o here in
-    let there = at_index outs at p low read in
-    let one = same_at outs at p o there here in
+-- an end of this target and lane stood at a place of the ends as they were seen; the target and the lane are those of the message, whose
+-- header was asked for twice; and `p` was read from that place
+pub found : (outs seen : List OutPort) (at : ℕ) (m : Sent) (p : OutPort) (header header_again : Header) (lane : Lane) → seen ≡ outs →
+    (stood : OutPort) × (get_elem? seen at ≡ some stood) × (stood.target ≡ header.target) × (stood.lane ≡ lane) →
+    header ≡ m.header → header_again ≡ m.header → lane ≡ lane_of header_again.kind → p ≡ get_or outs at p → Found outs at m p
+found outs seen at m p header header_again lane same looked_up is_header again_header of_kind read =
+    let (stood, is_there, to_target, on_lane) = looked_up in
+    let stands : get_elem? outs at ≡ some stood = ap (λ (xs : List OutPort). get_elem? xs at) (sym same) ∙ is_there in
+    let inside = within outs at stood stands in
+    let there = at_index outs at p inside read in
+    let is_stood : p ≡ stood = same_at outs at p stood there stands in
     record {
-      within = low;
+      within = inside;
       there = there;
-      destination = ap (λ (z : OutPort). z.target) one ∙ goal ∙ to;
-      lane = ap (λ (z : OutPort). z.lane) one
-          ∙ lane ∙ kind;
+      destination = ap (λ (x : OutPort). x.target) is_stood ∙ to_target ∙ ap (λ (h : Header). h.target) is_header;
+      lane = ap (λ (x : OutPort). x.lane) is_stood ∙ on_lane ∙ of_kind ∙ ap (λ (h : Header). lane_of h.kind) again_header;
     }
