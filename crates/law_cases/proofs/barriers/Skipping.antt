@@ -12,9 +12,6 @@ use Rattle.ni_model.specs.Counts.{successes}
 use Rattle.ni_model.specs.Ready.{fired}
 use Rattle.ni_model.specs.Starts.{started}
 use Rattle.ni_model.specs.State.{target}
-use Rattle.plan_core.specs.declared.Cell.{Cell}
-use Rattle.plan_core.specs.declared.Link.{Link}
-use Rattle.plan_core.specs.declared.LinkKind.TheVariants.{Bump, Put}
 use Rattle.plan_core.specs.Draw.{go_plan}
 use Rattle.plan_core.specs.Plan.{Plan, link}
 use Rattle.cuts.specs.histories.Cut.{IsCut, owned}
@@ -31,6 +28,8 @@ use Rattle.cuts.specs.start.Start.{bring, cell_started}
 use Rattle.plan_steps.specs.StepContext.{StepContext}
 use Rattle.cuts.specs.view.Calls.{call_made}
 use Rattle.cuts.specs.view.Slots.{Slots}
+use Rattle.law_cases.proofs.plans.Broadcast.{bump_link}
+use Rattle.law_cases.proofs.plans.Orders.{empty_on, sync_link}
 
 -- ---- the plans
 -- a barrier of ranks 0 and 1 whose first cell has this number, behind these exits
@@ -49,21 +48,14 @@ behind first exits = record {
 abbrev two_barriers : List ℕ → Plan
 two_barriers exits = with_cells (with_cells (go_plan 2 false) (barrier_cells (behind 2 (0 ∷ 1 ∷ [])))) (barrier_cells (behind 6 exits))
 
-abbrev on : ℕ → ℕ → Cell
-on r k = record { rank = r; ty = U8; op = None; length = 0; needs = k }
-
-abbrev bump_link : ℕ → ℕ → Link
-bump_link a b = record { source = a; source_offset = 0; length = 0; target = b; target_offset = 0; kind = Bump }
-
-abbrev sync_link : ℕ → ℕ → Link
-sync_link a b = record { source = a; source_offset = 0; length = 0; target = b; target_offset = 0; kind = Put }
-
 -- written out: go cells, and twice two entries and two cells of a round; the cells a and b are those that the second entries wait for
 abbrev written : ℕ → ℕ → Plan
 written a b = record {
   ranks = 2;
   remote = false;
-  cells = on 0 1 ∷ on 1 1 ∷ on 0 1 ∷ on 1 1 ∷ on 0 2 ∷ on 1 2 ∷ on 0 1 ∷ on 1 1 ∷ on 0 2 ∷ on 1 2 ∷ [];
+  cells = empty_on 0 1 ∷ empty_on 1 1
+      ∷ empty_on 0 1 ∷ empty_on 1 1 ∷ empty_on 0 2 ∷ empty_on 1 2
+      ∷ empty_on 0 1 ∷ empty_on 1 1 ∷ empty_on 0 2 ∷ empty_on 1 2 ∷ [];
   links = bump_link 0 2 ∷ bump_link 1 3 ∷ bump_link 2 4 ∷ sync_link 3 4 ∷ bump_link 3 5 ∷ sync_link 2 5
       ∷ bump_link a 6 ∷ bump_link b 7 ∷ bump_link 6 8 ∷ sync_link 7 8 ∷ bump_link 7 9 ∷ sync_link 6 9 ∷ [];
 }

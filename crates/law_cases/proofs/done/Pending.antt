@@ -1,7 +1,6 @@
 -- A barrier of two ranks. Rank 0 has got rank 1's message and told all its cells, and its own message has still to go.
 use Rattle.std.proofs.Common.{ℕ, Bool, true, false, ◌+◌, ◌≡◌, ◌≤◌, ◌==◌, Some, None, [], ◌∷◌, refl, ap, length, arith, lit≤}
 use Rattle.std.proofs.Common.{if◌then◌else◌, Option}
-use Rattle.ptl_types.specs.declared.elements.ElemType.TheVariants.{U8}
 use Rattle.ptl_types.specs.declared.handles.Count.{Count}
 use Rattle.ptl_types.specs.declared.headers.Lane.TheVariants.{Request}
 use Rattle.ptl_types.specs.Messages.{Sent}
@@ -13,9 +12,6 @@ use Rattle.ni_model.specs.Ready.{fired, is_ready}
 use Rattle.ni_model.specs.Starts.{started}
 use Rattle.ni_model.specs.State.{target}
 use Rattle.plan_calls.specs.RankOps.{done_threshold}
-use Rattle.plan_core.specs.declared.Cell.{Cell}
-use Rattle.plan_core.specs.declared.Link.{Link}
-use Rattle.plan_core.specs.declared.LinkKind.TheVariants.{Bump, Put}
 use Rattle.plan_core.specs.Plan.{Plan}
 use Rattle.cuts.specs.histories.History.{Legal, got}
 use Rattle.cuts.specs.histories.History.Local.{Fire, Receive, Start}
@@ -26,22 +22,15 @@ use Rattle.cuts.specs.view.Calls.{call_made}
 use Rattle.cuts.specs.view.TriggeredOps.{link_message}
 use Rattle.cuts.specs.view.Slots.{Slots}
 use Rattle.cuts.specs.done.Done.{IsDone}
-
-abbrev on : ℕ → ℕ → Cell
-on r k = record { rank = r; ty = U8; op = None; length = 0; needs = k }
-
-abbrev bump_link : ℕ → ℕ → Link
-bump_link a b = record { source = a; source_offset = 0; length = 0; target = b; target_offset = 0; kind = Bump }
-
-abbrev sync_link : ℕ → ℕ → Link
-sync_link a b = record { source = a; source_offset = 0; length = 0; target = b; target_offset = 0; kind = Put }
+use Rattle.law_cases.proofs.plans.Broadcast.{bump_link}
+use Rattle.law_cases.proofs.plans.Orders.{empty_on, sync_link}
 
 -- go cells, entries, and one round
 abbrev barrier : Bool → Plan
 barrier remote = record {
   ranks = 2;
   remote = remote;
-  cells = on 0 1 ∷ on 1 1 ∷ on 0 1 ∷ on 1 1 ∷ on 0 2 ∷ on 1 2 ∷ [];
+  cells = empty_on 0 1 ∷ empty_on 1 1 ∷ empty_on 0 1 ∷ empty_on 1 1 ∷ empty_on 0 2 ∷ empty_on 1 2 ∷ [];
   links = bump_link 0 2 ∷ bump_link 1 3 ∷ bump_link 2 4 ∷ sync_link 3 4 ∷ bump_link 3 5 ∷ sync_link 2 5 ∷ [];
 }
 

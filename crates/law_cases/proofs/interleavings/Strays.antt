@@ -21,10 +21,10 @@ use Rattle.cuts.specs.interleavings.Interleaving.IsReachedIn.{Begun, Strayed}
 use Rattle.cuts.specs.interleavings.Open.{stray_in}
 use Rattle.law_cases.proofs.plans.Broadcast.{slots}
 use Rattle.law_cases.proofs.plans.Moments.{stray}
-use Rattle.law_cases.proofs.plans.Orders.{order0, order1, sync, two}
+use Rattle.law_cases.proofs.plans.Orders.{history_of_rank_0, history_of_rank_1, sync_message, two_ranks}
 
 abbrev system : System
-system = system_of two [] (λ r. slots)
+system = system_of two_ranks [] (λ r. slots)
 
 -- a stray that brings this byte
 abbrev bringing : ℕ → Sent
@@ -98,7 +98,7 @@ one_received : strays_received (came 1) 2 ≡ 1
 one_received = refl
 
 -- the plan gives as many steps as the histories of a cut at rest have: no fewer are enough, and no more are said to be due
-as_many_as_due : steps_due two ≡ length order0 + length order1
+as_many_as_due : steps_due two_ranks ≡ length history_of_rank_0 + length history_of_rank_1
 as_many_as_due = refl
 
 -- ---- a stray is put in the lane from rank 0 to rank 1: a step, though no rank has started
@@ -123,5 +123,5 @@ not_an_end : IsStillButStrays system (λ r. []) put → ⊥
 not_an_end h = let q = h.started 0 (lit< tt) in absurd (omega (arith, q))
 
 -- nor is one where a message of the job is on its way
-job_message_left : (w : Histories) → IsStillButStrays system w (λ s d lane. sync 5 ∷ []) → ⊥
-job_message_left w h = let q : false ≡ true = h.strays 0 1 Request (sync 5) (lit< tt) (lit< tt) (inl refl) in cc
+job_message_left : (w : Histories) → IsStillButStrays system w (λ s d lane. sync_message 5 ∷ []) → ⊥
+job_message_left w h = let q : false ≡ true = h.strays 0 1 Request (sync_message 5) (lit< tt) (lit< tt) (inl refl) in cc

@@ -46,7 +46,7 @@ use Rattle.job_laws.specs.Barriers.{AreBarriersKept, barrier_cell}
 use Rattle.cuts.specs.cells.Cells.{result_in}
 use Rattle.job_laws.specs.Results.{AreMeant}
 use Rattle.law_cases.proofs.plans.Broadcast.{bump_link, put_link, slots}
-use Rattle.law_cases.proofs.plans.Orders.{on, sync_link}
+use Rattle.law_cases.proofs.plans.Orders.{empty_on, sync_link}
 use Rattle.law_cases.proofs.plans.Three.{below3}
 
 below2 : (P : ℕ → Type 0) → P 0 → P 1 → (m : ℕ) → m < 2 → P m
@@ -85,10 +85,10 @@ abbrev by_hand : Plan
 by_hand = record {
   ranks = 3;
   remote = true;
-  cells = on 0 1 ∷ on 1 1 ∷ on 2 1 ∷ byte_on 0 None 1 ∷ byte_on 1 None 1 ∷ byte_on 2 None 1
-      ∷ on 0 1 ∷ on 2 1 ∷ on 0 2 ∷ on 2 2 ∷ byte_on 0 None 2 ∷ byte_on 2 None 2
-      ∷ byte_on 0 (Some Sum) 1 ∷ byte_on 2 (Some Sum) 2 ∷ on 0 1 ∷ on 1 1 ∷ on 2 1 ∷ on 0 2
-      ∷ on 1 2 ∷ on 2 2 ∷ on 0 2 ∷ on 1 2 ∷ on 2 2 ∷ [];
+  cells = empty_on 0 1 ∷ empty_on 1 1 ∷ empty_on 2 1 ∷ byte_on 0 None 1 ∷ byte_on 1 None 1 ∷ byte_on 2 None 1
+      ∷ empty_on 0 1 ∷ empty_on 2 1 ∷ empty_on 0 2 ∷ empty_on 2 2 ∷ byte_on 0 None 2 ∷ byte_on 2 None 2
+      ∷ byte_on 0 (Some Sum) 1 ∷ byte_on 2 (Some Sum) 2 ∷ empty_on 0 1 ∷ empty_on 1 1 ∷ empty_on 2 1 ∷ empty_on 0 2
+      ∷ empty_on 1 2 ∷ empty_on 2 2 ∷ empty_on 0 2 ∷ empty_on 1 2 ∷ empty_on 2 2 ∷ [];
   links = bump_link 0 3 ∷ bump_link 1 4 ∷ bump_link 2 5 ∷ bump_link 0 6 ∷ bump_link 2 7 ∷ bump_link 6 8
       ∷ sync_link 7 8 ∷ bump_link 7 9 ∷ sync_link 6 9 ∷ bump_link 8 10 ∷ put_link 3 10 ∷ bump_link 9 11
       ∷ put_link 5 11 ∷ sum_link 10 12 ∷ sum_link 11 13 ∷ sum_link 12 13 ∷ bump_link 12 14 ∷ bump_link 1 15

@@ -1,6 +1,5 @@
 -- Verdicts on orders of a barrier of two ranks and of one rank.
 use Rattle.std.proofs.Common.{ℕ, zero, suc, true, false, ◌≡◌, ◌<◌, List, [], ◌∷◌, None, refl, inl, inr, arith, lit<}
-use Rattle.ptl_types.specs.declared.elements.ElemType.TheVariants.{U8}
 use Rattle.ptl_types.specs.declared.headers.Lane.{Lane}
 use Rattle.ptl_types.specs.declared.headers.Lane.TheVariants.{Answer, Request}
 use Rattle.ni_model.specs.Answers.{answered}
@@ -8,9 +7,6 @@ use Rattle.ni_model.specs.Arrive.{request}
 use Rattle.ni_model.specs.Ready.{is_ready, fired}
 use Rattle.ni_model.specs.Starts.{started}
 use Rattle.ni_model.specs.State.{target}
-use Rattle.plan_core.specs.declared.Cell.{Cell}
-use Rattle.plan_core.specs.declared.Link.{Link}
-use Rattle.plan_core.specs.declared.LinkKind.TheVariants.{Put}
 use Rattle.plan_core.specs.Plan.{Plan}
 use Rattle.ni_model.specs.Append.{append}
 use Rattle.cuts.specs.view.Calls.{call_made}
@@ -18,7 +14,8 @@ use Rattle.cuts.specs.start.Start.{bring, cell_started}
 use Rattle.cuts.specs.histories.History.{got}
 use Rattle.cuts.specs.histories.Plans.{system_of}
 use Rattle.cuts.specs.histories.System.{Histories, System, sent_by, state_at}
-use Rattle.law_cases.proofs.plans.Broadcast.{bump_link, slots}
+use Rattle.law_cases.proofs.plans.Broadcast.{slots}
+use Rattle.law_cases.proofs.plans.Orders.{one_rank, two_ranks}
 use Rattle.cuts.specs.orders.Taking.{Lists, Move, histories}
 use Rattle.cuts.specs.orders.Verdict.{IsVerdict, IsWhole, Rests}
 use Rattle.ptl_types.specs.declared.steps.Cause.TheVariants.{NotAtRest, NotReady, NotSent, StartedTwice}
@@ -26,26 +23,6 @@ use Rattle.ptl_types.specs.declared.steps.LocalStep.{LocalStep}
 use Rattle.ptl_types.specs.declared.steps.LocalStep.TheVariants.{Start, Receive, Fire}
 use Rattle.cuts.specs.declared.orders.Verdict.TheVariants.{Fails, Holds}
 use Rattle.cuts.proofs.orders.Trying.{AllBelow, next_step, taken_by, tried_all}
-
-abbrev on : ℕ → ℕ → Cell
-on r k = record { rank = r; ty = U8; op = None; length = 0; needs = k }
-
-abbrev sync_link : ℕ → ℕ → Link
-sync_link a b = record { source = a; source_offset = 0; length = 0; target = b; target_offset = 0; kind = Put }
-
--- go cells, entries, and one round
-abbrev two : Plan
-two = record {
-  ranks = 2;
-  remote = false;
-  cells = on 0 1 ∷ on 1 1 ∷ on 0 1 ∷ on 1 1 ∷ on 0 2 ∷ on 1 2 ∷ [];
-  links =
-      bump_link 0 2 ∷ bump_link 1 3 ∷ bump_link 2 4 ∷ sync_link 3 4 ∷ bump_link 3 5 ∷ sync_link 2 5 ∷ [];
-}
-
--- the go cell and the entry
-abbrev one : Plan
-one = record { ranks = 1; remote = false; cells = on 0 1 ∷ on 0 1 ∷ []; links = bump_link 0 1 ∷ [] }
 
 abbrev of_plan : Plan → System
 of_plan p = system_of p [] (λ r. slots)
@@ -83,45 +60,45 @@ abbrev turns_known : (k : System) → 0 < k.count → 1 < k.count → AllBelow k
 turns_known k a b = (a, (a, (a, (a, (a, (a, (b, (b, (b, (b, (b, (b, (b, (b, (a, (a, tt))))))))))))))))
 
 abbrev moves : List Move
-moves = tried_all (of_plan two) good turns []
+moves = tried_all (of_plan two_ranks) good turns []
 
-stuck : (r : ℕ) → r < 2 → next_step (of_plan two) good (histories moves) r ≡ None
+stuck : (r : ℕ) → r < 2 → next_step (of_plan two_ranks) good (histories moves) r ≡ None
 unfolding target request answered started fired append call_made cell_started bring
-stuck = below2 (λ r. next_step (of_plan two) good (histories moves) r ≡ None) refl refl
+stuck = below2 (λ r. next_step (of_plan two_ranks) good (histories moves) r ≡ None) refl refl
 
-empty : (d s : ℕ) (lane : Lane) → d < 2 → s < 2 → got (histories moves d) s lane ≡ sent_by (of_plan two) (histories moves) s d lane
+empty : (d s : ℕ) (lane : Lane) → d < 2 → s < 2 → got (histories moves d) s lane ≡ sent_by (of_plan two_ranks) (histories moves) s d lane
 unfolding target request answered started fired append call_made cell_started bring
-empty d s lane h l = below2 (λ d. got (histories moves d) s lane ≡ sent_by (of_plan two) (histories moves) s d lane)
-    (below2 (λ s. got (histories moves 0) s lane ≡ sent_by (of_plan two) (histories moves) s 0 lane) (here0 lane) (from1 lane) s l)
-    (below2 (λ s. got (histories moves 1) s lane ≡ sent_by (of_plan two) (histories moves) s 1 lane) (from0 lane) (here1 lane) s l)
+empty d s lane h l = below2 (λ d. got (histories moves d) s lane ≡ sent_by (of_plan two_ranks) (histories moves) s d lane)
+    (below2 (λ s. got (histories moves 0) s lane ≡ sent_by (of_plan two_ranks) (histories moves) s 0 lane) (here0 lane) (from1 lane) s l)
+    (below2 (λ s. got (histories moves 1) s lane ≡ sent_by (of_plan two_ranks) (histories moves) s 1 lane) (from0 lane) (here1 lane) s l)
     d h
   where
-    here0 : (lane : Lane) → got (histories moves 0) 0 lane ≡ sent_by (of_plan two) (histories moves) 0 0 lane
+    here0 : (lane : Lane) → got (histories moves 0) 0 lane ≡ sent_by (of_plan two_ranks) (histories moves) 0 0 lane
     here0 Request = refl
     here0 Answer = refl
 
-    here1 : (lane : Lane) → got (histories moves 1) 1 lane ≡ sent_by (of_plan two) (histories moves) 1 1 lane
+    here1 : (lane : Lane) → got (histories moves 1) 1 lane ≡ sent_by (of_plan two_ranks) (histories moves) 1 1 lane
     here1 Request = refl
     here1 Answer = refl
 
-    from1 : (lane : Lane) → got (histories moves 0) 1 lane ≡ sent_by (of_plan two) (histories moves) 1 0 lane
+    from1 : (lane : Lane) → got (histories moves 0) 1 lane ≡ sent_by (of_plan two_ranks) (histories moves) 1 0 lane
     from1 Request = refl
     from1 Answer = refl
 
-    from0 : (lane : Lane) → got (histories moves 1) 0 lane ≡ sent_by (of_plan two) (histories moves) 0 1 lane
+    from0 : (lane : Lane) → got (histories moves 1) 0 lane ≡ sent_by (of_plan two_ranks) (histories moves) 0 1 lane
     from0 Request = refl
     from0 Answer = refl
 
-whole_and_rest : (r : ℕ) → r < 2 → IsWhole good (histories moves) r × Rests (of_plan two) (histories moves) r
+whole_and_rest : (r : ℕ) → r < 2 → IsWhole good (histories moves) r × Rests (of_plan two_ranks) (histories moves) r
 unfolding target request answered started fired append call_made cell_started bring
-whole_and_rest = below2 (λ r. IsWhole good (histories moves) r × Rests (of_plan two) (histories moves) r)
+whole_and_rest = below2 (λ r. IsWhole good (histories moves) r × Rests (of_plan two_ranks) (histories moves) r)
     (refl, record { started = lit< tt; idle = λ t. refl; empty = λ s lane l. empty 0 s lane (lit< tt) l })
     (refl, record { started = lit< tt; idle = λ t. refl; empty = λ s lane l. empty 1 s lane (lit< tt) l })
 
-both_orders_hold : IsVerdict (of_plan two) good Holds
+both_orders_hold : IsVerdict (of_plan two_ranks) good Holds
 both_orders_hold = record {
   moves = moves;
-  taken = taken_by (of_plan two) good turns (turns_known (of_plan two) (lit< tt) (lit< tt)) stuck;
+  taken = taken_by (of_plan two_ranks) good turns (turns_known (of_plan two_ranks) (lit< tt) (lit< tt)) stuck;
   says = whole_and_rest;
 }
 
@@ -132,43 +109,47 @@ early = pair (Start ∷ Fire 0 ∷ Fire 1 ∷ Fire 2 ∷ Fire 3 ∷ Fire 4 ∷ F
 abbrev early_turns : List ℕ
 early_turns = 0 ∷ 0 ∷ 0 ∷ 0 ∷ 0 ∷ 0 ∷ 1 ∷ 1 ∷ 1 ∷ 1 ∷ 1 ∷ 1 ∷ 1 ∷ 1 ∷ []
 
-early_stuck : (r : ℕ) → r < 2 → next_step (of_plan two) early (histories (tried_all (of_plan two) early early_turns [])) r ≡ None
-unfolding target request answered started fired append call_made cell_started bring
-early_stuck = below2 (λ r. next_step (of_plan two) early (histories (tried_all (of_plan two) early early_turns [])) r ≡ None) refl refl
+abbrev early_moves : List Move
+early_moves = tried_all (of_plan two_ranks) early early_turns []
 
-fires_too_early : IsVerdict (of_plan two) early (Fails 0 7 NotReady)
+early_stuck : (r : ℕ) → r < 2 → next_step (of_plan two_ranks) early (histories early_moves) r ≡ None
+unfolding target request answered started fired append call_made cell_started bring
+early_stuck = below2 (λ r. next_step (of_plan two_ranks) early (histories early_moves) r ≡ None) refl refl
+
+fires_too_early : IsVerdict (of_plan two_ranks) early (Fails 0 7 NotReady)
 unfolding target request answered started fired append call_made cell_started bring
 fires_too_early =
     let z : 0 < 2 = lit< tt in
     let o : 1 < 2 = lit< tt in
     record {
-      moves = tried_all (of_plan two) early early_turns [];
-      taken = taken_by (of_plan two) early early_turns (z, (z, (z, (z, (z, (z, (o, (o, (o, (o, (o, (o, (o, (o, tt)))))))))))))) early_stuck;
+      moves = early_moves;
+      taken = taken_by (of_plan two_ranks) early early_turns
+          (z, (z, (z, (z, (z, (z, (o, (o, (o, (o, (o, (o, (o, (o, tt)))))))))))))) early_stuck;
       says = (z, refl, inl (Fire 5, record { lower = λ q h. absurd (omega arith); next = (Receive 1 Request ∷ [], refl) }, refl));
     }
 
 -- ---- one rank
 abbrev ran : List LocalStep → List ℕ → List Move
-ran list turns = tried_all (of_plan one) (alone list) turns []
+ran list turns = tried_all (of_plan one_rank) (alone list) turns []
 
 -- one operation is left
-one_stuck : (r : ℕ) → r < 1 → next_step (of_plan one) (alone (Start ∷ Fire 0 ∷ Fire 1 ∷ []))
+one_stuck : (r : ℕ) → r < 1 → next_step (of_plan one_rank) (alone (Start ∷ Fire 0 ∷ Fire 1 ∷ []))
     (histories (ran (Start ∷ Fire 0 ∷ Fire 1 ∷ []) (0 ∷ 0 ∷ 0 ∷ []))) r ≡ None
 unfolding target request answered started fired append call_made cell_started bring
-one_stuck = below1 (λ r. next_step (of_plan one) (alone (Start ∷ Fire 0 ∷ Fire 1 ∷ []))
+one_stuck = below1 (λ r. next_step (of_plan one_rank) (alone (Start ∷ Fire 0 ∷ Fire 1 ∷ []))
     (histories (ran (Start ∷ Fire 0 ∷ Fire 1 ∷ []) (0 ∷ 0 ∷ 0 ∷ []))) r ≡ None) refl
 
-one_is_left : is_ready (state_at (of_plan one) (histories (ran (Start ∷ Fire 0 ∷ Fire 1 ∷ []) (0 ∷ 0 ∷ 0 ∷ []))) 0) 2 ≡ true
+one_is_left : is_ready (state_at (of_plan one_rank) (histories (ran (Start ∷ Fire 0 ∷ Fire 1 ∷ []) (0 ∷ 0 ∷ 0 ∷ []))) 0) 2 ≡ true
 unfolding target request answered started fired append call_made cell_started bring
 one_is_left = refl
 
-ends_too_soon : IsVerdict (of_plan one) (alone (Start ∷ Fire 0 ∷ Fire 1 ∷ [])) (Fails 0 4 NotAtRest)
+ends_too_soon : IsVerdict (of_plan one_rank) (alone (Start ∷ Fire 0 ∷ Fire 1 ∷ [])) (Fails 0 4 NotAtRest)
 unfolding target request answered started fired append call_made cell_started bring
 ends_too_soon =
     let z : 0 < 1 = lit< tt in
     record {
       moves = ran (Start ∷ Fire 0 ∷ Fire 1 ∷ []) (0 ∷ 0 ∷ 0 ∷ []);
-      taken = taken_by (of_plan one) (alone (Start ∷ Fire 0 ∷ Fire 1 ∷ [])) (0 ∷ 0 ∷ 0 ∷ []) (z, (z, (z, tt))) one_stuck;
+      taken = taken_by (of_plan one_rank) (alone (Start ∷ Fire 0 ∷ Fire 1 ∷ [])) (0 ∷ 0 ∷ 0 ∷ []) (z, (z, (z, tt))) one_stuck;
       says = (
         z,
         refl,
@@ -188,31 +169,31 @@ ends_too_soon =
 abbrev other : List LocalStep
 other = Start ∷ Fire 1 ∷ Fire 0 ∷ Fire 2 ∷ []
 
-other_stuck : (r : ℕ) → r < 1 → next_step (of_plan one) (alone other) (histories (ran other (0 ∷ 0 ∷ 0 ∷ 0 ∷ []))) r ≡ None
+other_stuck : (r : ℕ) → r < 1 → next_step (of_plan one_rank) (alone other) (histories (ran other (0 ∷ 0 ∷ 0 ∷ 0 ∷ []))) r ≡ None
 unfolding target request answered started fired append call_made cell_started bring
-other_stuck = below1 (λ r. next_step (of_plan one) (alone other) (histories (ran other (0 ∷ 0 ∷ 0 ∷ 0 ∷ []))) r ≡ None) refl
+other_stuck = below1 (λ r. next_step (of_plan one_rank) (alone other) (histories (ran other (0 ∷ 0 ∷ 0 ∷ 0 ∷ []))) r ≡ None) refl
 
-other_empty : (lane : Lane) → got (histories (ran other (0 ∷ 0 ∷ 0 ∷ 0 ∷ [])) 0) 0 lane ≡ sent_by (of_plan one)
+other_empty : (lane : Lane) → got (histories (ran other (0 ∷ 0 ∷ 0 ∷ 0 ∷ [])) 0) 0 lane ≡ sent_by (of_plan one_rank)
     (histories (ran other (0 ∷ 0 ∷ 0 ∷ 0 ∷ []))) 0 0 lane
 unfolding target request answered started fired append call_made cell_started bring
 other_empty Request = refl
 other_empty Answer = refl
 
-other_order_holds : IsVerdict (of_plan one) (alone other) Holds
+other_order_holds : IsVerdict (of_plan one_rank) (alone other) Holds
 unfolding target request answered started fired append call_made cell_started bring
 other_order_holds =
     let z : 0 < 1 = lit< tt in
     let w : Histories = histories (ran other (0 ∷ 0 ∷ 0 ∷ 0 ∷ [])) in
     record {
       moves = ran other (0 ∷ 0 ∷ 0 ∷ 0 ∷ []);
-      taken = taken_by (of_plan one) (alone other) (0 ∷ 0 ∷ 0 ∷ 0 ∷ []) (z, (z, (z, (z, tt)))) other_stuck;
-      says = below1 (λ r. IsWhole (alone other) w r × Rests (of_plan one) w r) (
+      taken = taken_by (of_plan one_rank) (alone other) (0 ∷ 0 ∷ 0 ∷ 0 ∷ []) (z, (z, (z, (z, tt)))) other_stuck;
+      says = below1 (λ r. IsWhole (alone other) w r × Rests (of_plan one_rank) w r) (
         refl,
         record {
           started = lit< tt;
           idle = λ t. refl;
           empty =
-              λ s lane l. below1 (λ s. got (w 0) s lane ≡ sent_by (of_plan one) w s 0 lane) (other_empty lane) s l;
+              λ s lane l. below1 (λ s. got (w 0) s lane ≡ sent_by (of_plan one_rank) w s 0 lane) (other_empty lane) s l;
         },
       );
     }
@@ -221,15 +202,15 @@ other_order_holds =
 abbrev twice : List LocalStep
 twice = Start ∷ Start ∷ Fire 0 ∷ Fire 1 ∷ Fire 2 ∷ []
 
-twice_stuck : (r : ℕ) → r < 1 → next_step (of_plan one) (alone twice) (histories (ran twice (0 ∷ []))) r ≡ None
-twice_stuck = below1 (λ r. next_step (of_plan one) (alone twice) (histories (ran twice (0 ∷ []))) r ≡ None) refl
+twice_stuck : (r : ℕ) → r < 1 → next_step (of_plan one_rank) (alone twice) (histories (ran twice (0 ∷ []))) r ≡ None
+twice_stuck = below1 (λ r. next_step (of_plan one_rank) (alone twice) (histories (ran twice (0 ∷ []))) r ≡ None) refl
 
-starts_twice : IsVerdict (of_plan one) (alone twice) (Fails 0 2 StartedTwice)
+starts_twice : IsVerdict (of_plan one_rank) (alone twice) (Fails 0 2 StartedTwice)
 starts_twice =
     let z : 0 < 1 = lit< tt in
     record {
       moves = ran twice (0 ∷ []);
-      taken = taken_by (of_plan one) (alone twice) (0 ∷ []) (z, tt) twice_stuck;
+      taken = taken_by (of_plan one_rank) (alone twice) (0 ∷ []) (z, tt) twice_stuck;
       says = (z, refl, inl (Start, record { lower = λ q h. absurd (omega arith); next = (Fire 0 ∷ Fire 1 ∷ Fire 2 ∷ [], refl) }, refl));
     }
 
@@ -237,14 +218,14 @@ starts_twice =
 abbrev unsent : List LocalStep
 unsent = Start ∷ Receive 0 Request ∷ []
 
-unsent_stuck : (r : ℕ) → r < 1 → next_step (of_plan one) (alone unsent) (histories (ran unsent (0 ∷ []))) r ≡ None
-unsent_stuck = below1 (λ r. next_step (of_plan one) (alone unsent) (histories (ran unsent (0 ∷ []))) r ≡ None) refl
+unsent_stuck : (r : ℕ) → r < 1 → next_step (of_plan one_rank) (alone unsent) (histories (ran unsent (0 ∷ []))) r ≡ None
+unsent_stuck = below1 (λ r. next_step (of_plan one_rank) (alone unsent) (histories (ran unsent (0 ∷ []))) r ≡ None) refl
 
-receives_nothing : IsVerdict (of_plan one) (alone unsent) (Fails 0 2 NotSent)
+receives_nothing : IsVerdict (of_plan one_rank) (alone unsent) (Fails 0 2 NotSent)
 receives_nothing =
     let z : 0 < 1 = lit< tt in
     record {
       moves = ran unsent (0 ∷ []);
-      taken = taken_by (of_plan one) (alone unsent) (0 ∷ []) (z, tt) unsent_stuck;
+      taken = taken_by (of_plan one_rank) (alone unsent) (0 ∷ []) (z, tt) unsent_stuck;
       says = (z, refl, inl (Receive 0 Request, record { lower = λ q h. absurd (omega arith); next = ([], refl) }, refl));
     }

@@ -17,10 +17,10 @@ use Rattle.cuts.specs.declared.orders.Step.{Step}
 use Rattle.cuts.specs.declared.orders.Step.TheVariants.{Start, Deliver, Fire}
 use Rattle.ptl_types.specs.declared.steps.LocalStep.TheVariants.{Start as Starts, Fire as Fires}
 use Rattle.law_cases.proofs.plans.Broadcast.{slots}
-use Rattle.law_cases.proofs.plans.Orders.{two}
+use Rattle.law_cases.proofs.plans.Orders.{two_ranks}
 
 abbrev system : System
-system = system_of two [] (λ r. slots)
+system = system_of two_ranks [] (λ r. slots)
 
 -- these steps, the first one first
 abbrev after : List Step → Scene → Scene

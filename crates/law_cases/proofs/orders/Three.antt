@@ -37,7 +37,7 @@ use Rattle.cuts.specs.declared.orders.Step.TheVariants.{Start, Deliver, Fire}
 use Rattle.cuts.specs.declared.orders.Verdict.TheVariants.{Fails, Holds}
 use Rattle.law_cases.proofs.plans.Acknowledged.{ack, ahead, each, order0, order2, says, short, system, whole}
 use Rattle.law_cases.proofs.plans.Broadcast.{slots}
-use Rattle.law_cases.proofs.plans.Orders.{one}
+use Rattle.law_cases.proofs.plans.Orders.{one_rank}
 use Rattle.law_cases.proofs.plans.Three.{below3}
 
 below1 : (P : ℕ → Type 0) → P 0 → (r : ℕ) → r < 1 → P r
@@ -363,7 +363,7 @@ nothing_holds_of_nothing h = unstarted (histories h.moves 2) (h.says 2 (lit< tt)
 
 -- ---- chosen runs: a word names one of the possible steps, modulo their number
 abbrev of_one : System
-of_one = system_of one [] (λ r. slots)
+of_one = system_of one_rank [] (λ r. slots)
 
 -- of the two firings behind the start the second comes first
 abbrev words : ℕ → ℕ

@@ -27,7 +27,7 @@ use Rattle.cuts.specs.histories.History.Local.{Fire, Receive, Start}
 use Rattle.cuts.specs.histories.Plans.{system_of}
 use Rattle.cuts.specs.histories.System.{Histories, System, sent_by, state_at}
 use Rattle.law_cases.proofs.plans.Broadcast.{bump_link, put_link, slots}
-use Rattle.law_cases.proofs.plans.Orders.{on, sync_link}
+use Rattle.law_cases.proofs.plans.Orders.{empty_on, sync_link}
 use Rattle.law_cases.proofs.plans.Three.{below3}
 
 abbrev byte_on : ℕ → ℕ → Cell
@@ -38,7 +38,8 @@ abbrev pub three : Plan
 three = record {
   ranks = 3;
   remote = true;
-  cells = on 0 1 ∷ on 1 1 ∷ on 2 1 ∷ byte_on 0 1 ∷ byte_on 1 1 ∷ byte_on 2 1 ∷ on 0 1 ∷ on 2 1 ∷ on 0 2 ∷ on 2 2 ∷ byte_on 0 2 ∷ [];
+  cells = empty_on 0 1 ∷ empty_on 1 1 ∷ empty_on 2 1 ∷ byte_on 0 1 ∷ byte_on 1 1 ∷ byte_on 2 1
+      ∷ empty_on 0 1 ∷ empty_on 2 1 ∷ empty_on 0 2 ∷ empty_on 2 2 ∷ byte_on 0 2 ∷ [];
   links = bump_link 0 3 ∷ bump_link 1 4 ∷ bump_link 2 5 ∷ bump_link 3 6 ∷ bump_link 5 7
       ∷ bump_link 6 8 ∷ sync_link 7 8 ∷ bump_link 7 9 ∷ sync_link 6 9 ∷ bump_link 8 10 ∷ put_link 5 10 ∷ [];
 }

@@ -25,17 +25,17 @@ use Rattle.cuts.specs.histories.System.{Histories, System, sent_by, state_at}
 use Rattle.cuts.specs.histories.Wave.{IsWave}
 use Rattle.cuts.proofs.rest.Moments.{still_none}
 use Rattle.law_cases.proofs.plans.Broadcast.{slots}
-use Rattle.law_cases.proofs.plans.Orders.{order0, order1, sync, two}
+use Rattle.law_cases.proofs.plans.Orders.{history_of_rank_0, history_of_rank_1, sync_message, two_ranks}
 
 abbrev system : System
-system = system_of two [] (λ r. slots)
+system = system_of two_ranks [] (λ r. slots)
 
 abbrev world : Histories
-world r = if r == 0 then order0 else order1
+world r = if r == 0 then history_of_rank_0 else history_of_rank_1
 
 -- a put of one byte from rank 0 to rank 1, of job 2
 abbrev pub stray : Sent
-stray = record { header = record (link_header two slots 5) { match_bits = 2 * 2 ^ 48; length = 1 }; bytes = 1 ∷ [] }
+stray = record { header = record (link_header two_ranks slots 5) { match_bits = 2 * 2 ^ 48; length = 1 }; bytes = 1 ∷ [] }
 
 -- the one lane on which something waits
 abbrev waits : List Sent → Lanes
@@ -121,14 +121,14 @@ not_still : IsStill system world (waits (stray ∷ [])) → ⊥
 not_still h = let q : stray ∷ [] ≡ [] = h.empty 0 1 Request (lit< tt) (lit< tt) in cc
 
 -- its delivery raises the drop register
-then_dropped : (state (system.go 1) (system.first 1) (order1 ++ Receive 0 Request stray ∷ [])).drops ≡ 1
+then_dropped : (state (system.go 1) (system.first 1) (history_of_rank_1 ++ Receive 0 Request stray ∷ [])).drops ≡ 1
 unfolding target request answered started fired append call_made cell_started bring
 then_dropped = refl
 
 -- ---- a message of the job that nobody sent makes it no moment, and neither does a stray of another source
-no_moment_with_more : IsMoment system world (waits (sync 5 ∷ [])) → ⊥
+no_moment_with_more : IsMoment system world (waits (sync_message 5 ∷ [])) → ⊥
 unfolding target request answered started fired append call_made cell_started bring
-no_moment_with_more m = let q : sync 5 ∷ sync 5 ∷ [] ≡ sync 5 ∷ [] = m.lanes 0 1 Request (lit< tt) (lit< tt) in cc
+no_moment_with_more m = let q : sync_message 5 ∷ sync_message 5 ∷ [] ≡ sync_message 5 ∷ [] = m.lanes 0 1 Request (lit< tt) (lit< tt) in cc
 
 abbrev foreign : Sent
 foreign = record { header = record stray.header { source = 1 }; bytes = 1 ∷ [] }
@@ -160,21 +160,21 @@ not_stuck : IsStuck system world (waits (stray ∷ [])) 1 → ⊥
 not_stuck h = h 1 (Receive 0 Request stray) (lit< tt) (lit< tt, ([], refl)) (lit< tt)
 
 -- a lane that holds one message is full under a window of one: no start would find room there
-full : IsPossible system (λ r. order0) (λ s d lane. sync 5 ∷ []) 1 1 (Receive 0 Request (sync 5)) → ⊥
+full : IsPossible system (λ r. history_of_rank_0) (λ s d lane. sync_message 5 ∷ []) 1 1 (Receive 0 Request (sync_message 5)) → ⊥
 full h = absurd (omega arith)
 
 -- it is the lane back to the sender that the answer needs: here the one from rank 1 to rank 0, and not the one from rank 0
 abbrev back : Lanes
-back s d lane = if s == 1 then sync 5 ∷ [] else []
+back s d lane = if s == 1 then sync_message 5 ∷ [] else []
 
-full_back : IsPossible system (λ r. order0) back 1 1 (Receive 0 Request (sync 5)) → ⊥
+full_back : IsPossible system (λ r. history_of_rank_0) back 1 1 (Receive 0 Request (sync_message 5)) → ⊥
 full_back h = absurd (omega arith)
 
 -- a request needs room on the lane to its target
 abbrev there : Lanes
-there s d lane = if d == 1 then sync 5 ∷ [] else []
+there s d lane = if d == 1 then sync_message 5 ∷ [] else []
 
-full_there : HasWindow there 1 0 (Some (sync 5)) → ⊥
+full_there : HasWindow there 1 0 (Some (sync_message 5)) → ⊥
 full_there h = absurd (omega arith)
 
 -- ---- a get, whatever its match bits, is no stray: strays are puts and atomics alone
@@ -204,7 +204,7 @@ wave = record {
         (below2 (λ d. Counted Answer 1 d) refl refl d k) s h
 
 abbrev short : Histories
-short r = if r == 0 then Start ∷ Fire 0 ∷ Fire 1 ∷ Fire 2 ∷ Fire 3 ∷ Fire 4 ∷ [] else order1
+short r = if r == 0 then Start ∷ Fire 0 ∷ Fire 1 ∷ Fire 2 ∷ Fire 3 ∷ Fire 4 ∷ [] else history_of_rank_1
 
 no_wave : IsWave system short world → ⊥
 unfolding target request answered started fired append call_made cell_started bring

@@ -1,4 +1,9 @@
--- Orders of a barrier of two ranks and of one, step by step.
+-- Histories of a barrier of two ranks and of a barrier of one, step by step: the check computes what each leaves.
+--
+-- Of two ranks: the plan's calls leave the interface that waits for its start; each rank's history receives what the other's sends; after
+-- both all is done and nothing waits; and a rank's last operation is ready only behind the other's message. Of one rank: nothing is ready
+-- before the start, the go cell may be told before it sets off the entry, and a second start is one too many. Then a product of elements
+-- of sixteen bits, and that the barrier of two ranks is one of one round.
 use Rattle.std.specs.Prelude.{ℕ, true, false, ◌≡◌, List, [], ◌∷◌, Some, None, refl, ◌+◌, ◌*◌, ◌^◌, ◌%◌, ◌<◌}
 use Rattle.ptl_types.specs.declared.elements.ElemType.TheVariants.{U8, I16}
 use Rattle.ptl_types.specs.declared.elements.AtomicOp.TheVariants.{Prod}
@@ -33,146 +38,161 @@ use Rattle.cuts.specs.view.Calls.{call_made, prepare}
 use Rattle.cuts.specs.histories.Plans.{start_of}
 use Rattle.ni_model.specs.Append.{append}
 
-abbrev pub on : ℕ → ℕ → Cell
-on r k = record { rank = r; ty = U8; op = None; length = 0; needs = k }
+-- a cell without bytes on a rank, which waits for so many arrivals
+abbrev pub empty_on : ℕ → ℕ → Cell
+empty_on rank needs = record { rank = rank; ty = U8; op = None; length = 0; needs = needs }
 
+-- a message without bytes from a cell to one of another rank
 abbrev pub sync_link : ℕ → ℕ → Link
-sync_link a b = record { source = a; source_offset = 0; length = 0; target = b; target_offset = 0; kind = Put }
+sync_link from to = record { source = from; source_offset = 0; length = 0; target = to; target_offset = 0; kind = Put }
 
--- ---- two ranks: go cells, entries, and one round
-abbrev pub two : Plan
-two = record {
+-- ---- the barrier of two ranks: of each rank the go cell, then the entry, then the cell of the one round, which waits for the rank's own
+-- entry and for the other's message
+abbrev pub two_ranks : Plan
+two_ranks = record {
   ranks = 2;
   remote = false;
-  cells = on 0 1 ∷ on 1 1 ∷ on 0 1 ∷ on 1 1 ∷ on 0 2 ∷ on 1 2 ∷ [];
+  cells = empty_on 0 1 ∷ empty_on 1 1 ∷ empty_on 0 1 ∷ empty_on 1 1 ∷ empty_on 0 2 ∷ empty_on 1 2 ∷ [];
   links =
       bump_link 0 2 ∷ bump_link 1 3 ∷ bump_link 2 4 ∷ sync_link 3 4 ∷ bump_link 3 5 ∷ sync_link 2 5 ∷ [];
 }
 
-abbrev begin : ℕ → State
-begin r = prepare two [] slots r
+-- rank r's interface after the plan's calls, and what its start does
+abbrev prepared : ℕ → State
+prepared r = prepare two_ranks [] slots r
 
-abbrev go : ℕ → Beginning
-go r = start_of two slots r
+abbrev beginning : ℕ → Beginning
+beginning r = start_of two_ranks slots r
 
-closed_form : prepare two [] slots 1 ≡ waiting_view two [] slots 1 (λ n. slots) [] nothing_seen
+calls_leave_the_waiting_view : prepared 1 ≡ waiting_view two_ranks [] slots 1 (λ n. slots) [] nothing_seen
 unfolding append call_made
-closed_form = refl
+calls_leave_the_waiting_view = refl
 
 -- the links of a rank are numbered first, and then its cells
-numbers_of_rank_0 : rank_ops two 0 ≡ ForLink 0 ∷ ForLink 2 ∷ ForLink 5 ∷ ForDone 0 ∷ ForDone 2 ∷ ForDone 4 ∷ []
+numbers_of_rank_0 : rank_ops two_ranks 0 ≡ ForLink 0 ∷ ForLink 2 ∷ ForLink 5 ∷ ForDone 0 ∷ ForDone 2 ∷ ForDone 4 ∷ []
 numbers_of_rank_0 = refl
 
-abbrev pub sync : ℕ → Sent
-sync l = link_message two slots l []
+-- the message that goes along a link
+abbrev pub sync_message : ℕ → Sent
+sync_message l = link_message two_ranks slots l []
 
-abbrev front : List Local
-front = Start ∷ Fire 0 ∷ Fire 1 ∷ Fire 2 ∷ Fire 3 ∷ Fire 4 ∷ []
+-- what a rank can do without the other's message, then with it, then all
+abbrev before_the_message : List Local
+before_the_message = Start ∷ Fire 0 ∷ Fire 1 ∷ Fire 2 ∷ Fire 3 ∷ Fire 4 ∷ []
 
-abbrev pub order0 : List Local
-order0 = Start ∷ Fire 0 ∷ Fire 1 ∷ Fire 2 ∷ Fire 3 ∷ Fire 4 ∷ Receive 1 Request (sync 3) ∷ Fire 5 ∷ []
+abbrev behind_the_message : List Local
+behind_the_message = Start ∷ Fire 0 ∷ Fire 1 ∷ Fire 2 ∷ Fire 3 ∷ Fire 4 ∷ Receive 1 Request (sync_message 3) ∷ []
 
-abbrev pub order1 : List Local
-order1 = Start ∷ Fire 0 ∷ Fire 1 ∷ Fire 2 ∷ Fire 3 ∷ Fire 4 ∷ Receive 0 Request (sync 5) ∷ Fire 5 ∷ []
+abbrev pub history_of_rank_0 : List Local
+history_of_rank_0 = Start ∷ Fire 0 ∷ Fire 1 ∷ Fire 2 ∷ Fire 3 ∷ Fire 4 ∷ Receive 1 Request (sync_message 3) ∷ Fire 5 ∷ []
 
--- both orders hold: what each received is what the other sent, and at the end all is done
-one_sends : sent (go 0) (begin 0) order0 1 Request ≡ got order1 0 Request
+abbrev pub history_of_rank_1 : List Local
+history_of_rank_1 = Start ∷ Fire 0 ∷ Fire 1 ∷ Fire 2 ∷ Fire 3 ∷ Fire 4 ∷ Receive 0 Request (sync_message 5) ∷ Fire 5 ∷ []
+
+-- each history receives what the other sends
+rank_1_receives_what_rank_0_sends :
+    sent (beginning 0) (prepared 0) history_of_rank_0 1 Request ≡ got history_of_rank_1 0 Request
 unfolding target request answered started fired call_made append cell_started bring
-one_sends = refl
+rank_1_receives_what_rank_0_sends = refl
 
-other_sends : sent (go 1) (begin 1) order1 0 Request ≡ got order0 1 Request
+rank_0_receives_what_rank_1_sends :
+    sent (beginning 1) (prepared 1) history_of_rank_1 0 Request ≡ got history_of_rank_0 1 Request
 unfolding target request answered started fired call_made append cell_started bring
-other_sends = refl
+rank_0_receives_what_rank_1_sends = refl
 
-all_done : lookup (done_ct slots) (state (go 0) (begin 0) order0).cts.live ≡ Some (successes 3)
+-- at the end all is done
+done_counter_full : lookup (done_ct slots) (state (beginning 0) (prepared 0) history_of_rank_0).cts.live ≡ Some (successes 3)
 unfolding target request answered started fired call_made append cell_started bring
-all_done = refl
+done_counter_full = refl
 
-none_pending : (state (go 0) (begin 0) order0).pending.waiting ≡ []
+none_waits_on_rank_0 : (state (beginning 0) (prepared 0) history_of_rank_0).pending.waiting ≡ []
 unfolding target request answered started fired call_made append cell_started bring
-none_pending = refl
+none_waits_on_rank_0 = refl
 
-none_pending_there : (state (go 1) (begin 1) order1).pending.waiting ≡ []
+none_waits_on_rank_1 : (state (beginning 1) (prepared 1) history_of_rank_1).pending.waiting ≡ []
 unfolding target request answered started fired call_made append cell_started bring
-none_pending_there = refl
+none_waits_on_rank_1 = refl
 
 -- before the other rank's message the last operation isn't ready, after it it is
-not_before_the_message : is_ready (state (go 0) (begin 0) front) 5 ≡ false
+not_ready_before_the_message : is_ready (state (beginning 0) (prepared 0) before_the_message) 5 ≡ false
 unfolding target request answered started fired call_made append cell_started bring
-not_before_the_message = refl
+not_ready_before_the_message = refl
 
-behind_the_message : is_ready (state (go 0) (begin 0) (Start ∷ Fire 0 ∷ Fire 1 ∷ Fire 2 ∷ Fire 3 ∷ Fire 4 ∷ Receive 1 Request (sync 3)
-    ∷ [])) 5 ≡ true
+ready_behind_the_message : is_ready (state (beginning 0) (prepared 0) behind_the_message) 5 ≡ true
 unfolding target request answered started fired call_made append cell_started bring
-behind_the_message = refl
+ready_behind_the_message = refl
 
--- ---- one rank: the go cell and the entry
-abbrev pub one : Plan
-one = record { ranks = 1; remote = false; cells = on 0 1 ∷ on 0 1 ∷ []; links = bump_link 0 1 ∷ [] }
+-- ---- the barrier of one rank: the go cell and the entry. Operation 0 goes from the one to the other, and 1 and 2 tell them
+abbrev pub one_rank : Plan
+one_rank = record { ranks = 1; remote = false; cells = empty_on 0 1 ∷ empty_on 0 1 ∷ []; links = bump_link 0 1 ∷ [] }
 
-abbrev begin1 : State
-begin1 = prepare one [] slots 0
+abbrev prepared_alone : State
+prepared_alone = prepare one_rank [] slots 0
 
-abbrev go1 : Beginning
-go1 = start_of one slots 0
+abbrev beginning_alone : Beginning
+beginning_alone = start_of one_rank slots 0
 
--- nothing is ready before the start
-nothing_before : is_ready begin1 0 ≡ false
+not_ready_before_the_start : is_ready prepared_alone 0 ≡ false
 unfolding append call_made
-nothing_before = refl
+not_ready_before_the_start = refl
 
--- one is still ready, so this is no rest
-one_is_left : is_ready (state go1 begin1 (Start ∷ Fire 0 ∷ Fire 1 ∷ [])) 2 ≡ true
+-- the entry is still to be told, so this is no rest
+entry_still_ready : is_ready (state beginning_alone prepared_alone (Start ∷ Fire 0 ∷ Fire 1 ∷ [])) 2 ≡ true
 unfolding target request answered started fired call_made append cell_started bring
-one_is_left = refl
+entry_still_ready = refl
 
--- the telling of the go cell may come first
-telling_first : is_ready (state go1 begin1 (Start ∷ [])) 1 ≡ true
+-- the go cell may be told first
+go_cell_ready_first : is_ready (state beginning_alone prepared_alone (Start ∷ [])) 1 ≡ true
 unfolding append call_made cell_started bring
-telling_first = refl
+go_cell_ready_first = refl
 
-then_nothing : (state go1 begin1 (Start ∷ Fire 1 ∷ Fire 0 ∷ Fire 2 ∷ [])).pending.waiting ≡ []
+none_waits_after_it : (state beginning_alone prepared_alone (Start ∷ Fire 1 ∷ Fire 0 ∷ Fire 2 ∷ [])).pending.waiting ≡ []
 unfolding target request answered started fired call_made append cell_started bring
-then_nothing = refl
+none_waits_after_it = refl
 
 -- nothing is sent, so nothing can be received
-nothing_sent : sent go1 begin1 (Start ∷ Fire 0 ∷ Fire 1 ∷ Fire 2 ∷ []) 0 Request ≡ []
+sends_nothing : sent beginning_alone prepared_alone (Start ∷ Fire 0 ∷ Fire 1 ∷ Fire 2 ∷ []) 0 Request ≡ []
 unfolding target request answered started fired call_made append cell_started bring
-nothing_sent = refl
+sends_nothing = refl
 
--- a second start is one too many
-no_second_start : Legal go1 false begin1 (Start ∷ Start ∷ []) → ⊥
-no_second_start l = let q : true ≡ false = l.1.0 in cc
+-- the second start may not be made
+no_second_start : Legal beginning_alone false prepared_alone (Start ∷ Start ∷ []) → ⊥
+no_second_start legal =
+    let not_started_yet : true ≡ false = legal.1.0 in
+    cc
 
 -- ---- a product of two elements of sixteen bits wraps: 300 times 300 is 24464
 product : combined Prod I16 (combined Prod I16 (starting Prod I16 2) (44 ∷ 1 ∷ [])) (44 ∷ 1 ∷ []) ≡ 144 ∷ 95 ∷ []
 product = refl
 
 -- ---- the barrier of two ranks is one of one round
-abbrev round : ℕ → ℕ → ℕ
-round k r = 2 + 2 * k + r
+-- rank r's cell before any round is its entry, and after round k the cell of that round
+abbrev cell_after : ℕ → ℕ → ℕ
+cell_after k r = 2 + 2 * k + r
 
-comes_by : (l b c : ℕ) → In l (in_links two c) → (link two l).source ≡ b → Comes two b c
-comes_by l b c i e = record { l = l; into = i; from = e }
+comes_along : (l from to : ℕ) → In l (in_links two_ranks to) → (link two_ranks l).source ≡ from → Comes two_ranks from to
+comes_along l from to leads_to starts_at = record { l = l; into = leads_to; from = starts_at }
 
-one_round : IsRounds two 2 1 round
+one_round : IsRounds two_ranks 2 1 cell_after
 one_round = record {
-  stays = λ k r h i. stay k r h i;
-  comes = λ k m r h i j e. come k m r h i j e;
+  stays = λ k r is_round is_rank. own_cell k r is_round is_rank;
+  comes = λ k m r is_round is_sender is_rank ahead. other_cell k m r is_round is_sender is_rank ahead;
   enough = lit≤ tt;
 }
   where
-    stay : (k r : ℕ) → k < 1 → r < 2 → Comes two (round k r) (round (suc k) r)
-    stay zero zero h i = comes_by 2 2 4 (inl refl) refl
-    stay zero (suc zero) h i = comes_by 4 3 5 (inl refl) refl
-    stay zero (suc (suc r)) h i = absurd (omega arith)
-    stay (suc k) r h i = absurd (omega arith)
+    -- links 2 and 4 go from a rank's entry to its cell of the round
+    own_cell : (k r : ℕ) → k < 1 → r < 2 → Comes two_ranks (cell_after k r) (cell_after (suc k) r)
+    own_cell zero zero is_round is_rank = comes_along 2 2 4 (inl refl) refl
+    own_cell zero (suc zero) is_round is_rank = comes_along 4 3 5 (inl refl) refl
+    own_cell zero (suc (suc r)) is_round is_rank = absurd (omega arith)
+    own_cell (suc k) r is_round is_rank = absurd (omega arith)
 
-    come : (k m r : ℕ) → k < 1 → m < 2 → r < 2 → (m + 2 ^ k) % 2 ≡ r → Comes two (round k m) (round (suc k) r)
-    come zero zero zero h i j e = cc
-    come zero zero (suc zero) h i j e = comes_by 5 2 5 (inr (inl refl)) refl
-    come zero (suc zero) zero h i j e = comes_by 3 3 4 (inr (inl refl)) refl
-    come zero (suc zero) (suc zero) h i j e = cc
-    come zero m (suc (suc r)) h i j e = absurd (omega arith)
-    come zero (suc (suc m)) r h i j e = absurd (omega arith)
-    come (suc k) m r h i j e = absurd (omega arith)
+    -- links 5 and 3 go from the entry of rank m to the cell of the rank ahead of it
+    other_cell : (k m r : ℕ) → k < 1 → m < 2 → r < 2 → (m + 2 ^ k) % 2 ≡ r → Comes two_ranks (cell_after k m) (cell_after (suc k) r)
+    other_cell zero zero zero is_round is_sender is_rank ahead = cc
+    other_cell zero zero (suc zero) is_round is_sender is_rank ahead = comes_along 5 2 5 (inr (inl refl)) refl
+    other_cell zero (suc zero) zero is_round is_sender is_rank ahead = comes_along 3 3 4 (inr (inl refl)) refl
+    other_cell zero (suc zero) (suc zero) is_round is_sender is_rank ahead = cc
+    other_cell zero m (suc (suc r)) is_round is_sender is_rank ahead = absurd (omega arith)
+    other_cell zero (suc (suc m)) r is_round is_sender is_rank ahead = absurd (omega arith)
+    other_cell (suc k) m r is_round is_sender is_rank ahead = absurd (omega arith)

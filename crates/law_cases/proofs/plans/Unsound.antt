@@ -7,14 +7,16 @@ use Rattle.plan_core.specs.declared.LinkKind.TheVariants.{Atomic, Put}
 use Rattle.plan_core.specs.Plan.{Plan}
 use Rattle.plan_core.specs.Sound.{SoundPlan}
 use Rattle.law_cases.proofs.plans.Broadcast.{bump_link, plain, put_link, plan}
-use Rattle.law_cases.proofs.plans.Orders.{on, sync_link}
+use Rattle.law_cases.proofs.plans.Orders.{empty_on, sync_link}
 
 -- ---- a barrier of three ranks with one cell for both rounds: the second round's links go from that cell to itself
 abbrev one_for_all : Plan
 one_for_all = record {
   ranks = 3;
   remote = false;
-  cells = on 0 1 ∷ on 1 1 ∷ on 2 1 ∷ on 0 1 ∷ on 1 1 ∷ on 2 1 ∷ on 0 4 ∷ on 1 4 ∷ on 2 4 ∷ [];
+  cells = empty_on 0 1 ∷ empty_on 1 1 ∷ empty_on 2 1
+      ∷ empty_on 0 1 ∷ empty_on 1 1 ∷ empty_on 2 1
+      ∷ empty_on 0 4 ∷ empty_on 1 4 ∷ empty_on 2 4 ∷ [];
   links = bump_link 0 3 ∷ bump_link 1 4 ∷ bump_link 2 5
       ∷ bump_link 3 6 ∷ sync_link 5 6 ∷ bump_link 6 6 ∷ sync_link 7 6
       ∷ bump_link 4 7 ∷ sync_link 3 7 ∷ bump_link 7 7 ∷ sync_link 8 7
