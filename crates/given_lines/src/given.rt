@@ -1,0 +1,114 @@
+//! What the text of a given plan says.
+
+ghost use Rattle.std.specs.Prelude.{◌≡◌};
+
+use plan_core::{Cell, Link};
+use ptl_types::Rank;
+use std::marker::Model;
+
+/// What the first line says beside the number of ranks.
+#[derive(Clone, Copy, Debug)]
+pub struct Counts {
+    /// How many cells follow.
+    pub cells: u32,
+    /// How many links follow.
+    pub links: u32,
+    /// Whether completion also waits for every acknowledgement.
+    pub remote: bool,
+}
+
+/// A cell that a line names after the plan itself.
+#[derive(Clone, Copy, Debug, PartialEq, Eq)]
+pub enum Mark {
+    /// The cell that holds a printed buffer's list at a rank in the end.
+    Result {
+        /// The number of the buffer.
+        buffer: u32,
+        /// The rank.
+        rank: Rank,
+        /// The number of the cell.
+        cell: u32,
+    },
+    /// The cell at which a rank enters a barrier.
+    Enter {
+        /// The number of the step.
+        step: u32,
+        /// The rank.
+        rank: Rank,
+        /// The number of the cell.
+        cell: u32,
+    },
+    /// The cell at which a rank has left it.
+    Leave {
+        /// The number of the step.
+        step: u32,
+        /// The rank.
+        rank: Rank,
+        /// The number of the cell.
+        cell: u32,
+    },
+}
+
+/// A plan, with what stands in its text after it.
+#[derive(Debug, Drop)]
+pub struct GivenPlan {
+    pub(crate) ranks: u32,
+    pub(crate) remote: bool,
+    pub(crate) cells: Vec<Cell>,
+    pub(crate) links: Vec<Link>,
+    pub(crate) done: Vec<u64>,
+    pub(crate) marks: Vec<Mark>,
+}
+
+impl Model for GivenPlan {
+    ghost use Rattle.plan_core.specs.Plan.{Plan};
+    ghost use Rattle.given_lines.specs.Given.{Given, given};
+
+    ghost Value = { Given };
+
+    ghost view = { λ g. given g.ranks g.remote g.cells.items g.links.items g.done.items g.marks.items };
+}
+
+impl GivenPlan {
+    /// How many ranks there are.
+    pub fn ranks(&self) -> u32
+        ensures { result ≡ self.now.plan.ranks }
+    {
+        self.ranks
+    }
+
+    /// Whether completion also waits for every acknowledgement.
+    pub fn remote(&self) -> bool
+        ensures { result ≡ self.now.plan.remote }
+    {
+        self.remote
+    }
+
+    /// The cells by their numbers.
+    pub fn cells(&self) -> &[Cell]
+        ensures { result.now ≡ self.now.plan.cells }
+    {
+        self.cells.as_slice()
+    }
+
+    /// The links by their numbers.
+    pub fn links(&self) -> &[Link]
+        ensures { result.now ≡ self.now.plan.links }
+    {
+        self.links.as_slice()
+    }
+
+    /// Where each rank's done counter is said to stand when it is done, by rank.
+    pub fn done(&self) -> &[u64]
+        ensures { result.now ≡ self.now.done }
+    {
+        self.done.as_slice()
+    }
+
+    /// The cells of the results and barriers, in the order of their lines.
+    pub fn marks(&self) -> &[Mark]
+        ensures { result.now ≡ self.now.marks }
+    {
+        self.marks.as_slice()
+    }
+}

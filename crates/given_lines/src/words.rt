@@ -1,0 +1,132 @@
+//! The words of a line of a given plan.
+
+ghost use Rattle.std.specs.Prelude.{◌≡◌};
+ghost use Rattle.coll_lang.specs.Forms.{op_of, type_of};
+ghost use Rattle.given_lines.specs.Words.{cell_op_of, headed, kind_of, long_of, remote_of, short_of};
+
+use coll_text::{Number, Words, is, number_at, number_between};
+use plan_core::LinkKind;
+use ptl_types::{AtomicOp, ElemType};
+
+/// A number below 2^64.
+pub(crate) fn long_of(word: &[u8]) -> Option<u64>
+    ensures { result ≡ long_of word.now }
+{
+    match number_at(word) {
+        Number::Small(n) => Some(n),
+        _ => None,
+    }
+}
+
+/// A number below 2^32.
+pub(crate) fn short_of(word: &[u8]) -> Option<u32>
+    ensures { result ≡ short_of word.now }
+{
+    number_between(0, u32::MAX, word)
+}
+
+/// The type that the word names.
+pub(crate) fn type_of(word: &[u8]) -> Option<ElemType>
+    ensures { result ≡ type_of word.now }
+{
+    if is(word, b"u8") {
+        Some(ElemType::U8)
+    } else if is(word, b"i8") {
+        Some(ElemType::I8)
+    } else if is(word, b"u16") {
+        Some(ElemType::U16)
+    } else if is(word, b"i16") {
+        Some(ElemType::I16)
+    } else if is(word, b"u32") {
+        Some(ElemType::U32)
+    } else if is(word, b"i32") {
+        Some(ElemType::I32)
+    } else if is(word, b"u64") {
+        Some(ElemType::U64)
+    } else if is(word, b"i64") {
+        Some(ElemType::I64)
+    } else {
+        None
+    }
+}
+
+/// The operation that the word names.
+fn op_of(word: &[u8]) -> Option<AtomicOp>
+    ensures { result ≡ op_of word.now }
+{
+    if is(word, b"min") {
+        Some(AtomicOp::Min)
+    } else if is(word, b"max") {
+        Some(AtomicOp::Max)
+    } else if is(word, b"sum") {
+        Some(AtomicOp::Sum)
+    } else if is(word, b"prod") {
+        Some(AtomicOp::Prod)
+    } else if is(word, b"lor") {
+        Some(AtomicOp::Lor)
+    } else if is(word, b"land") {
+        Some(AtomicOp::Land)
+    } else if is(word, b"bor") {
+        Some(AtomicOp::Bor)
+    } else if is(word, b"band") {
+        Some(AtomicOp::Band)
+    } else if is(word, b"lxor") {
+        Some(AtomicOp::Lxor)
+    } else if is(word, b"bxor") {
+        Some(AtomicOp::Bxor)
+    } else {
+        None
+    }
+}
+
+/// A cell's operation; `-` stands for none.
+pub(crate) fn cell_op_of(word: &[u8]) -> Option<Option<AtomicOp>>
+    ensures { result ≡ cell_op_of word.now }
+{
+    if is(word, b"-") {
+        return Some(None);
+    }
+    let op = op_of(word)?;
+    Some(Some(op))
+}
+
+/// The kind of link that the word names.
+pub(crate) fn kind_of(word: &[u8]) -> Option<LinkKind>
+    ensures { result ≡ kind_of word.now }
+{
+    if is(word, b"put") {
+        Some(LinkKind::Put)
+    } else if is(word, b"atomic") {
+        Some(LinkKind::Atomic)
+    } else if is(word, b"bump") {
+        Some(LinkKind::Bump)
+    } else {
+        None
+    }
+}
+
+/// Whether the word is `remote`; `local` is the other one.
+pub(crate) fn remote_of(word: &[u8]) -> Option<bool>
+    ensures { result ≡ remote_of word.now }
+{
+    if is(word, b"remote") {
+        Some(true)
+    } else if is(word, b"local") {
+        Some(false)
+    } else {
+        None
+    }
+}
+
+/// The words after the first two of a line, where these are its name and its number.
+#[tactic(auto, unfolding(crate::specs::Words::headed))]
+pub(crate) fn headed<'a>(name: &[u8], n: u32, mut words: Words<'a>) -> Option<Words<'a>>
+    ensures { result ≡ headed name.now n words.entry }
+{
+    let (key, number) = (words.next()?, words.next()?);
+    if is(key, name) && number_between(n, n, number).is_some() {
+        Some(words)
+    } else {
+        None
+    }
+}
