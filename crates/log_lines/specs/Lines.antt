@@ -1,15 +1,14 @@
 -- A line: which flaw is told first, and what it says where it has none.
 use Rattle.std.specs.Prelude.{ℕ, ◌+◌, ◌-◌, ◌^◌, ◌&&◌, ◌==◌, nat_le, nat_lt, List, [], ◌∷◌, length, Option, Some, None, Result, Ok, Err}
-use Rattle.std.specs.Prelude.{Bool, false, not}
-use Rattle.std.specs.Prelude.{if◌then◌else◌, codes}
+use Rattle.std.specs.Prelude.{Bool, false, not, if◌then◌else◌, codes}
 use Rattle.std.specs.List.{position}
 use Rattle.std.specs.Str.{bytes_eq}
 use Rattle.coll_text.specs.Text.{is_empty}
-use Rattle.log_lines.specs.Words.{Word, Rest, all_words, amount_within}
-use Rattle.log_lines.specs.Reading.{◌>>=◌, flaw_at, name_next, next, or_flaw, said_next}
+use Rattle.log_words.specs.Words.{Word, Rest, all_words, amount_within}
+use Rattle.log_words.specs.Reading.{◌>>=◌, flaw_at, name_next, next, or_flaw, said_next}
 use Rattle.log_lines.specs.Calls.{call_next}
-use Rattle.log_lines.specs.declared.faults.Flaw.TheVariants.{BadByte, BadLine, BadSpace, TooLong}
-use Rattle.log_lines.specs.declared.faults.LineFault.{LineFault}
+use Rattle.log_words.specs.declared.faults.Flaw.TheVariants.{BadByte, BadLine, BadSpace, TooLong}
+use Rattle.log_words.specs.declared.faults.LineFault.{LineFault}
 use Rattle.log_lines.specs.declared.lines.Line.{Line}
 use Rattle.log_lines.specs.declared.lines.Line.TheVariants.{Note, Tells, Loses, Settles, Calls}
 use Rattle.log_lines.specs.declared.lines.TheConstants.{LONGEST_LINE}
@@ -63,9 +62,12 @@ called w r = do
   Ok (Calls rank call.value said)
 
 -- `message W ..`: the words after W are compared, and none of them read
+unfoldable pub tells : Rest → Result Line LineFault
+tells r = name_next r >>= (λ m. Ok (Tells m.value m.left))
+
 unfoldable pub line_of : Word → Rest → Result Line LineFault
 line_of w r =
-    if bytes_eq w.text (codes "message") then (name_next r >>= (λ m. Ok (Tells m.value m.left)))
+    if bytes_eq w.text (codes "message") then tells r
     else if bytes_eq w.text (codes "lose") then loses r
     else if bytes_eq w.text (codes "settle") then alone Settles r
     else called w r

@@ -1,84 +1,8 @@
 //! The calls, as a log says them: handles by the device's own words.
 
-use crate::words::Word;
-use ptl_types::{Count, Descriptor, Entry, Handle, Limits, List, PutArgs, Rank, TriggeredOp};
-
-/// A handle that no thing ever has: a table gives no such stamp.
-pub const NO_HANDLE: Handle = Handle {
-    slot: 0,
-    stamp: 18_446_744_073_709_551_615,
-};
-
-/// What an interface is opened with.
-#[derive(Drop)]
-pub struct Opening<'a> {
-    /// The limits; one that isn't named is 0.
-    pub limits: Limits,
-    /// The bytes of the region in hexadecimal, where it is named.
-    pub region: Option<Word<'a>>,
-}
-
-/// A match entry.
-#[derive(Drop)]
-pub struct EntrySaid<'a> {
-    /// All of it but the counting event.
-    pub entry: Entry,
-    /// The word of the counting event, where one is named.
-    pub ct: Option<Word<'a>>,
-}
-
-/// A memory descriptor.
-#[derive(Drop)]
-pub struct MdSaid<'a> {
-    /// All of it but what it names.
-    pub md: Descriptor,
-    /// The word of the event queue, where one is named.
-    pub eq: Option<Word<'a>>,
-    /// The word of the counting event, where one is named.
-    pub ct: Option<Word<'a>>,
-}
-
-/// The event queue of an index, as `pt_alloc` names it.
-#[derive(Drop)]
-pub(crate) struct QueueSaid<'a> {
-    /// Its word, where one is named.
-    pub(crate) eq: Option<Word<'a>>,
-}
-
-/// What is started.
-#[derive(Clone, Copy)]
-pub(crate) enum StartName {
-    Put,
-    Get,
-    Atomic,
-    FetchAtomic,
-    Swap,
-}
-
-/// The fields of a start. The handles of `args` stand for nothing yet.
-#[derive(Drop)]
-pub(crate) struct StartSaid<'a> {
-    /// What is started, which says which fields it has.
-    pub(crate) name: StartName,
-    /// The arguments of a put, an atomic, or the sending half of a fetching operation; of a get those that it has.
-    pub(crate) args: PutArgs,
-    /// The word of the descriptor that a fetching operation's reply is written to.
-    pub(crate) back: Option<Word<'a>>,
-    /// Where in it.
-    pub(crate) back_offset: u64,
-    /// What the getting half names otherwise than the sending half.
-    pub(crate) back_length: Option<u64>,
-    /// The same of the target.
-    pub(crate) back_target: Option<Rank>,
-    /// The same of the portal table index.
-    pub(crate) back_pt: Option<u32>,
-    /// The same of the match bits.
-    pub(crate) back_bits: Option<u64>,
-    /// The same of the offset at the target.
-    pub(crate) back_at: Option<u64>,
-    /// The operand of a swap.
-    pub(crate) operand: u64,
-}
+use log_fields::{EntrySaid, MdSaid, Opening};
+use log_words::Word;
+use ptl_types::{Count, List, Rank, TriggeredOp};
 
 /// A deed: an operation, or the count that a triggered operation makes.
 #[derive(Drop)]
@@ -166,4 +90,30 @@ pub enum Call<'a> {
     Drops,
     /// `violations`
     Violations,
+}
+
+/// A call of one name.
+#[derive(Clone, Copy)]
+pub(crate) enum NameCall {
+    CtGet,
+    CtFree,
+    CtCancel,
+    EqGet,
+    EqFree,
+    MdRelease,
+    Awaits,
+    MeUnlink,
+    IsReady,
+    LaneOf,
+    Fire,
+    Deliver,
+}
+
+/// A call of one number below 2^32.
+#[derive(Clone, Copy)]
+pub(crate) enum NumberCall {
+    EqAlloc,
+    PtFree,
+    ReadyAt,
+    ReadyCountTo,
 }

@@ -1,19 +1,19 @@
 //! Starts and deeds, behind their words.
 
 ghost use Rattle.std.specs.Prelude.{◌≡◌};
-ghost use Rattle.log_lines.specs.Reading.{yielded};
-ghost use Rattle.log_lines.specs.Calls.{atomic_next, back_of, count_next, counting_deed, deed_next, fetch_atomic_next, get_next, get_of};
-ghost use Rattle.log_lines.specs.Calls.{put_next, start_fields, start_next, swapping_next};
+ghost use Rattle.log_words.specs.Reading.{yielded};
+ghost use Rattle.log_lines.specs.Calls.{atomic_next, back_of, count_next, counted_next, counting_deed, deed_next, deed_of};
+ghost use Rattle.log_lines.specs.Calls.{elements_next, fetch_atomic_next, get_next, get_of, put_next, start_fields, start_next};
+ghost use Rattle.log_lines.specs.Calls.{started_next, swapping_next};
 ghost use Rattle.ptl_types.specs.declared.calls.TriggeredOp.TheVariants as deeds;
 
-use crate::calls::{NO_HANDLE, StartName, StartSaid, TriggeredOpSaid};
-use crate::faults::{Flaw, LineFault, at};
-use crate::fields::fields_of;
-use crate::plain::plain_start;
-use crate::single::{op_in, start_named, swap_in, type_in};
-use crate::words::Rest;
+use crate::calls::TriggeredOpSaid;
 use coll_text::is;
-use ptl_types::{Count, GetArgs, TriggeredOp};
+use log_fields::{
+    NO_HANDLE, StartName, StartSaid, op_in, plain_start, start_named, swap_in, type_in,
+};
+use log_words::{Flaw, LineFault, Rest, Word, at, fields_of};
+use ptl_types::{AtomicOp, Count, ElemType, GetArgs, TriggeredOp};
 
 /// The arguments of a get.
 fn get_args(said: &StartSaid) -> GetArgs
@@ -54,18 +54,55 @@ fn fields_in<'a>(name: StartName, words: &mut Rest<'a>) -> Result<StartSaid<'a>,
     fields_of(plain_start(name), words)
 }
 
+/// A descriptor and the fields of a start.
+#[tactic(auto, unfolding(crate::specs::Calls::started_next))]
+fn started_in<'a>(
+    name: StartName,
+    words: &mut Rest<'a>,
+) -> Result<(Word<'a>, StartSaid<'a>), LineFault>
+    ensures { yielded result words.new ≡ started_next name words.old }
+{
+    let on = match words.name() {
+        Ok(on) => on,
+        Err(fault) => return Err(fault),
+    };
+    match fields_in(name, words) {
+        Ok(said) => Ok((on, said)),
+        Err(fault) => Err(fault),
+    }
+}
+
+/// An operation and the type of its elements.
+#[tactic(auto, unfolding(crate::specs::Calls::elements_next))]
+fn elements_in(words: &mut Rest) -> Result<(AtomicOp, ElemType), LineFault>
+    ensures { yielded result words.new ≡ elements_next words.old }
+{
+    let op = match op_in(words) {
+        Ok(op) => op,
+        Err(fault) => return Err(fault),
+    };
+    match type_in(words) {
+        Ok(ty) => Ok((op, ty)),
+        Err(fault) => Err(fault),
+    }
+}
+
 /// A put.
 #[tactic(auto, unfolding(crate::specs::Calls::put_next))]
 fn put_in<'a>(words: &mut Rest<'a>) -> Result<TriggeredOpSaid<'a>, LineFault>
     ensures { yielded result words.new ≡ put_next words.old }
 {
-    let on = words.name()?;
-    let said = fields_in(StartName::Put, words)?;
-    Ok(TriggeredOpSaid {
-        deed: TriggeredOp::Put(said.args),
-        on,
-        back: None,
-    })
+    match started_in(StartName::Put, words) {
+        Ok(started) => {
+            let (on, said) = started;
+            Ok(TriggeredOpSaid {
+                deed: TriggeredOp::Put(said.args),
+                on,
+                back: None,
+            })
+        }
+        Err(fault) => Err(fault),
+    }
 }
 
 /// A get.
@@ -73,13 +110,17 @@ fn put_in<'a>(words: &mut Rest<'a>) -> Result<TriggeredOpSaid<'a>, LineFault>
 fn get_in<'a>(words: &mut Rest<'a>) -> Result<TriggeredOpSaid<'a>, LineFault>
     ensures { yielded result words.new ≡ get_next words.old }
 {
-    let on = words.name()?;
-    let said = fields_in(StartName::Get, words)?;
-    Ok(TriggeredOpSaid {
-        deed: TriggeredOp::Get(get_args(&said)),
-        on,
-        back: None,
-    })
+    match started_in(StartName::Get, words) {
+        Ok(started) => {
+            let (on, said) = started;
+            Ok(TriggeredOpSaid {
+                deed: TriggeredOp::Get(get_args(&said)),
+                on,
+                back: None,
+            })
+        }
+        Err(fault) => Err(fault),
+    }
 }
 
 /// An atomic.
@@ -87,15 +128,21 @@ fn get_in<'a>(words: &mut Rest<'a>) -> Result<TriggeredOpSaid<'a>, LineFault>
 fn atomic_in<'a>(words: &mut Rest<'a>) -> Result<TriggeredOpSaid<'a>, LineFault>
     ensures { yielded result words.new ≡ atomic_next words.old }
 {
-    let op = op_in(words)?;
-    let ty = type_in(words)?;
-    let on = words.name()?;
-    let said = fields_in(StartName::Atomic, words)?;
-    Ok(TriggeredOpSaid {
-        deed: TriggeredOp::Atomic(said.args, op, ty),
-        on,
-        back: None,
-    })
+    let (op, ty) = match elements_in(words) {
+        Ok(elements) => elements,
+        Err(fault) => return Err(fault),
+    };
+    match started_in(StartName::Atomic, words) {
+        Ok(started) => {
+            let (on, said) = started;
+            Ok(TriggeredOpSaid {
+                deed: TriggeredOp::Atomic(said.args, op, ty),
+                on,
+                back: None,
+            })
+        }
+        Err(fault) => Err(fault),
+    }
 }
 
 /// A fetching atomic.
@@ -103,15 +150,21 @@ fn atomic_in<'a>(words: &mut Rest<'a>) -> Result<TriggeredOpSaid<'a>, LineFault>
 fn fetch_atomic_in<'a>(words: &mut Rest<'a>) -> Result<TriggeredOpSaid<'a>, LineFault>
     ensures { yielded result words.new ≡ fetch_atomic_next words.old }
 {
-    let op = op_in(words)?;
-    let ty = type_in(words)?;
-    let on = words.name()?;
-    let said = fields_in(StartName::FetchAtomic, words)?;
-    Ok(TriggeredOpSaid {
-        deed: TriggeredOp::FetchAtomic(back_args(&said), said.args, op, ty),
-        on,
-        back: said.back,
-    })
+    let (op, ty) = match elements_in(words) {
+        Ok(elements) => elements,
+        Err(fault) => return Err(fault),
+    };
+    match started_in(StartName::FetchAtomic, words) {
+        Ok(started) => {
+            let (on, said) = started;
+            Ok(TriggeredOpSaid {
+                deed: TriggeredOp::FetchAtomic(back_args(&said), said.args, op, ty),
+                on,
+                back: said.back,
+            })
+        }
+        Err(fault) => Err(fault),
+    }
 }
 
 /// A swap.
@@ -119,15 +172,25 @@ fn fetch_atomic_in<'a>(words: &mut Rest<'a>) -> Result<TriggeredOpSaid<'a>, Line
 fn swapping_in<'a>(words: &mut Rest<'a>) -> Result<TriggeredOpSaid<'a>, LineFault>
     ensures { yielded result words.new ≡ swapping_next words.old }
 {
-    let op = swap_in(words)?;
-    let ty = type_in(words)?;
-    let on = words.name()?;
-    let said = fields_in(StartName::Swap, words)?;
-    Ok(TriggeredOpSaid {
-        deed: TriggeredOp::Swap(back_args(&said), said.args, op, ty, said.operand),
-        on,
-        back: said.back,
-    })
+    let op = match swap_in(words) {
+        Ok(op) => op,
+        Err(fault) => return Err(fault),
+    };
+    let ty = match type_in(words) {
+        Ok(ty) => ty,
+        Err(fault) => return Err(fault),
+    };
+    match started_in(StartName::Swap, words) {
+        Ok(started) => {
+            let (on, said) = started;
+            Ok(TriggeredOpSaid {
+                deed: TriggeredOp::Swap(back_args(&said), said.args, op, ty, said.operand),
+                on,
+                back: said.back,
+            })
+        }
+        Err(fault) => Err(fault),
+    }
 }
 
 /// What is started.
@@ -149,12 +212,32 @@ pub(crate) fn start_in<'a>(
 
 /// The two numbers of a counting event.
 #[tactic(auto, unfolding(crate::specs::Calls::count_next))]
-pub(crate) fn count_in(words: &mut Rest) -> Result<Count, LineFault>
+fn count_in(words: &mut Rest) -> Result<Count, LineFault>
     ensures { yielded result words.new ≡ count_next words.old }
 {
-    let success = words.amount()?;
-    let failure = words.amount()?;
-    Ok(Count { success, failure })
+    let success = match words.amount() {
+        Ok(n) => n,
+        Err(fault) => return Err(fault),
+    };
+    match words.amount() {
+        Ok(failure) => Ok(Count { success, failure }),
+        Err(fault) => Err(fault),
+    }
+}
+
+/// A counting event and two such numbers.
+#[tactic(auto, unfolding(crate::specs::Calls::counted_next))]
+pub(crate) fn counted_in<'a>(words: &mut Rest<'a>) -> Result<(Word<'a>, Count), LineFault>
+    ensures { yielded result words.new ≡ counted_next words.old }
+{
+    let ct = match words.name() {
+        Ok(ct) => ct,
+        Err(fault) => return Err(fault),
+    };
+    match count_in(words) {
+        Ok(count) => Ok((ct, count)),
+        Err(fault) => Err(fault),
+    }
 }
 
 /// A counting event and what it counts by.
@@ -162,13 +245,17 @@ pub(crate) fn count_in(words: &mut Rest) -> Result<Count, LineFault>
 fn increment_in<'a>(words: &mut Rest<'a>) -> Result<TriggeredOpSaid<'a>, LineFault>
     ensures { yielded result words.new ≡ counting_deed (λ c. deeds.Inc NO_HANDLE c) words.old }
 {
-    let on = words.name()?;
-    let by = count_in(words)?;
-    Ok(TriggeredOpSaid {
-        deed: TriggeredOp::Inc(NO_HANDLE, by),
-        on,
-        back: None,
-    })
+    match counted_in(words) {
+        Ok(counted) => {
+            let (on, by) = counted;
+            Ok(TriggeredOpSaid {
+                deed: TriggeredOp::Inc(NO_HANDLE, by),
+                on,
+                back: None,
+            })
+        }
+        Err(fault) => Err(fault),
+    }
 }
 
 /// A counting event and what it is set to.
@@ -176,21 +263,24 @@ fn increment_in<'a>(words: &mut Rest<'a>) -> Result<TriggeredOpSaid<'a>, LineFau
 fn setting_in<'a>(words: &mut Rest<'a>) -> Result<TriggeredOpSaid<'a>, LineFault>
     ensures { yielded result words.new ≡ counting_deed (λ c. deeds.Set NO_HANDLE c) words.old }
 {
-    let on = words.name()?;
-    let to = count_in(words)?;
-    Ok(TriggeredOpSaid {
-        deed: TriggeredOp::Set(NO_HANDLE, to),
-        on,
-        back: None,
-    })
+    match counted_in(words) {
+        Ok(counted) => {
+            let (on, to) = counted;
+            Ok(TriggeredOpSaid {
+                deed: TriggeredOp::Set(NO_HANDLE, to),
+                on,
+                back: None,
+            })
+        }
+        Err(fault) => Err(fault),
+    }
 }
 
-/// The deed of a triggered operation.
-#[tactic(auto, unfolding(crate::specs::Calls::deed_next))]
-pub(crate) fn deed_in<'a>(words: &mut Rest<'a>) -> Result<TriggeredOpSaid<'a>, LineFault>
-    ensures { yielded result words.new ≡ deed_next words.old }
+/// The deed that this word begins.
+#[tactic(auto, unfolding(crate::specs::Calls::deed_of))]
+fn deed_of<'a>(word: &Word<'a>, words: &mut Rest<'a>) -> Result<TriggeredOpSaid<'a>, LineFault>
+    ensures { yielded result words.new ≡ deed_of word.now words.old }
 {
-    let word = words.word()?;
     let text = word.text();
     if let Some(name) = start_named(text) {
         return start_in(name, words);
@@ -202,4 +292,15 @@ pub(crate) fn deed_in<'a>(words: &mut Rest<'a>) -> Result<TriggeredOpSaid<'a>, L
         return setting_in(words);
     }
     Err(at(word.column(), Flaw::BadWord))
+}
+
+/// The deed of a triggered operation.
+#[tactic(auto, unfolding(crate::specs::Calls::deed_next))]
+pub(crate) fn deed_in<'a>(words: &mut Rest<'a>) -> Result<TriggeredOpSaid<'a>, LineFault>
+    ensures { yielded result words.new ≡ deed_next words.old }
+{
+    match words.word() {
+        Ok(word) => deed_of(&word, words),
+        Err(fault) => Err(fault),
+    }
 }

@@ -3,14 +3,12 @@
 ghost use Rattle.std.specs.Prelude.{◌≡◌, ◌<◌, ◌≤◌, length, not, IfNone, IfSome};
 ghost use Rattle.std.specs.List.{position};
 ghost use Rattle.log_lines.specs.Lines.{alone, called, early_flaw, empty_flaw, is_allowed, is_note, line_of, loses, read_line, space_flaw};
-ghost use Rattle.log_lines.specs.Lines.{words_read};
+ghost use Rattle.log_lines.specs.Lines.{tells, words_read};
 
-use crate::amounts::small_at;
+use crate::calling::call_in;
 use crate::calls::Call;
-use crate::faults::{Flaw, LineFault, at};
-use crate::naming::call_in;
-use crate::words::{Rest, Word};
 use coll_text::is;
+use log_words::{Flaw, LineFault, Rest, Word, at, small_at};
 use ptl_types::Rank;
 
 /// The most bytes of a line, without its LF.
@@ -110,8 +108,10 @@ fn alone<'a>(line: Line<'a>, mut words: Rest<'a>) -> Result<Line<'a>, LineFault>
 fn loses<'a>(mut words: Rest<'a>) -> Result<Line<'a>, LineFault>
     ensures { result ≡ loses words.entry }
 {
-    let message = words.name()?;
-    alone(Line::Loses(message), words)
+    match words.name() {
+        Ok(message) => alone(Line::Loses(message), words),
+        Err(fault) => Err(fault),
+    }
 }
 
 /// A call of the rank that a word is.
@@ -122,20 +122,35 @@ fn called<'a>(word: &Word<'a>, mut words: Rest<'a>) -> Result<Line<'a>, LineFaul
     let Some(rank) = small_at(word.text()) else {
         return Err(at(word.column(), Flaw::BadLine));
     };
-    let call = call_in(&mut words)?;
-    let said = words.said()?;
-    Ok(Line::Calls(rank, call, said))
+    let call = match call_in(&mut words) {
+        Ok(call) => call,
+        Err(fault) => return Err(fault),
+    };
+    match words.said() {
+        Ok(said) => Ok(Line::Calls(rank, call, said)),
+        Err(fault) => Err(fault),
+    }
+}
+
+/// A message of which something is said.
+#[tactic(auto, unfolding(crate::specs::Lines::tells))]
+fn tells<'a>(mut words: Rest<'a>) -> Result<Line<'a>, LineFault>
+    ensures { result ≡ tells words.entry }
+{
+    match words.name() {
+        Ok(message) => Ok(Line::Tells(message, words)),
+        Err(fault) => Err(fault),
+    }
 }
 
 /// The line that this word begins.
 #[tactic(auto, unfolding(crate::specs::Lines::line_of))]
-fn line_of<'a>(word: &Word<'a>, mut words: Rest<'a>) -> Result<Line<'a>, LineFault>
+fn line_of<'a>(word: &Word<'a>, words: Rest<'a>) -> Result<Line<'a>, LineFault>
     ensures { result ≡ line_of word.now words.entry }
 {
     let text = word.text();
     if is(text, b"message") {
-        let message = words.name()?;
-        return Ok(Line::Tells(message, words));
+        return tells(words);
     }
     if is(text, b"lose") {
         return loses(words);
@@ -156,8 +171,10 @@ fn words_read(line: &[u8]) -> Result<Line, LineFault>
         return Ok(Line::Note);
     }
     let mut words = Rest::of(line);
-    let word = words.word()?;
-    line_of(&word, words)
+    match words.word() {
+        Ok(word) => line_of(&word, words),
+        Err(fault) => Err(fault),
+    }
 }
 
 /// Reads a line between the first two and `end`.

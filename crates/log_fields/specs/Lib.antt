@@ -1,0 +1,3 @@
+pub mod Choices
+pub mod Plain
+pub mod Fields
