@@ -3,7 +3,7 @@
 use crate::answers::gives;
 use order_check::{Cause, Verdict, check};
 use order_lines::parse_check;
-use schedule_compiler::{Job, compile, shape_job};
+use schedule_compiler::{Job, compile, shape_job, shape_schedules};
 use std::alloc::Global;
 use std::process::Abort;
 
@@ -13,6 +13,9 @@ fn verdict(rt: &impl Abort, alloc: Global, text: &[u8]) -> Verdict {
         panic!(rt; "an input")
     };
     let (shape, inputs) = description.into_parts();
+    // What the check asks for: as many orders as the plan has ranks.
+    shape.keeps_form();
+    shape_schedules();
     let Ok(schedule) = compile(alloc, &shape) else {
         panic!(rt; "a schedule")
     };
