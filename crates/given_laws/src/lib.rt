@@ -1,0 +1,4 @@
+//! Laws of plans that are given as text. No code.
+#![tactic(auto)]
+
+pub mod texts;
