@@ -171,7 +171,10 @@ link_row n l small fits = record {
           number_solid l.source_offset fits.source_offset,
           (
             number_solid l.length fits.bytes,
-            (number_solid l.target (omega (arith, fits.target)), (number_solid l.target_offset fits.target_offset, (kind_solid l.kind, tt))),
+            (
+              number_solid l.target (omega (arith, fits.target)),
+              (number_solid l.target_offset fits.target_offset, (kind_solid l.kind, tt)),
+            ),
           ),
         ),
       ),
