@@ -139,17 +139,17 @@ entries_after x h xs =
     else (if x.entry.manage_local then advanced x.handle (running_after x h) xs else xs)
 
 -- the entry in its list
-abbrev pub settled : Found → Header → Index → Index
-settled f h i = with_list f.list (entries_after f.linked h) i
+abbrev pub updated : Found → Header → Index → Index
+updated f h i = with_list f.list (entries_after f.linked h) i
 
 -- in an allocated index
-abbrev pub settled_at : Found → Header → Option Index → Option Index
-settled_at f h None = None
-settled_at f h (Some i) = Some (settled f h i)
+abbrev pub updated_at : Found → Header → Option Index → Option Index
+updated_at f h None = None
+updated_at f h (Some i) = Some (updated f h i)
 
 -- the portal table, in which one list of one index may have changed
 abbrev pub indices_after : Found → Header → List (Option Index) → List (Option Index)
-indices_after f h is = slice_set is h.pt (settled_at f h (index_at h.pt is))
+indices_after f h is = slice_set is h.pt (updated_at f h (index_at h.pt is))
 
 -- ---- 4. unexpected headers: a message in the overflow list leaves one
 
@@ -198,20 +198,9 @@ ack_header ok count h = record h {
   ok = ok;
 }
 
--- a reply asks for no acknowledgement
+-- a reply's is the same but for its kind, and asks for no acknowledgement
 abbrev pub reply_header : Bool → ℕ → Header → Header
-reply_header ok count h = record h {
-  kind = Reply;
-  source = h.target;
-  target = h.source;
-  offset = 0;
-  length = if ok then count else 0;
-  op = None;
-  swap = None;
-  operand = 0;
-  ack = NoAck;
-  ok = ok;
-}
+reply_header ok count h = record (ack_header ok count h) { kind = Reply; ack = NoAck }
 
 -- by the operation, and by what the message asked for
 abbrev pub answer : Bool → ℕ → List ℕ → Header → Option Sent

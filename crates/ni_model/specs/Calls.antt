@@ -25,7 +25,7 @@ use Rattle.ni_model.specs.Ready.{is_ready, with_posted, cancelled, waits_on}
 use Rattle.ni_model.specs.Append.{append, append_fault, search, search_fault}
 use Rattle.ni_model.specs.State.{State, parts_of, with_parts, home_of, with_home, side_of}
 use Rattle.ni_model.specs.Refusals.{pt_alloc_fault, pt_free_fault, unlink_fault, ct_free_fault, eq_free_fault, ct_set_fault, ct_inc_fault}
-use Rattle.ni_model.specs.Refusals.{alloc_fault, stale_fault, bind_fault, release_fault, deed_fault, triggered_fault}
+use Rattle.ni_model.specs.Refusals.{alloc_fault, stale_fault, bind_fault, release_fault, action_fault, triggered_fault}
 
 -- ---- how a call ends
 
@@ -201,7 +201,7 @@ entry_slot (Some i ∷ is) slot = (slot_in slot i.priority || slot_in slot i.ove
 abbrev pub start : TriggeredOp → State → Done (Result (Option Sent) NiFault)
 start d s =
     let r = started s.rank (home_of s) d in
-    ends_by (deed_fault d s.mds) s (with_home r.home s) r.message
+    ends_by (action_fault d s.mds) s (with_home r.home s) r.message
 
 -- answers the operation's number
 abbrev pub with_operation : TriggeredOp → Handle → ℕ → State → State

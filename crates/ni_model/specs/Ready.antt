@@ -37,7 +37,7 @@ is_ready s t = is_ready_op s.cts (posted_at t s.pending)
 abbrev pub ready_numbers : State → List ℕ
 ready_numbers s = filter (is_ready s) (map (λ (p : Posted). p.number) s.pending.waiting)
 
--- the rank that a deed's message is for; none of a deed that counts and sends nothing
+-- the rank that an action's message is for; none of an action that counts and sends nothing
 abbrev pub message_target : TriggeredOp → Option ℕ
 message_target (Put a) = Some a.target
 message_target (Get g) = Some g.target
@@ -49,7 +49,7 @@ message_target _ = None
 -- of an operation that waits
 abbrev pub target_of : Option Posted → Option ℕ
 target_of None = None
-target_of (Some p) = message_target p.deed
+target_of (Some p) = message_target p.action
 
 -- the rank that the message of operation t is for
 abbrev pub target_at : State → ℕ → Option ℕ
@@ -66,8 +66,8 @@ ready_numbers_to d s = filter (λ t. is_rank d (target_at s t)) (ready_numbers s
 
 -- one operation more, the newest: its number is that of those given before
 abbrev pub with_posted : TriggeredOp → Handle → ℕ → Operations → Operations
-with_posted deed ct threshold ops = record ops {
-  waiting = ops.waiting ++ (record { number = ops.given; deed = deed; ct = ct; threshold = threshold }) ∷ [];
+with_posted action ct threshold ops = record ops {
+  waiting = ops.waiting ++ (record { number = ops.given; action = action; ct = ct; threshold = threshold }) ∷ [];
   given = ops.given + 1;
 }
 
@@ -84,7 +84,7 @@ pub record Fires : Type 0 where
 abbrev pub fires : State → Option Sent → Fires
 fires s message = record { state = s; message = message }
 
--- the deed of an operation: a count stops at the end of the counter, and what sends reads its bytes now
+-- the action of an operation: a count stops at the end of the counter, and what sends reads its bytes now
 abbrev pub done : State → TriggeredOp → Fires
 done s (Inc ct by) = fires (record s { cts = counted (Some ct) by s.cts }) None
 done s (Set ct to) = fires (record s { cts = changed ct (λ (c : Count). to) s.cts }) None
@@ -93,9 +93,9 @@ done s d = let r = started s.rank (home_of s) d in fires (with_home r.home s) r.
 -- where it waits
 abbrev pub fired_op : State → Option Posted → Fires
 fired_op s None = fires s None
-fired_op s (Some p) = done (record s { pending = without_number p.number s.pending }) p.deed
+fired_op s (Some p) = done (record s { pending = without_number p.number s.pending }) p.action
 
--- the operation no longer waits, and its deed is done
+-- the operation no longer waits, and its action is done
 unfoldable pub fired : State → ℕ → Fires
 fired s t = fired_op s (posted_at t s.pending)
 

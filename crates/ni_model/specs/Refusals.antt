@@ -84,29 +84,29 @@ md_names_eq eq [] = false
 md_names_eq eq (x ∷ xs) = names x.value.md.eq eq || md_names_eq eq xs
 
 -- a triggered operation names the counter that it waits on and the one that it counts on
-abbrev pub deed_names_ct : Handle → TriggeredOp → Bool
-deed_names_ct ct (Inc h by) = same_handle h ct
-deed_names_ct ct (Set h to) = same_handle h ct
-deed_names_ct ct _ = false
+abbrev pub action_names_ct : Handle → TriggeredOp → Bool
+action_names_ct ct (Inc h by) = same_handle h ct
+action_names_ct ct (Set h to) = same_handle h ct
+action_names_ct ct _ = false
 
 -- a triggered operation names the counting event
 abbrev pub operation_names_ct : Handle → List Posted → Bool
 operation_names_ct ct [] = false
-operation_names_ct ct (p ∷ ps) = (same_handle p.ct ct || deed_names_ct ct p.deed) || operation_names_ct ct ps
+operation_names_ct ct (p ∷ ps) = (same_handle p.ct ct || action_names_ct ct p.action) || operation_names_ct ct ps
 
--- a deed names the descriptor
-abbrev pub deed_names_md : Handle → TriggeredOp → Bool
-deed_names_md md (Put a) = same_handle a.md md
-deed_names_md md (Get g) = same_handle g.md md
-deed_names_md md (Atomic a op ty) = same_handle a.md md
-deed_names_md md (FetchAtomic g a op ty) = same_handle g.md md || same_handle a.md md
-deed_names_md md (Swap g a op ty operand) = same_handle g.md md || same_handle a.md md
-deed_names_md md _ = false
+-- an action names the descriptor
+abbrev pub action_names_md : Handle → TriggeredOp → Bool
+action_names_md md (Put a) = same_handle a.md md
+action_names_md md (Get g) = same_handle g.md md
+action_names_md md (Atomic a op ty) = same_handle a.md md
+action_names_md md (FetchAtomic g a op ty) = same_handle g.md md || same_handle a.md md
+action_names_md md (Swap g a op ty operand) = same_handle g.md md || same_handle a.md md
+action_names_md md _ = false
 
 -- a triggered operation does
 abbrev pub operation_names_md : Handle → List Posted → Bool
 operation_names_md md [] = false
-operation_names_md md (p ∷ ps) = deed_names_md md p.deed || operation_names_md md ps
+operation_names_md md (p ∷ ps) = action_names_md md p.action || operation_names_md md ps
 
 -- not live, in use
 abbrev pub ct_free_fault : Handle → Table Count → List (Option Index) → Table Bound → Operations → Option NiFault
@@ -171,14 +171,14 @@ abbrev pub holds_part : Option Bound → ℕ → ℕ → Bool
 holds_part None at n = false
 holds_part (Some b) at n = is_within at n b.md.length
 
--- the descriptors that a deed names are live
-abbrev pub deed_is_live : TriggeredOp → Table Bound → Bool
-deed_is_live (Put a) mds = is_live a.md mds
-deed_is_live (Get g) mds = is_live g.md mds
-deed_is_live (Atomic a op ty) mds = is_live a.md mds
-deed_is_live (FetchAtomic g a op ty) mds = is_live g.md mds && is_live a.md mds
-deed_is_live (Swap g a op ty operand) mds = is_live g.md mds && is_live a.md mds
-deed_is_live _ mds = true
+-- the descriptors that an action names are live
+abbrev pub action_is_live : TriggeredOp → Table Bound → Bool
+action_is_live (Put a) mds = is_live a.md mds
+action_is_live (Get g) mds = is_live g.md mds
+action_is_live (Atomic a op ty) mds = is_live a.md mds
+action_is_live (FetchAtomic g a op ty) mds = is_live g.md mds && is_live a.md mds
+action_is_live (Swap g a op ty operand) mds = is_live g.md mds && is_live a.md mds
+action_is_live _ mds = true
 
 -- the put arguments lie in their descriptor
 abbrev pub put_fits : PutArgs → Table Bound → Bool
@@ -188,18 +188,18 @@ put_fits a mds = holds_part (lookup a.md mds.live) a.local_offset a.length
 abbrev pub get_fits : GetArgs → Table Bound → Bool
 get_fits g mds = holds_part (lookup g.md mds.live) g.local_offset g.length
 
--- all that a deed names does
-abbrev pub deed_fits : TriggeredOp → Table Bound → Bool
-deed_fits (Put a) mds = put_fits a mds
-deed_fits (Get g) mds = get_fits g mds
-deed_fits (Atomic a op ty) mds = put_fits a mds
-deed_fits (FetchAtomic g a op ty) mds = get_fits g mds && put_fits a mds
-deed_fits (Swap g a op ty operand) mds = get_fits g mds && put_fits a mds
-deed_fits _ mds = true
+-- all that an action names does
+abbrev pub action_fits : TriggeredOp → Table Bound → Bool
+action_fits (Put a) mds = put_fits a mds
+action_fits (Get g) mds = get_fits g mds
+action_fits (Atomic a op ty) mds = put_fits a mds
+action_fits (FetchAtomic g a op ty) mds = get_fits g mds && put_fits a mds
+action_fits (Swap g a op ty operand) mds = get_fits g mds && put_fits a mds
+action_fits _ mds = true
 
 -- the refusals of a start that an initiator finds
-abbrev pub deed_fault : TriggeredOp → Table Bound → Option NiFault
-deed_fault d mds = need (deed_is_live d mds) Stale (need (deed_fits d mds) OutOfRegion None)
+abbrev pub action_fault : TriggeredOp → Table Bound → Option NiFault
+action_fault d mds = need (action_is_live d mds) Stale (need (action_fits d mds) OutOfRegion None)
 
 -- the counting event that an increment or a set names is live
 abbrev pub counts_on_live : TriggeredOp → Table Count → Bool
@@ -208,10 +208,10 @@ counts_on_live (Set ct to) cts = is_live ct cts
 counts_on_live _ cts = true
 
 -- its two numbers together pass the end
-abbrev pub deed_passes : TriggeredOp → Bool
-deed_passes (Inc ct by) = passes_end by
-deed_passes (Set ct to) = passes_end to
-deed_passes _ = false
+abbrev pub action_passes : TriggeredOp → Bool
+action_passes (Inc ct by) = passes_end by
+action_passes (Set ct to) = passes_end to
+action_passes _ = false
 
 -- the limit waits, or the numbers are used up
 abbrev pub no_number : Operations → Bool
@@ -220,7 +220,7 @@ no_number ops = nat_le ops.limit (length ops.waiting) || nat_le (2 ^ 32 - 1) ops
 -- not live, no room or number, a part past the descriptor, past the end
 abbrev pub triggered_fault : TriggeredOp → Handle → Table Count → Table Bound → Operations → Option NiFault
 triggered_fault d ct cts mds ops =
-    need (is_live ct cts && (counts_on_live d cts && deed_is_live d mds)) Stale
+    need (is_live ct cts && (counts_on_live d cts && action_is_live d mds)) Stale
     (need (not (no_number ops)) NoSpace
-    (need (deed_fits d mds) OutOfRegion
-    (need (not (deed_passes d)) CountFull None)))
+    (need (action_fits d mds) OutOfRegion
+    (need (not (action_passes d)) CountFull None)))

@@ -91,7 +91,7 @@ fetch_header rank kind g a op swap ty operand = record {
   ok = true;
 }
 
--- none of a deed that counts and sends nothing
+-- none of an action that counts and sends nothing
 abbrev pub header_of : ℕ → TriggeredOp → Option Header
 header_of rank (Put a) = Some (put_header rank PutKind a None U8)
 header_of rank (Get g) = Some (get_header rank g)
@@ -103,7 +103,7 @@ header_of rank (Set ct to) = None
 
 -- ---- bytes: the put arguments' part of their descriptor, none for a get
 
--- the put arguments of a deed, if it has some
+-- the put arguments of an action, if it has some
 abbrev pub put_args : TriggeredOp → Option PutArgs
 put_args (Put a) = Some a
 put_args (Atomic a op ty) = Some a
@@ -165,7 +165,7 @@ pub record Started : Type 0 where
   pub message : Option Sent
   pub counted : Option Handle
 
--- none of a deed that sends nothing
+-- none of an action that sends nothing
 abbrev pub started_by : Home → TriggeredOp → Option Header → Started
 started_by p d None = record { home = p; message = None; counted = None }
 started_by p d (Some h) =

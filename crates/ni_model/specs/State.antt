@@ -21,7 +21,7 @@ use Rattle.ni_model.specs.Answers.{Home, home, Returned, answered}
 -- a triggered operation that waits
 pub record Posted : Type 0 where
   pub number : ℕ
-  pub deed : TriggeredOp
+  pub action : TriggeredOp
   pub ct : Handle
   pub threshold : ℕ
 
