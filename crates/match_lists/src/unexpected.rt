@@ -103,7 +103,7 @@ fn take_after(unexpected: &mut [IndexedHeader], gone: usize, at: usize) -> Index
 }
 
 /// Gives the places before the first header free.
-fn settle(unexpected: &mut Vec<IndexedHeader>, gone: usize)
+fn drop_gone(unexpected: &mut Vec<IndexedHeader>, gone: usize)
     requires { gone ≤ vec_len unexpected.old }
     ensures left { unexpected.new.items ≡ drop gone unexpected.old.items }
     ensures room { vec_capacity unexpected.new ≡ vec_capacity unexpected.old }
@@ -163,7 +163,7 @@ impl Headers {
         ensures { self.new ≡ unexpected_list (self.old.unexpected ++ indexed_header pt header ∷ []) self.old.limit }
     {
         if self.unexpected.len() >= 2 * self.limit as usize {
-            settle(&mut self.unexpected, self.gone);
+            drop_gone(&mut self.unexpected, self.gone);
             self.gone = 0;
         }
         self.unexpected.push_reserved(IndexedHeader { pt, header });
