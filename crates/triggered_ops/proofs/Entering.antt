@@ -147,10 +147,10 @@ module _ (at : ℕ → Option Wait) (w : Woven) (stamps : List ℕ) (h : IsHung 
       in
       cc
 
-  pub stray-settled : (ct : Handle) (p : ℕ) (x : Wait) (v : Bool) (new : ℕ → Option Wait) → belongs stamps ct ≡ false → at p ≡ Some x →
+  pub stray-noted : (ct : Handle) (p : ℕ) (x : Wait) (v : Bool) (new : ℕ → Option Wait) → belongs stamps ct ≡ false → at p ≡ Some x →
       same_handle x.ct ct ≡ true
       → ((q : ℕ) → new q ≡ cond (nat_eq q p) (option_map (with_due v) (at q)) (at q)) → IsHung new w stamps
-  stray-settled ct p x v new b e is n =
+  stray-noted ct p x v new b e is n =
       let away : belongs stamps x.ct ≡ false = ap (belongs stamps) (handle-same x.ct ct is) ∙ b in
       let homes : home stamps x.ct v ≡ home stamps x.ct x.due = home-stray stamps x.ct v away ∙ sym (home-stray stamps x.ct x.due away) in
       let same : (q k : ℕ) → is_home stamps k (at q) ≡ is_home stamps k (new q) =

@@ -27,7 +27,7 @@ module _ {D : Type 0} where
   pub all-operations : (P : ℕ → Type 0) (ss : List (Spot D)) → All P (numbers_of ss) →
       All (λ (o : Operation D). P o.number) (operations_in ss)
   all-operations P [] all = All-nil (λ (o : Operation D). P o.number)
-  all-operations P (s ∷ ss) all = go s.deed (all-operations P ss (All-tail P s.number (numbers_of ss) all))
+  all-operations P (s ∷ ss) all = go s.action (all-operations P ss (All-tail P s.number (numbers_of ss) all))
     where
       go : (o : Option D) → All (λ (o : Operation D). P o.number) (operations_in ss) →
           All (λ (o : Operation D). P o.number) (before_all (op_with s o) (operations_in ss))
@@ -37,7 +37,7 @@ module _ {D : Type 0} where
 
   pub rising-operations : (ss : List (Spot D)) → AllPairs (λ a b. a < b) (numbers_of ss) → AllPairs Rises (operations_in ss)
   rising-operations [] all = λ i j d lt within. absurd (omega arith)
-  rising-operations (s ∷ ss) all = go s.deed (rising-operations ss (pairs-tail Lower s.number (numbers_of ss) all))
+  rising-operations (s ∷ ss) all = go s.action (rising-operations ss (pairs-tail Lower s.number (numbers_of ss) all))
     where
       go : (o : Option D) → AllPairs Rises (operations_in ss) → AllPairs Rises (before_all (op_with s o) (operations_in ss))
       go None rest = rest
@@ -69,10 +69,10 @@ module _ {D : Type 0} where
   pub found-at : (ss : List (Spot D)) (t p : ℕ) → AllPairs (λ a b. a < b) (numbers_of ss) → p < length (numbers_of ss) →
       get_or (numbers_of ss) p 0 ≡ t → find (is_number t) (operations_in ss) ≡ op_at ss p
   found-at [] t p all lt e = absurd (omega (arith, lt))
-  found-at (s ∷ ss) t zero all lt e = find-head t s s.deed (operations_in ss) e (above-all s ss all t e)
+  found-at (s ∷ ss) t zero all lt e = find-head t s s.action (operations_in ss) e (above-all s ss all t e)
   found-at (s ∷ ss) t (suc p) all lt e =
       let lower : s.number < get_or (numbers_of ss) p 0 = pairs-head Lower s.number (numbers_of ss) all p 0 (omega (arith, lt)) in
-      find-skip t s s.deed (operations_in ss) (λ same. omega (arith, lower, e, same))
+      find-skip t s s.action (operations_in ss) (λ same. omega (arith, lower, e, same))
       ∙ found-at ss t p (pairs-tail Lower s.number (numbers_of ss) all) (omega (arith, lt)) e
 
   pub found-here : (ss : List (Spot D)) (t p : ℕ) → AllPairs (λ a b. a < b) (numbers_of ss) → (p < length ss) ×
@@ -83,7 +83,7 @@ module _ {D : Type 0} where
   pub found-none : (ss : List (Spot D)) (t : ℕ) → ((k : ℕ) → k < length (numbers_of ss) → get_or (numbers_of ss) k 0 ≡ t → ⊥) →
       find (is_number t) (operations_in ss) ≡ None
   found-none [] t none = refl
-  found-none (s ∷ ss) t none = find-skip t s s.deed (operations_in ss) (none 0 (omega arith))
+  found-none (s ∷ ss) t none = find-skip t s s.action (operations_in ss) (none 0 (omega arith))
       ∙ found-none ss t (λ k lt e. none (suc k) (omega (arith, lt)) e)
 
   -- ---- one is taken out
@@ -104,10 +104,10 @@ module _ {D : Type 0} where
       get_or (numbers_of ss) p 0 ≡ t
       → operations_in (emptied p ss) ≡ filter (λ q. not (is_number t q)) (operations_in ss)
   emptied-without [] t p all lt e = absurd (omega (arith, lt))
-  emptied-without (s ∷ ss) t zero all lt e = filter-head t s s.deed (operations_in ss) e (above-all s ss all t e)
+  emptied-without (s ∷ ss) t zero all lt e = filter-head t s s.action (operations_in ss) e (above-all s ss all t e)
   emptied-without (s ∷ ss) t (suc p) all lt e =
       let lower : s.number < get_or (numbers_of ss) p 0 = pairs-head Lower s.number (numbers_of ss) all p 0 (omega (arith, lt)) in
-      filter-skip t s s.deed (operations_in ss) (operations_in (emptied p ss)) (λ same. omega (arith, lower, e, same))
+      filter-skip t s s.action (operations_in ss) (operations_in (emptied p ss)) (λ same. omega (arith, lower, e, same))
       (emptied-without ss t p (pairs-tail Lower s.number (numbers_of ss) all) (omega (arith, lt)) e)
 
   pub emptied-here : (ss : List (Spot D)) (t p : ℕ) → AllPairs (λ a b. a < b) (numbers_of ss) → (p < length ss) ×
@@ -150,14 +150,14 @@ module _ {D : Type 0} where
       n ≤ get_or (numbers_of ss) q 0 → is_some (wait_at ss q) ≡ true
       → find (is_from n) (operations_in ss) ≡ op_at ss q
   first-from [] n q before le e = cc
-  first-from (s ∷ ss) n zero before le e = take-from n s s.deed (operations_in ss) le e
+  first-from (s ∷ ss) n zero before le e = take-from n s s.action (operations_in ss) le e
   first-from (s ∷ ss) n (suc q) before le e =
-      skip-from n s s.deed (operations_in ss) (before 0 (omega arith)) ∙ first-from ss n q (λ k lt. before (suc k) (omega (arith, lt))) le e
+      skip-from n s s.action (operations_in ss) (before 0 (omega arith)) ∙ first-from ss n q (λ k lt. before (suc k) (omega (arith, lt))) le e
 
   pub none-from : (ss : List (Spot D)) (n : ℕ) → ((k : ℕ) → k < length (numbers_of ss) →
       (get_or (numbers_of ss) k 0 < n) ⊎ (wait_at ss k ≡ None)) → find (is_from n) (operations_in ss) ≡ None
   none-from [] n h = refl
-  none-from (s ∷ ss) n h = skip-from n s s.deed (operations_in ss) (h 0 (omega arith))
+  none-from (s ∷ ss) n h = skip-from n s s.action (operations_in ss) (h 0 (omega arith))
       ∙ none-from ss n (λ k lt. h (suc k) (omega (arith, lt)))
 
 -- ---- a search by halves

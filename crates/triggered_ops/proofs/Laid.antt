@@ -186,7 +186,7 @@ module _ {D : Type 0} where
   pub waiting-none : (ss : List (Spot D)) (ct : Handle) → ((p : ℕ) → WaitsOn ct (wait_at ss p) → ⊥) →
       filter (waits_on ct) (operations_in ss) ≡ []
   waiting-none [] ct h = refl
-  waiting-none (s ∷ ss) ct h = go s.deed (h 0) (waiting-none ss ct (λ p. h (suc p)))
+  waiting-none (s ∷ ss) ct h = go s.action (h 0) (waiting-none ss ct (λ p. h (suc p)))
     where
       go : (o : Option D) → (WaitsOn ct (wait_with s o) → ⊥) → filter (waits_on ct) (operations_in ss) ≡ [] →
           filter (waits_on ct) (before_all (op_with s o) (operations_in ss)) ≡ []

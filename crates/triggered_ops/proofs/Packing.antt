@@ -131,10 +131,10 @@ module _ {D : Type 0} where
         ∙ (λ i. cond (nat_eq q to) (sym (wait-get ss from d within) i)
         ((wait-set ss from (get_or ss to d) q within ∙ ap (λ o. cond (nat_eq q from) o (wait_at ss q)) (sym (wait-get ss to d low))) i))
 
-    pub swap-dues : (v : ℕ) → mark_with (get_or ss to d).due (get_or ss to d).deed ≡ 0 →
-        mark_with (get_or ss from d).due (get_or ss from d).deed ≡ v → dues_of (swap ss from to) ≡ set (set (dues_of ss) from 0) to v
+    pub swap-dues : (v : ℕ) → mark_with (get_or ss to d).due (get_or ss to d).action ≡ 0 →
+        mark_with (get_or ss from d).due (get_or ss from d).action ≡ v → dues_of (swap ss from to) ≡ set (set (dues_of ss) from 0) to v
     swap-dues v none some =
-        let mark : Spot D → ℕ = λ s. mark_with s.due s.deed in
+        let mark : Spot D → ℕ = λ s. mark_with s.due s.action in
         ap dues_of is ∙ map-set mark half to (get_or ss from d)
         ∙ (λ i. set ((map-set mark ss from (get_or ss to d) ∙ ap (set (dues_of ss) from) none) i) to (some i))
 
@@ -146,7 +146,7 @@ module _ {D : Type 0} where
         let a = set-count ss from (get_or ss to d) d within in
         let b = set-count half to (get_or ss from d) d (omega (arith, low, length-half)) in
         let there : get_or half to d ≡ get_or ss to d = get_or-set_other ss from to (get_or ss to d) d (λ e. omega (arith, order, e)) in
-        let c = ap (λ (s : Spot D). count_with s.deed) there in
+        let c = ap (λ (s : Spot D). count_with s.action) there in
         let e = ap (λ l. length (operations_in l)) is in
         omega (arith, a, b, c, e)
 
@@ -172,7 +172,7 @@ module _ {D : Type 0} where
       let s = get_or ss place d in
       let ys = drop (suc place) ss in
       let out : before_all (op_of s) (operations_in ys) ≡ operations_in ys =
-      gone s s.deed (operations_in ys) (sym (wait-get ss place d lt) ∙ none) in
+      gone s s.action (operations_in ys) (sym (wait-get ss place d lt) ∙ none) in
       ap (λ n. operations_in (packed kept n ss)) e ∙ append-operations (take kept ss) ys
       ∙ ap (λ l. operations_in (take kept ss) ++ l) (sym out) ∙ sym (append-operations (take kept ss) (s ∷ ys))
       ∙ ap (λ l. operations_in (take kept ss ++ l)) (sym (drop-get ss place d lt))
@@ -204,7 +204,7 @@ module _ {D : Type 0} where
 
   none-left : (ss : List (Spot D)) → AreGone 0 ss → operations_in ss ≡ []
   none-left [] g = refl
-  none-left (s ∷ ss) g = gone s s.deed (operations_in ss) (g 0 (omega arith)) ∙ none-left ss (λ p le. g (suc p) (omega arith))
+  none-left (s ∷ ss) g = gone s s.action (operations_in ss) (g 0 (omega arith)) ∙ none-left ss (λ p le. g (suc p) (omega arith))
 
   pub take-value : (ss : List (Spot D)) (len : ℕ) → AreGone len ss → operations_in (take len ss) ≡ operations_in ss
   take-value ss zero g = sym (none-left ss g)
@@ -217,7 +217,7 @@ module _ {D : Type 0} where
 
   dues-zero : (ss : List (Spot D)) → AreGone 0 ss → dues_of ss ≡ replicate (length ss) 0
   dues-zero [] g = refl
-  dues-zero (s ∷ ss) g = λ i. unmarked s s.deed (g 0 (omega arith)) i ∷ dues-zero ss (λ p le. g (suc p) (omega arith)) i
+  dues-zero (s ∷ ss) g = λ i. unmarked s s.action (g 0 (omega arith)) i ∷ dues-zero ss (λ p le. g (suc p) (omega arith)) i
 
   dues-take : (ss : List (Spot D)) (len : ℕ) → AreGone len ss →
       dues_of ss ≡ dues_of (take len ss) ++ replicate (length ss - length (take len ss)) 0
@@ -225,8 +225,8 @@ module _ {D : Type 0} where
   dues-take [] (suc len) g = refl
   dues-take (s ∷ ss) (suc len) g =
       let n : length ss - length (take len ss) ≡ suc (length ss) - suc (length (take len ss)) = omega arith in
-      ap (λ r. mark_with s.due s.deed ∷ r) (dues-take ss len (λ p le. g (suc p) (omega (arith, le))))
-      ∙ ap (λ m. mark_with s.due s.deed ∷ (dues_of (take len ss) ++ replicate m 0)) n
+      ap (λ r. mark_with s.due s.action ∷ r) (dues-take ss len (λ p le. g (suc p) (omega (arith, le))))
+      ∙ ap (λ m. mark_with s.due s.action ∷ (dues_of (take len ss) ++ replicate m 0)) n
 
   length-take : (ss : List (Spot D)) (len : ℕ) → length (take len ss) ≤ length ss
   length-take ss zero = omega arith
@@ -254,7 +254,7 @@ module _ {D : Type 0} where
 
   pub all-live : (ss : List (Spot D)) → ((q : ℕ) → q < length ss → is_some (wait_at ss q) ≡ true) → length (operations_in ss) ≡ length ss
   all-live [] h = refl
-  all-live (s ∷ ss) h = one_more s s.deed (operations_in ss) (h 0 (omega arith))
+  all-live (s ∷ ss) h = one_more s s.action (operations_in ss) (h 0 (omega arith))
       ∙ ap (λ n. suc n) (all-live ss (λ q lt. h (suc q) (omega (arith, lt))))
 
 module _ {D : Type 0} (s : Spotted D) (w : Woven) (stamps : List ℕ) where

@@ -31,13 +31,13 @@ module _ {D : Type 0} where
   drop-none : (ss : List (Spot D)) (p : ℕ) → is_some (wait_at ss p) ≡ false → operations_in (drop p ss) ≡ operations_in (drop (suc p) ss)
   drop-none [] zero e = refl
   drop-none [] (suc p) e = refl
-  drop-none (s ∷ ss) zero e = none_here s s.deed (operations_in ss) e
+  drop-none (s ∷ ss) zero e = none_here s s.action (operations_in ss) e
   drop-none (s ∷ ss) (suc p) e = drop-none ss p e
 
   drop-some : (ss : List (Spot D)) (p : ℕ) → is_some (wait_at ss p) ≡ true → (o : Operation D) × (op_at ss p ≡ Some o) ×
       (operations_in (drop p ss) ≡ o ∷ operations_in (drop (suc p) ss))
   drop-some [] p e = cc
-  drop-some (s ∷ ss) zero e = some_here s s.deed (operations_in ss) e
+  drop-some (s ∷ ss) zero e = some_here s s.action (operations_in ss) e
   drop-some (s ∷ ss) (suc p) e = drop-some ss p e
 
   drop-past : (ss : List (Spot D)) (p : ℕ) → length ss ≤ p → operations_in (drop p ss) ≡ []
@@ -75,30 +75,30 @@ module _ {D : Type 0} where
   passed-end ss i p left le a = let n = ap length (drop-past ss p le) in omega (arith, a.long, n)
 
   -- ---- what is shown of an operation at a place
-  pub record IsShown (ss : List (Spot D)) (q : ℕ) (deed : D) (ct : Handle) (threshold : ℕ) : Type 0 where
+  pub record IsShown (ss : List (Spot D)) (q : ℕ) (action : D) (ct : Handle) (threshold : ℕ) : Type 0 where
     pub it : Operation D
     pub is : op_at ss q ≡ Some it
     pub number : it.number ≡ get_or (numbers_of ss) q 0
-    pub shown_is : numbered it ≡ (get_or (numbers_of ss) q 0, deed, ct, threshold)
+    pub shown_is : numbered it ≡ (get_or (numbers_of ss) q 0, action, ct, threshold)
 
   op-number : (ss : List (Spot D)) (q : ℕ) (o : Operation D) → op_at ss q ≡ Some o → o.number ≡ get_or (numbers_of ss) q 0
   op-number [] q o e = cc
-  op-number (s ∷ ss) zero o e = go s.deed e
+  op-number (s ∷ ss) zero o e = go s.action e
     where
       go : (d : Option D) → op_with s d ≡ Some o → o.number ≡ s.number
       go None e = cc
       go (Some d) e = let same : operation s d ≡ o = cc in sym (ap (λ (p : Operation D). p.number) same)
   op-number (s ∷ ss) (suc q) o e = op-number ss q o e
 
-  pub shown-at : (ss : List (Spot D)) (q : ℕ) (deed : D) (ct : Handle) (threshold : ℕ) →
-      option_map shown (op_at ss q) ≡ Some (deed, ct, threshold) → IsShown ss q deed ct threshold
-  shown-at ss q deed ct threshold e = go (op_at ss q) refl e
+  pub shown-at : (ss : List (Spot D)) (q : ℕ) (action : D) (ct : Handle) (threshold : ℕ) →
+      option_map shown (op_at ss q) ≡ Some (action, ct, threshold) → IsShown ss q action ct threshold
+  shown-at ss q action ct threshold e = go (op_at ss q) refl e
     where
-      go : (o : Option (Operation D)) → op_at ss q ≡ o → option_map shown o ≡ Some (deed, ct, threshold) → IsShown ss q deed ct threshold
+      go : (o : Option (Operation D)) → op_at ss q ≡ o → option_map shown o ≡ Some (action, ct, threshold) → IsShown ss q action ct threshold
       go None is e = cc
       go (Some o) is e =
           let number = op-number ss q o is in
-          let same : shown o ≡ (deed, ct, threshold) = cc in
+          let same : shown o ≡ (action, ct, threshold) = cc in
           record { it = o; is = is; number = number; shown_is = λ i. (number i, (same i).0, (same i).1, (same i).2) }
 
   pub shown-within : (ss : List (Spot D)) (q : ℕ) (r : D × Handle × ℕ) → option_map shown (op_at ss q) ≡ Some r → q < length ss

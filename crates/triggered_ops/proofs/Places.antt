@@ -10,10 +10,10 @@ use Rattle.ptl_types.specs.declared.handles.Handle.{Handle}
 use Rattle.ptl_types.specs.Handles.{same_handle}
 use Rattle.triggered_ops.specs.declared.spots.Spot.{Spot}
 use Rattle.triggered_ops.specs.declared.spots.Wait.{Wait}
-use Rattle.triggered_ops.specs.Operations.{Operation, is_due, deed_of}
+use Rattle.triggered_ops.specs.Operations.{Operation, is_due, action_of}
 use Rattle.triggered_ops.specs.Hung.{threshold_of, IsSame, WaitsOn}
 use Rattle.triggered_ops.specs.Layout.{Spotted, numbers_of, operation, op_with, op_of, before_all, operations_in, op_at, wait_with, wait_of}
-use Rattle.triggered_ops.specs.Layout.{wait_at, changed, settled, emptied, mark_with, dues_of}
+use Rattle.triggered_ops.specs.Layout.{wait_at, changed, noted_due, emptied, mark_with, dues_of}
 
 abbrev pub with_due : Bool → Wait → Wait
 with_due due x = record x { due = due }
@@ -51,38 +51,38 @@ module _ {D : Type 0} where
     changed-set zero (s ∷ ss) d lt = refl
     changed-set (suc p) (s ∷ ss) d lt = ap (λ r. s ∷ r) (changed-set p ss d (omega (arith, lt)))
 
-    pub changed-dues : (p v : ℕ) (ss : List (Spot D)) → ((s : Spot D) → wait_of s ≡ wait_at ss p → mark_with (f s).due (f s).deed ≡ v) →
+    pub changed-dues : (p v : ℕ) (ss : List (Spot D)) → ((s : Spot D) → wait_of s ≡ wait_at ss p → mark_with (f s).due (f s).action ≡ v) →
         dues_of (changed f p ss) ≡ set (dues_of ss) p v
     changed-dues p v [] h = refl
     changed-dues zero v (s ∷ ss) h = ap (λ n. n ∷ dues_of ss) (h s refl)
-    changed-dues (suc p) v (s ∷ ss) h = ap (λ r. mark_with s.due s.deed ∷ r) (changed-dues p v ss h)
+    changed-dues (suc p) v (s ∷ ss) h = ap (λ r. mark_with s.due s.action ∷ r) (changed-dues p v ss h)
 
-  -- it is settled
+  -- it is noted_due
   due_with : (v : Bool) (s : Spot D) (o : Option D) → wait_with (record s { due = v }) o ≡ option_map (with_due v) (wait_with s o)
   due_with v s None = refl
   due_with v s (Some d) = refl
 
-  pub settled-at : (p : ℕ) (v : Bool) (ss : List (Spot D)) (q : ℕ) →
-      wait_at (settled p v ss) q ≡ cond (nat_eq q p) (option_map (with_due v) (wait_at ss q)) (wait_at ss q)
-  settled-at p v ss q = elim (eqb_tells q p) [
-    | inl same ↦ rw same.0 (ap (wait_at (settled p v ss)) same.1 ∙ changed-here (λ s. record s { due = v }) (option_map (with_due v))
-        (λ s. due_with v s s.deed) refl p ss ∙ ap (λ i. option_map (with_due v) (wait_at ss i)) (sym same.1))
+  pub noted-at : (p : ℕ) (v : Bool) (ss : List (Spot D)) (q : ℕ) →
+      wait_at (noted_due p v ss) q ≡ cond (nat_eq q p) (option_map (with_due v) (wait_at ss q)) (wait_at ss q)
+  noted-at p v ss q = elim (eqb_tells q p) [
+    | inl same ↦ rw same.0 (ap (wait_at (noted_due p v ss)) same.1 ∙ changed-here (λ s. record s { due = v }) (option_map (with_due v))
+        (λ s. due_with v s s.action) refl p ss ∙ ap (λ i. option_map (with_due v) (wait_at ss i)) (sym same.1))
     | inr other ↦ rw other.0 (changed-other (λ s. record s { due = v }) p q ss other.1)
   ]
 
-  pub settled-numbers : (p : ℕ) (v : Bool) (ss : List (Spot D)) → numbers_of (settled p v ss) ≡ numbers_of ss
-  settled-numbers p v ss = changed-numbers (λ s. record s { due = v }) (λ s. refl) p ss
+  pub noted-numbers : (p : ℕ) (v : Bool) (ss : List (Spot D)) → numbers_of (noted_due p v ss) ≡ numbers_of ss
+  noted-numbers p v ss = changed-numbers (λ s. record s { due = v }) (λ s. refl) p ss
 
   -- it is emptied
   pub emptied-at : (p : ℕ) (ss : List (Spot D)) (q : ℕ) → wait_at (emptied p ss) q ≡ cond (nat_eq q p) None (wait_at ss q)
   emptied-at p ss q = elim (eqb_tells q p) [
-    | inl same ↦ rw same.0 (ap (wait_at (emptied p ss)) same.1 ∙ changed-here (λ s. record s { deed = None }) (λ o. None) (λ s. refl) refl
+    | inl same ↦ rw same.0 (ap (wait_at (emptied p ss)) same.1 ∙ changed-here (λ s. record s { action = None }) (λ o. None) (λ s. refl) refl
         p ss)
-    | inr other ↦ rw other.0 (changed-other (λ s. record s { deed = None }) p q ss other.1)
+    | inr other ↦ rw other.0 (changed-other (λ s. record s { action = None }) p q ss other.1)
   ]
 
   pub emptied-numbers : (p : ℕ) (ss : List (Spot D)) → numbers_of (emptied p ss) ≡ numbers_of ss
-  emptied-numbers p ss = changed-numbers (λ s. record s { deed = None }) (λ s. refl) p ss
+  emptied-numbers p ss = changed-numbers (λ s. record s { action = None }) (λ s. refl) p ss
 
   -- ---- what waits at a place
   pub wait-past : (ss : List (Spot D)) (p : ℕ) → length ss ≤ p → wait_at ss p ≡ None
@@ -120,7 +120,7 @@ module _ {D : Type 0} where
 
   pub op-wait : (ss : List (Spot D)) (p : ℕ) → wait_at ss p ≡ option_map wait_for (op_at ss p)
   op-wait [] p = refl
-  op-wait (s ∷ ss) zero = op_wait_with s s.deed
+  op-wait (s ∷ ss) zero = op_wait_with s s.action
   op-wait (s ∷ ss) (suc p) = op-wait ss p
 
   pub op-some : (ss : List (Spot D)) (p : ℕ) → is_some (wait_at ss p) ≡ true → is_some (op_at ss p) ≡ true
@@ -132,7 +132,7 @@ module _ {D : Type 0} where
 
   -- ---- marks
   pub length-dues : (ss : List (Spot D)) → length (dues_of ss) ≡ length ss
-  length-dues ss = length-map ss (λ (s : Spot D). mark_with s.due s.deed)
+  length-dues ss = length-map ss (λ (s : Spot D). mark_with s.due s.action)
 
   -- a mark of a place that is one
   pub marked-set : (marks : List ℕ) (ss new : List (Spot D)) (p v : ℕ) → marks ≡ dues_of ss ++ replicate (length marks - length ss) 0 →
@@ -161,16 +161,16 @@ module _ {D : Type 0} where
   ops-short [] = omega arith
   ops-short (s ∷ ss) =
       let r = ops-short ss in
-      let c = count-first s s.deed (operations_in ss) in
-      let one = count_le s.deed in
+      let c = count-first s s.action (operations_in ss) in
+      let one = count_le s.action in
       omega (arith, r, c, one)
 
-  pub settled-count : (p : ℕ) (v : Bool) (ss : List (Spot D)) → length (operations_in (settled p v ss)) ≡ length (operations_in ss)
-  settled-count p v [] = refl
-  settled-count zero v (s ∷ ss) = count-first (record s { due = v }) s.deed (operations_in ss)
-      ∙ sym (count-first s s.deed (operations_in ss))
-  settled-count (suc p) v (s ∷ ss) = count-first s s.deed (operations_in (settled p v ss))
-      ∙ ap (λ n. count_with s.deed + n) (settled-count p v ss) ∙ sym (count-first s s.deed (operations_in ss))
+  pub noted-count : (p : ℕ) (v : Bool) (ss : List (Spot D)) → length (operations_in (noted_due p v ss)) ≡ length (operations_in ss)
+  noted-count p v [] = refl
+  noted-count zero v (s ∷ ss) = count-first (record s { due = v }) s.action (operations_in ss)
+      ∙ sym (count-first s s.action (operations_in ss))
+  noted-count (suc p) v (s ∷ ss) = count-first s s.action (operations_in (noted_due p v ss))
+      ∙ ap (λ n. count_with s.action + n) (noted-count p v ss) ∙ sym (count-first s s.action (operations_in ss))
 
   some_count : (s : Spot D) (o : Option D) → is_some (wait_with s o) ≡ true → count_with o ≡ 1
   some_count s None e = cc
@@ -179,23 +179,23 @@ module _ {D : Type 0} where
   pub emptied-count : (p : ℕ) (ss : List (Spot D)) → is_some (wait_at ss p) ≡ true → length (operations_in (emptied p ss)) + 1 ≡ length
       (operations_in ss)
   emptied-count p [] e = cc
-  emptied-count zero (s ∷ ss) e = let c = count-first s s.deed (operations_in ss) in let one = some_count s s.deed e in
+  emptied-count zero (s ∷ ss) e = let c = count-first s s.action (operations_in ss) in let one = some_count s s.action e in
       omega (arith, c, one)
   emptied-count (suc p) (s ∷ ss) e =
       let r = emptied-count p ss e in
-      let a = count-first s s.deed (operations_in (emptied p ss)) in
-      let b = count-first s s.deed (operations_in ss) in
+      let a = count-first s s.action (operations_in (emptied p ss)) in
+      let b = count-first s s.action (operations_in ss) in
       omega (arith, r, a, b)
 
   pub set-count : (ss : List (Spot D)) (p : ℕ) (s d : Spot D) → p < length ss → length (operations_in (set ss p s)) + count_with
-      (get_or ss p d).deed ≡ length (operations_in ss) + count_with s.deed
+      (get_or ss p d).action ≡ length (operations_in ss) + count_with s.action
   set-count [] p s d lt = absurd (omega (arith, lt))
-  set-count (t ∷ ss) zero s d lt = let a = count-first s s.deed (operations_in ss) in let b = count-first t t.deed (operations_in ss) in
+  set-count (t ∷ ss) zero s d lt = let a = count-first s s.action (operations_in ss) in let b = count-first t t.action (operations_in ss) in
       omega (arith, a, b)
   set-count (t ∷ ss) (suc p) s d lt =
       let r = set-count ss p s d (omega (arith, lt)) in
-      let a = count-first t t.deed (operations_in (set ss p s)) in
-      let b = count-first t t.deed (operations_in ss) in
+      let a = count-first t t.action (operations_in (set ss p s)) in
+      let b = count-first t t.action (operations_in ss) in
       omega (arith, r, a, b)
 
   pub append-operations : (xs ys : List (Spot D)) → operations_in (xs ++ ys) ≡ operations_in xs ++ operations_in ys
@@ -220,8 +220,8 @@ module _ {D : Type 0} where
   pub sum-dues : (ss : List (Spot D)) → sum (dues_of ss) ≡ length (filter is_due (operations_in ss))
   sum-dues [] = refl
   sum-dues (s ∷ ss) =
-      sum_by-cons (λ (n : ℕ). n) (mark_with s.due s.deed) (dues_of ss) ∙ ap (λ n. mark_with s.due s.deed + n) (sum-dues ss)
-      ∙ sym (due-first s s.deed (operations_in ss))
+      sum_by-cons (λ (n : ℕ). n) (mark_with s.due s.action) (dues_of ss) ∙ ap (λ n. mark_with s.due s.action + n) (sum-dues ss)
+      ∙ sym (due-first s s.action (operations_in ss))
 
   abbrev dues_in : List (Operation D) → List ℕ
   dues_in os = map (λ (p : Operation D). p.number) (filter is_due os)
@@ -236,16 +236,16 @@ module _ {D : Type 0} where
       get_or (dues_of ss ++ rest) p 0 ≡ 1 → p < length ss
       → slice_get (dues_in (operations_in ss)) i ≡ Some (get_or (numbers_of ss) p 0)
   due-found [] rest p i before one lt = absurd (omega (arith, lt))
-  due-found (s ∷ ss) rest zero i before one lt = let none : i ≡ 0 = sym before in rw none (go s.deed one)
+  due-found (s ∷ ss) rest zero i before one lt = let none : i ≡ 0 = sym before in rw none (go s.action one)
     where
       go : (o : Option D) → mark_with s.due o ≡ 1 → slice_get (dues_in (before_all (op_with s o) (operations_in ss))) 0 ≡ Some s.number
       go None e = cc
       go (Some d) e = first_of s.due d (operation s d) (filter is_due (operations_in ss)) e
   due-found (s ∷ ss) rest (suc p) i before one lt =
-      let head = sum_by-cons (λ (n : ℕ). n) (mark_with s.due s.deed) (take p (dues_of ss ++ rest)) in
+      let head = sum_by-cons (λ (n : ℕ). n) (mark_with s.due s.action) (take p (dues_of ss ++ rest)) in
       let r = due-found ss rest p (sum (take p (dues_of ss ++ rest))) refl one (omega (arith, lt)) in
-      let is : mark_with s.due s.deed + sum (take p (dues_of ss ++ rest)) ≡ i = sym head ∙ before in
-      subst (λ n. slice_get (dues_in (before_all (op_of s) (operations_in ss))) n ≡ Some (get_or (numbers_of ss) p 0)) is (go s.deed r)
+      let is : mark_with s.due s.action + sum (take p (dues_of ss ++ rest)) ≡ i = sym head ∙ before in
+      subst (λ n. slice_get (dues_in (before_all (op_of s) (operations_in ss))) n ≡ Some (get_or (numbers_of ss) p 0)) is (go s.action r)
     where
       go : (o : Option D) → slice_get (dues_in (operations_in ss)) (sum (take p (dues_of ss ++ rest))) ≡ Some (get_or (numbers_of ss) p 0)
           → slice_get (dues_in (before_all (op_with s o) (operations_in ss))) (mark_with s.due o + sum (take p (dues_of ss ++ rest)))
@@ -261,22 +261,22 @@ module _ {D : Type 0} where
                 ap (slice_get (dues_in (operations_in ss))) z ∙ r
           ]
 
-  -- ---- one that is settled
-  pub settled-length : (p : ℕ) (v : Bool) (ss : List (Spot D)) → length (settled p v ss) ≡ length ss
-  settled-length p v ss = changed-length (λ s. record s { due = v }) p ss
+  -- ---- one that is noted_due
+  pub noted-length : (p : ℕ) (v : Bool) (ss : List (Spot D)) → length (noted_due p v ss) ≡ length ss
+  noted-length p v ss = changed-length (λ s. record s { due = v }) p ss
 
   -- those that aren't due are above the sum, and one is that no longer is
   pub still-above : (ss : List (Spot D)) (p : ℕ) (ct : Handle) (sum : ℕ) → sum < threshold_of (wait_at ss p)
       → ((q : ℕ) (x : Wait) → wait_at ss q ≡ Some x → same_handle x.ct ct ≡ true → x.due ≡ false → sum < x.threshold)
-      → (q : ℕ) (x : Wait) → wait_at (settled p false ss) q ≡ Some x → same_handle x.ct ct ≡ true → x.due ≡ false → sum < x.threshold
+      → (q : ℕ) (x : Wait) → wait_at (noted_due p false ss) q ≡ Some x → same_handle x.ct ct ≡ true → x.due ≡ false → sum < x.threshold
   still-above ss p ct sum lt h q x e s d = elim (eqb_tells q p) [
     | inl same ↦
-        let is : option_map (with_due false) (wait_at ss q) ≡ Some x = sym (settled-at p false ss q ∙ rw same.0 refl) ∙ e in
+        let is : option_map (with_due false) (wait_at ss q) ≡ Some x = sym (noted-at p false ss q ∙ rw same.0 refl) ∙ e in
         let t : threshold_of (option_map (with_due false) (wait_at ss q)) ≡ threshold_of (wait_at ss q) = go (wait_at ss q) in
         let a : threshold_of (option_map (with_due false) (wait_at ss q)) ≡ x.threshold = ap threshold_of is in
         let b : threshold_of (wait_at ss q) ≡ threshold_of (wait_at ss p) = ap (λ i. threshold_of (wait_at ss i)) same.1 in
         omega (arith, t, a, b, lt)
-    | inr other ↦ let is : wait_at ss q ≡ Some x = sym (settled-at p false ss q ∙ rw other.0 refl) ∙ e in h q x is s d
+    | inr other ↦ let is : wait_at ss q ≡ Some x = sym (noted-at p false ss q ∙ rw other.0 refl) ∙ e in h q x is s d
   ]
     where
       go : (o : Option Wait) → threshold_of (option_map (with_due false) o) ≡ threshold_of o
@@ -325,15 +325,15 @@ is-waits ct (Some y) x e s = let same : y.ct ≡ x.ct = ap ct_of e in ap (λ h. 
     ct_of (Some z) = z.ct
 
 module _ {D : Type 0} where
-  pub deed-is : (s : Spot D) → s.deed ≡ option_map deed_of (op_of s)
-  deed-is s = go s.deed
+  pub action-is : (s : Spot D) → s.action ≡ option_map action_of (op_of s)
+  action-is s = go s.action
     where
-      go : (o : Option D) → o ≡ option_map deed_of (op_with s o)
+      go : (o : Option D) → o ≡ option_map action_of (op_with s o)
       go None = refl
       go (Some d) = refl
 
   pub threshold-is : (s : Spot D) → is_some (wait_of s) ≡ true → s.threshold ≡ threshold_of (wait_of s)
-  threshold-is s e = go s.deed e
+  threshold-is s e = go s.action e
     where
       go : (o : Option D) → is_some (wait_with s o) ≡ true → s.threshold ≡ threshold_of (wait_with s o)
       go None e = cc

@@ -61,9 +61,9 @@ module _ {D : Type 0} where
   Rises p q = p.number < q.number
 
   -- ---- what the calls keep
-  pub IsKept-posted : (ops : Operations D) (deed : D) (ct : Handle) (threshold sum : ℕ) → IsKept ops → length ops.waiting < ops.limit →
-      ops.given < 2 ^ 32 - 1 → IsKept (with_posted deed ct threshold sum ops)
-  IsKept-posted ops deed ct threshold sum kept room numbers = record {
+  pub IsKept-posted : (ops : Operations D) (action : D) (ct : Handle) (threshold sum : ℕ) → IsKept ops → length ops.waiting < ops.limit →
+      ops.given < 2 ^ 32 - 1 → IsKept (with_posted action ct threshold sum ops)
+  IsKept-posted ops action ct threshold sum kept room numbers = record {
     rising = all_pairs_push Rises ops.waiting _ kept.rising kept.were_given;
     were_given = All-push (λ p. p.number < ops.given + 1) ops.waiting _
         (All-weaker (λ p. p.number < ops.given) (λ p. p.number < ops.given + 1) (λ p lt. omega arith) ops.waiting kept.were_given)
@@ -72,7 +72,7 @@ module _ {D : Type 0} where
       arith,
       length_push ops.waiting (record {
         number = ops.given;
-        deed = deed;
+        action = action;
         ct = ct;
         threshold = threshold;
         due =

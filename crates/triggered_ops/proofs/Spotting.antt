@@ -12,9 +12,9 @@ use Rattle.std.proofs.lemmas.List.Sums.{sum_by-append}
 use Rattle.std.proofs.lemmas.List.Folds.{sum_by-replicate}
 use Rattle.triggered_ops.specs.declared.spots.Spot.{Spot}
 use Rattle.triggered_ops.specs.Operations.{Operation, is_due}
-use Rattle.triggered_ops.specs.Layout.{numbers_of, operations_in, wait_with, wait_at, settled, emptied, mark_with, dues_of, AreGone}
+use Rattle.triggered_ops.specs.Layout.{numbers_of, operations_in, wait_with, wait_at, noted_due, emptied, mark_with, dues_of, AreGone}
 use Rattle.triggered_ops.specs.Layout.{IsSpotted}
-use Rattle.triggered_ops.proofs.Places.{changed-dues, changed-length, settled-length, settled-count, emptied-count, wait-within, wait-get}
+use Rattle.triggered_ops.proofs.Places.{changed-dues, changed-length, noted-length, noted-count, emptied-count, wait-within, wait-get}
 use Rattle.triggered_ops.proofs.Places.{append-operations, count-first, count_with, sum-dues, due-found}
 use Rattle.triggered_ops.proofs.Packing.{swap-dues, swap-length, swap-count, marked-take, take-value, taken-short}
 
@@ -56,7 +56,7 @@ padded-within marks ds p is lt one = elim (cases_lt p (length ds)) [
 
 module _ {D : Type 0} where
   marks-long : (ss : List (Spot D)) → length (dues_of ss) ≡ length ss
-  marks-long ss = length-map ss (λ (s : Spot D). mark_with s.due s.deed)
+  marks-long ss = length-map ss (λ (s : Spot D). mark_with s.due s.action)
 
   some_mark : (v : Bool) (s : Spot D) (o : Option D) → is_some (wait_with s o) ≡ true → mark_with v o ≡ cond v 1 0
   some_mark v s None e = cc
@@ -82,18 +82,18 @@ module _ {D : Type 0} where
     pub spot-within : (p : ℕ) → is_some (wait_at ss p) ≡ true → (p < length ss) × (p < length marks)
     spot-within p e = let lt = wait-within ss p e in (lt, omega (arith, lt, i.fits, i.long))
 
-    pub spotted-settled : (p : ℕ) (v : Bool) → is_some (wait_at ss p) ≡ true → IsSpotted (settled p v ss) (set marks p (cond v 1 0))
+    pub spotted-noted : (p : ℕ) (v : Bool) → is_some (wait_at ss p) ≡ true → IsSpotted (noted_due p v ss) (set marks p (cond v 1 0))
         waiting room capacity
-    spotted-settled p v e =
+    spotted-noted p v e =
         let lt = wait-within ss p e in
-        let dues : dues_of (settled p v ss) ≡ set (dues_of ss) p (cond v 1 0) = changed-dues (λ s. record s { due = v }) p (cond v 1 0) ss
-        (λ s is. some_mark v s s.deed (ap is_some is ∙ e)) in
+        let dues : dues_of (noted_due p v ss) ≡ set (dues_of ss) p (cond v 1 0) = changed-dues (λ s. record s { due = v }) p (cond v 1 0) ss
+        (λ s is. some_mark v s s.action (ap is_some is ∙ e)) in
         record {
-          marked = unpadded (set marks p (cond v 1 0)) (set (dues_of ss) p (cond v 1 0)) (settled p v ss)
+          marked = unpadded (set marks p (cond v 1 0)) (set (dues_of ss) p (cond v 1 0)) (noted_due p v ss)
               (padded-set marks (dues_of ss) p (cond v 1 0) is_padded (omega (arith, lt, marks-long ss))) (sym dues);
           long = omega (arith, i.long, length-set marks p (cond v 1 0));
-          counted = i.counted ∙ sym (settled-count p v ss);
-          fits = omega (arith, i.fits, settled-length p v ss);
+          counted = i.counted ∙ sym (noted-count p v ss);
+          fits = omega (arith, i.fits, noted-length p v ss);
           enough = i.enough;
           at_most = i.at_most;
         }
@@ -102,13 +102,13 @@ module _ {D : Type 0} where
         IsSpotted (emptied p ss) (set marks p 0) less room capacity
     spotted-emptied p less e one =
         let lt = wait-within ss p e in
-        let dues : dues_of (emptied p ss) ≡ set (dues_of ss) p 0 = changed-dues (λ s. record s { deed = None }) p 0 ss (λ s is. refl) in
+        let dues : dues_of (emptied p ss) ≡ set (dues_of ss) p 0 = changed-dues (λ s. record s { action = None }) p 0 ss (λ s is. refl) in
         record {
           marked = unpadded (set marks p 0) (set (dues_of ss) p 0) (emptied p ss)
               (padded-set marks (dues_of ss) p 0 is_padded (omega (arith, lt, marks-long ss))) (sym dues);
           long = omega (arith, i.long, length-set marks p 0);
           counted = omega (arith, i.counted, one, emptied-count p ss e);
-          fits = omega (arith, i.fits, changed-length (λ (s : Spot D). record s { deed = None }) p ss);
+          fits = omega (arith, i.fits, changed-length (λ (s : Spot D). record s { action = None }) p ss);
           enough = i.enough;
           at_most = i.at_most;
         }
@@ -116,13 +116,13 @@ module _ {D : Type 0} where
     pub waits-some : (p : ℕ) → is_some (wait_at ss p) ≡ true → 1 ≤ waiting
     waits-some p e = omega (arith, i.counted, emptied-count p ss e)
 
-    pub spotted-pushed : (s : Spot D) (d : D) (more : ℕ) → s.deed ≡ Some d → length ss < room → more ≡ waiting + 1 →
+    pub spotted-pushed : (s : Spot D) (d : D) (more : ℕ) → s.action ≡ Some d → length ss < room → more ≡ waiting + 1 →
         IsSpotted (ss ++ s ∷ []) (set marks (length ss) (cond s.due 1 0)) more room capacity
     spotted-pushed s d more full lt one =
         let v : ℕ = cond s.due 1 0 in
-        let mark : mark_with s.due s.deed ≡ v = ap (mark_with s.due) full in
+        let mark : mark_with s.due s.action ≡ v = ap (mark_with s.due) full in
         let dues : dues_of ss ++ v ∷ [] ≡ dues_of (ss ++ s ∷ []) = ap (λ m. dues_of ss ++ m ∷ []) (sym mark)
-        ∙ sym (map-append (λ (s : Spot D). mark_with s.due s.deed) ss (s ∷ [])) in
+        ∙ sym (map-append (λ (s : Spot D). mark_with s.due s.action) ss (s ∷ [])) in
         let at : length (dues_of ss) ≡ length ss = marks-long ss in
         record {
           marked = unpadded (set marks (length ss) v) (dues_of ss ++ v ∷ []) (ss ++ s ∷ [])
@@ -132,7 +132,7 @@ module _ {D : Type 0} where
           counted =
               let a = ap length (append-operations ss (s ∷ [])) in
               let b = length-append (operations_in ss) (operations_in (s ∷ [])) in
-              let c = count-first s s.deed [] in
+              let c = count-first s s.action [] in
               let e = ap (λ (o : Option D). count_with o) full in
               omega (arith, a, b, c, e, i.counted, one);
           fits = omega (arith, length-append ss (s ∷ []), lt);
@@ -145,9 +145,9 @@ module _ {D : Type 0} where
     spotted-swapped from to d v order full empty due =
         let lt = wait-within ss from full in
         let low : to < length ss = omega (arith, order, lt) in
-        let none = none_mark (get_or ss to d).due (get_or ss to d) (get_or ss to d).deed (sym (wait-get ss to d low) ∙ empty) in
-        let some : mark_with (get_or ss from d).due (get_or ss from d).deed ≡ cond v 1 0 =
-        some_mark (get_or ss from d).due (get_or ss from d) (get_or ss from d).deed (ap is_some (sym (wait-get ss from d lt))
+        let none = none_mark (get_or ss to d).due (get_or ss to d) (get_or ss to d).action (sym (wait-get ss to d low) ∙ empty) in
+        let some : mark_with (get_or ss from d).due (get_or ss from d).action ≡ cond v 1 0 =
+        some_mark (get_or ss from d).due (get_or ss from d) (get_or ss from d).action (ap is_some (sym (wait-get ss from d lt))
         ∙ full) ∙ ap (λ b. cond b 1 0) due in
         let dues = swap-dues ss from to order lt d (cond v 1 0) none some in
         let first = padded-set marks (dues_of ss) from 0 is_padded (omega (arith, lt, marks-long ss)) in

@@ -4,14 +4,14 @@ use Rattle.std.proofs.Common.{None, refl, sym, ap, ◌∙◌, arith}
 use Rattle.std.specs.Prelude.{option_map}
 use Rattle.std.proofs.lemmas.Bool.Decides.{nat_tests}
 use Rattle.std.proofs.lemmas.Bool.{eq-eqb}
-use Rattle.triggered_ops.proofs.Places.{with_due, settled-at}
+use Rattle.triggered_ops.proofs.Places.{with_due, noted-at}
 use Rattle.ptl_types.specs.declared.handles.Handle.{Handle}
 use Rattle.ptl_types.specs.Handles.{same_handle}
 use Rattle.triggered_ops.specs.declared.spots.Spot.{Spot}
 use Rattle.triggered_ops.specs.declared.spots.Wait.{Wait}
 use Rattle.triggered_ops.specs.Operations.{Operation, waits_on, told_if}
 use Rattle.triggered_ops.specs.Hung.{threshold_of, WaitsOn}
-use Rattle.triggered_ops.specs.Layout.{handle_of, operation, op_with, op_of, before_all, operations_in, wait_with, wait_at, settled}
+use Rattle.triggered_ops.specs.Layout.{handle_of, operation, op_with, op_of, before_all, operations_in, wait_with, wait_at, noted_due}
 use Rattle.triggered_ops.specs.Layout.{emptied}
 
 module _ {D : Type 0} where
@@ -35,17 +35,17 @@ module _ {D : Type 0} where
   same_told s v None ct sum e = refl
   same_told s v (Some d) ct sum e = rw e refl
 
-  pub settled-told : (ss : List (Spot D)) (p : ℕ) (v : Bool) (ct : Handle) (sum : ℕ) (x : Wait) → wait_at ss p ≡ Some x →
+  pub noted-told : (ss : List (Spot D)) (p : ℕ) (v : Bool) (ct : Handle) (sum : ℕ) (x : Wait) → wait_at ss p ≡ Some x →
       same_handle x.ct ct ≡ true
-      → map (told_if (waits_on ct) sum) (operations_in (settled p v ss)) ≡ map (told_if (waits_on ct) sum) (operations_in ss)
-  settled-told [] p v ct sum x e is = cc
-  settled-told (s ∷ ss) zero v ct sum x e is =
-      tell_first (waits_on ct) sum (op_with (record s { due = v }) s.deed) (operations_in ss)
-      ∙ ap (λ o. before_all o (map (told_if (waits_on ct) sum) (operations_in ss))) (same_told s v s.deed ct sum (on_it s s.deed ct x e is))
+      → map (told_if (waits_on ct) sum) (operations_in (noted_due p v ss)) ≡ map (told_if (waits_on ct) sum) (operations_in ss)
+  noted-told [] p v ct sum x e is = cc
+  noted-told (s ∷ ss) zero v ct sum x e is =
+      tell_first (waits_on ct) sum (op_with (record s { due = v }) s.action) (operations_in ss)
+      ∙ ap (λ o. before_all o (map (told_if (waits_on ct) sum) (operations_in ss))) (same_told s v s.action ct sum (on_it s s.action ct x e is))
       ∙ sym (tell_first (waits_on ct) sum (op_of s) (operations_in ss))
-  settled-told (s ∷ ss) (suc p) v ct sum x e is =
-      tell_first (waits_on ct) sum (op_of s) (operations_in (settled p v ss))
-      ∙ ap (before_all (option_map (told_if (waits_on ct) sum) (op_of s))) (settled-told ss p v ct sum x e is)
+  noted-told (s ∷ ss) (suc p) v ct sum x e is =
+      tell_first (waits_on ct) sum (op_of s) (operations_in (noted_due p v ss))
+      ∙ ap (before_all (option_map (told_if (waits_on ct) sum) (op_of s))) (noted-told ss p v ct sum x e is)
       ∙ sym (tell_first (waits_on ct) sum (op_of s) (operations_in ss))
 
   told_already : (s : Spot D) (o : Option D) (ct : Handle) (sum : ℕ) →
@@ -66,7 +66,7 @@ module _ {D : Type 0} where
   told-all [] ct sum h = refl
   told-all (s ∷ ss) ct sum h =
       tell_first (waits_on ct) sum (op_of s) (operations_in ss)
-      ∙ (λ i. before_all (told_already s s.deed ct sum (h 0) i) (told-all ss ct sum (λ p. h (suc p)) i))
+      ∙ (λ i. before_all (told_already s s.action ct sum (h 0) i) (told-all ss ct sum (λ p. h (suc p)) i))
 
   -- ---- those of a counting event are taken out
   off_it : (s : Spot D) (o : Option D) (ct : Handle) (os : List (Operation D)) → same_handle (handle_of s) ct ≡ true →
@@ -88,7 +88,7 @@ module _ {D : Type 0} where
   pub emptied-cancelled : (ss : List (Spot D)) (p : ℕ) (ct : Handle) → WaitsOn ct (wait_at ss p) →
       filter (λ p. not (waits_on ct p)) (operations_in (emptied p ss)) ≡ filter (λ p. not (waits_on ct p)) (operations_in ss)
   emptied-cancelled [] p ct w = absurd w
-  emptied-cancelled (s ∷ ss) zero ct w = sym (off_it s s.deed ct (operations_in ss) (go s.deed w))
+  emptied-cancelled (s ∷ ss) zero ct w = sym (off_it s s.action ct (operations_in ss) (go s.action w))
     where
       go : (o : Option D) → WaitsOn ct (wait_with s o) → same_handle (handle_of s) ct ≡ true
       go None w = absurd w
@@ -109,7 +109,7 @@ module _ {D : Type 0} where
   pub none-cancelled : (ss : List (Spot D)) (ct : Handle) → ((p : ℕ) → WaitsOn ct (wait_at ss p) → ⊥) →
       filter (λ p. not (waits_on ct p)) (operations_in ss) ≡ operations_in ss
   none-cancelled [] ct h = refl
-  none-cancelled (s ∷ ss) ct h = stays s s.deed ct (operations_in ss) (operations_in ss) (h 0) (none-cancelled ss ct (λ p. h (suc p)))
+  none-cancelled (s ∷ ss) ct h = stays s s.action ct (operations_in ss) (operations_in ss) (h 0) (none-cancelled ss ct (λ p. h (suc p)))
 
 -- due exactly where the sum has come to the threshold
 pub due-is : (sum : ℕ) (x : Wait) → (x.due ≡ true → x.threshold ≤ sum) → (x.due ≡ false → sum < x.threshold) →
@@ -120,10 +120,10 @@ due-is sum x low high = elim x.due as (λ b. x.due ≡ b → b ≡ nat_le x.thre
 ] refl
 
 module _ {D : Type 0} where
-  -- what is settled as at a sum is due as at it
-  pub settled-due : (ss : List (Spot D)) (p : ℕ) (v : Bool) (sum : ℕ) → v ≡ nat_le (threshold_of (wait_at ss p)) sum → (x : Wait) →
-      wait_at (settled p v ss) p ≡ Some x → x.due ≡ nat_le x.threshold sum
-  settled-due ss p v sum is x e = go (wait_at ss p) is (sym (settled-at p v ss p
+  -- what is noted_due as at a sum is due as at it
+  pub noted-due : (ss : List (Spot D)) (p : ℕ) (v : Bool) (sum : ℕ) → v ≡ nat_le (threshold_of (wait_at ss p)) sum → (x : Wait) →
+      wait_at (noted_due p v ss) p ≡ Some x → x.due ≡ nat_le x.threshold sum
+  noted-due ss p v sum is x e = go (wait_at ss p) is (sym (noted-at p v ss p
       ∙ ap (λ b. cond b (option_map (with_due v) (wait_at ss p)) (wait_at ss p)) (eq-eqb p p refl)) ∙ e)
     where
       due_of : Option Wait → Bool

@@ -10,11 +10,11 @@ operation_code {D} code =
     code_by
     (ℕ × (D × (ℕ × (ℕ × (ℕ × Bool)))))
     (coded× coded_ℕ (coded× code (coded× coded_ℕ (coded× coded_ℕ (coded× coded_ℕ coded_bool)))))
-    (λ p. (p.number, (p.deed, (p.ct.slot, (p.ct.stamp, (p.threshold, p.due))))))
+    (λ p. (p.number, (p.action, (p.ct.slot, (p.ct.stamp, (p.threshold, p.due))))))
     (λ q.
     record {
       number = q.0;
-      deed = q.1.0;
+      action = q.1.0;
       ct = record { slot = q.1.1.0; stamp = q.1.1.1.0 };
       threshold = q.1.1.1.1.0;
       due = q.1.1.1.1.1;
@@ -35,7 +35,7 @@ spot_code {D} code =
     code_by
     (ℕ × (ℕ × (ℕ × (ℕ × (Bool × Option D)))))
     (coded× coded_ℕ (coded× coded_ℕ (coded× coded_ℕ (coded× coded_ℕ (coded× coded_bool (coded_option code))))))
-    (λ s. (s.number, (s.slot, (s.stamp, (s.threshold, (s.due, s.deed))))))
+    (λ s. (s.number, (s.slot, (s.stamp, (s.threshold, (s.due, s.action))))))
     (λ q.
     record {
       number = q.0;
@@ -43,7 +43,7 @@ spot_code {D} code =
       stamp = q.1.1.0;
       threshold = q.1.1.1.0;
       due = q.1.1.1.1.0;
-      deed = q.1.1.1.1.1;
+      action = q.1.1.1.1.1;
     })
     (λ _. refl)
 

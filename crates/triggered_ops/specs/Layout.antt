@@ -27,15 +27,15 @@ module _ {D : Type 0} where
   handle_of s = record { slot = s.slot; stamp = s.stamp }
 
   abbrev pub operation : Spot D → D → Operation D
-  operation s deed = record { number = s.number; deed = deed; ct = handle_of s; threshold = s.threshold; due = s.due }
+  operation s action = record { number = s.number; action = action; ct = handle_of s; threshold = s.threshold; due = s.due }
 
   -- what waits there
   abbrev pub op_with : Spot D → Option D → Option (Operation D)
   op_with s None = None
-  op_with s (Some deed) = Some (operation s deed)
+  op_with s (Some action) = Some (operation s action)
 
   abbrev pub op_of : Spot D → Option (Operation D)
-  op_of s = op_with s s.deed
+  op_of s = op_with s s.action
 
   abbrev pub before_all : Option (Operation D) → List (Operation D) → List (Operation D)
   before_all None ps = ps
@@ -54,10 +54,10 @@ module _ {D : Type 0} where
   -- what it waits for
   abbrev pub wait_with : Spot D → Option D → Option Wait
   wait_with s None = None
-  wait_with s (Some deed) = Some (record { ct = handle_of s; threshold = s.threshold; due = s.due })
+  wait_with s (Some action) = Some (record { ct = handle_of s; threshold = s.threshold; due = s.due })
 
   abbrev pub wait_of : Spot D → Option Wait
-  wait_of s = wait_with s s.deed
+  wait_of s = wait_with s s.action
 
   abbrev pub wait_at : List (Spot D) → ℕ → Option Wait
   wait_at [] p = None
@@ -78,17 +78,17 @@ module _ {D : Type 0} where
 
   -- an operation that is put in, and its place
   abbrev pub operation_for : ℕ → Wait → D → Operation D
-  operation_for number x deed = record { number = number; deed = deed; ct = x.ct; threshold = x.threshold; due = x.due }
+  operation_for number x action = record { number = number; action = action; ct = x.ct; threshold = x.threshold; due = x.due }
 
   abbrev pub spot_for : ℕ → Wait → D → Spot D
-  spot_for number x deed = record {
+  spot_for number x action = record {
     number = number;
     slot = x.ct.slot;
     stamp = x.ct.stamp;
     threshold = x.threshold;
     due = x.due;
-    deed =
-        Some deed;
+    action =
+        Some action;
   }
 
   -- the places with one changed
@@ -98,12 +98,12 @@ module _ {D : Type 0} where
   changed f (suc p) (s ∷ ss) = s ∷ changed f p ss
 
   -- it is due, or isn't
-  abbrev pub settled : ℕ → Bool → List (Spot D) → List (Spot D)
-  settled p due ss = changed (λ s. record s { due = due }) p ss
+  abbrev pub noted_due : ℕ → Bool → List (Spot D) → List (Spot D)
+  noted_due p due ss = changed (λ s. record s { due = due }) p ss
 
   -- nothing waits there any more
   abbrev pub emptied : ℕ → List (Spot D) → List (Spot D)
-  emptied p ss = changed (λ s. record s { deed = None }) p ss
+  emptied p ss = changed (λ s. record s { action = None }) p ss
 
   -- the places before one, and those from another on
   abbrev pub packed : ℕ → ℕ → List (Spot D) → List (Spot D)
@@ -122,10 +122,10 @@ module _ {D : Type 0} where
   -- the marks of the places: 1 where an operation waits that is due
   abbrev pub mark_with : Bool → Option D → ℕ
   mark_with due None = 0
-  mark_with due (Some deed) = if due then 1 else 0
+  mark_with due (Some action) = if due then 1 else 0
 
   abbrev pub dues_of : List (Spot D) → List ℕ
-  dues_of ss = map (λ (s : Spot D). mark_with s.due s.deed) ss
+  dues_of ss = map (λ (s : Spot D). mark_with s.due s.action) ss
 
   pub record IsSpotted (ss : List (Spot D)) (marks : List ℕ) (waiting room capacity : ℕ) : Type 0 where
     pub marked : marks ≡ dues_of ss ++ replicate (length marks - length ss) 0

@@ -10,7 +10,7 @@ use Rattle.ni_model.specs.State as model
 -- an operation that waits on ct; it is due where the sum, success and failure together, that was last told of ct is at least its threshold
 pub record Operation (D : Type 0) : Type 0 where
   pub number : ℕ
-  pub deed : D
+  pub action : D
   pub ct : Handle
   pub threshold : ℕ
   pub due : Bool
@@ -44,17 +44,17 @@ module _ {D : Type 0} where
   abbrev pub is_due : Operation D → Bool
   is_due p = p.due
 
-  -- its deed, its counting event and its threshold
+  -- its action, its counting event and its threshold
   abbrev pub shown : Operation D → D × Handle × ℕ
-  shown p = (p.deed, p.ct, p.threshold)
+  shown p = (p.action, p.ct, p.threshold)
 
   -- the same after its number
   abbrev pub numbered : Operation D → ℕ × D × Handle × ℕ
-  numbered p = (p.number, p.deed, p.ct, p.threshold)
+  numbered p = (p.number, p.action, p.ct, p.threshold)
 
-  -- its deed
-  abbrev pub deed_of : Operation D → D
-  deed_of p = p.deed
+  -- its action
+  abbrev pub action_of : Operation D → D
+  action_of p = p.action
 
   -- ---- among those that wait
 
@@ -79,9 +79,9 @@ module _ {D : Type 0} where
 
   -- one operation more, the newest, which is told this sum
   abbrev pub with_posted : D → Handle → ℕ → ℕ → Operations D → Operations D
-  with_posted deed ct threshold sum ops = record ops {
+  with_posted action ct threshold sum ops = record ops {
     waiting =
-        ops.waiting ++ (record { number = ops.given; deed = deed; ct = ct; threshold = threshold; due = nat_le threshold sum }) ∷ [];
+        ops.waiting ++ (record { number = ops.given; action = action; ct = ct; threshold = threshold; due = nat_le threshold sum }) ∷ [];
     given = ops.given + 1;
   }
 
@@ -122,7 +122,7 @@ module _ {D : Type 0} where
 
   -- without whether it is due
   abbrev pub posted : (D → TriggeredOp) → Operation D → model.Posted
-  posted f p = record { number = p.number; deed = f p.deed; ct = p.ct; threshold = p.threshold }
+  posted f p = record { number = p.number; action = f p.action; ct = p.ct; threshold = p.threshold }
 
   abbrev pub posted_all : (D → TriggeredOp) → Operations D → model.Operations
   posted_all f ops = record { waiting = map (posted f) ops.waiting; given = ops.given; limit = ops.limit }

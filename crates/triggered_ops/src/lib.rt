@@ -3,7 +3,7 @@
 
 ghost use Rattle.std.specs.Prelude.{◌≡◌, ◌≤◌, ◌<◌, ◌^◌, ◌-◌, ℕ, true, false, Some, None, IfSome, IfNone, IfOk, IsOk, OnOk, OnErr};
 ghost use Rattle.std.specs.Prelude.{[], All, length, slice_get, option_map};
-ghost use Rattle.triggered_ops.specs.Operations.{no_operations, is_full, operation_at, is_ready, due_numbers, shown, numbered, deed_of};
+ghost use Rattle.triggered_ops.specs.Operations.{no_operations, is_full, operation_at, is_ready, due_numbers, shown, numbered, action_of};
 ghost use Rattle.triggered_ops.specs.Operations.{with_posted, told, without_number, waits_on, waiting_on, cancelled, IsKept};
 
 mod lists;
@@ -18,7 +18,7 @@ use ptl_types::{Handle, NoMemory};
 use std::alloc::Global;
 use std::marker::Model;
 
-/// The operations that wait, each with a number, a deed of the caller's, its counting event and its threshold. Its value is the
+/// The operations that wait, each with a number, an action of the caller's, its counting event and its threshold. Its value is the
 /// list of them by rising number, each with whether it is due by what was last told of its counting event, how many numbers were
 /// given, and how many may wait.
 ///
@@ -125,7 +125,7 @@ impl<D> Pending<D> {
         self.spots.due_at(u64::from(i))
     }
 
-    /// The deed, the counting event and the threshold of the operation of this number; `None` exactly where it doesn't wait.
+    /// The action, the counting event and the threshold of the operation of this number; `None` exactly where it doesn't wait.
     pub fn get(&self, number: u32) -> Option<(&D, Handle, u64)>
         ensures found { IfSome result (λ p. option_map shown (operation_at number self.now) ≡ Some (p.0.now, p.1, p.2)) }
         ensures none { IfNone result (operation_at number self.now ≡ None) }
@@ -136,7 +136,7 @@ impl<D> Pending<D> {
         }
     }
 
-    /// The number, deed, counting event and threshold of the operation at position `i` by rising number, from 0; `None` exactly
+    /// The number, action, counting event and threshold of the operation at position `i` by rising number, from 0; `None` exactly
     /// where no more than `i` wait.
     pub fn at(&self, i: u32) -> Option<(u32, &D, Handle, u64)>
         ensures found { IfSome result (λ p. option_map numbered (slice_get self.now.waiting i) ≡ Some (p.0, p.1.now, p.2, p.3)) }
@@ -179,10 +179,10 @@ impl<D> Pending<D> {
         }
     }
 
-    /// Takes the deed of the operation of this number out, which then no longer waits; `None` exactly where it doesn't wait,
+    /// Takes the action of the operation of this number out, which then no longer waits; `None` exactly where it doesn't wait,
     /// and then nothing changes.
     pub fn take(&mut self, number: u32) -> Option<D>
-        ensures value { result ≡ option_map deed_of (operation_at number self.old) }
+        ensures value { result ≡ option_map action_of (operation_at number self.old) }
         ensures rest { self.new ≡ without_number number self.old }
         ensures none { IfNone result (self.new ≡ self.old) }
     {
@@ -218,12 +218,12 @@ impl<D: Drop> Pending<D> {
 
     /// Tells the sum of a counting event, posts an operation that waits on it and answers its number, which none that waits has. It
     /// takes no memory.
-    pub fn post(&mut self, deed: D, ct: Handle, threshold: u64, sum: u64) -> Result<u32, NoMemory>
+    pub fn post(&mut self, action: D, ct: Handle, threshold: u64, sum: u64) -> Result<u32, NoMemory>
         requires room { length self.old.waiting < self.old.limit }
         requires numbers { self.old.given < 2 ^ 32 - 1 }
         ensures number { IfOk result (λ t. t ≡ self.old.given) }
         ensures fresh { IfOk result (λ t. operation_at t self.old ≡ None) }
-        ensures ok { OnOk result (self.new ≡ with_posted deed ct threshold sum (told ct sum self.old)) }
+        ensures ok { OnOk result (self.new ≡ with_posted action ct threshold sum (told ct sum self.old)) }
         ensures err { OnErr result (self.new ≡ self.old) }
         ensures posts { IsOk result }
     {
@@ -241,14 +241,14 @@ impl<D: Drop> Pending<D> {
             &mut self.threads,
             &self.stamps,
             number,
-            deed,
+            action,
             wait,
         );
         self.given += 1;
         Ok(number)
     }
 
-    /// Removes the operations that wait on a counting event, with their deeds, and answers how many they were.
+    /// Removes the operations that wait on a counting event, with their actions, and answers how many they were.
     pub fn cancel(&mut self, ct: Handle) -> u32
         ensures number { result ≡ length (waiting_on ct self.old) }
         ensures rest { self.new ≡ cancelled ct self.old }

@@ -6,7 +6,7 @@ ghost use Rattle.std.specs.Prelude.{◌≡◌, ℕ, ◌<◌, ◌≤◌, ◌+◌,
 ghost use Rattle.chain_list.specs.threads.Threads.{thread as thread_at, first_place, last_place};
 ghost use Rattle.ptl_types.specs.Handles.{same_handle};
 ghost use Rattle.triggered_ops.specs.declared.spots.Wait.{Wait};
-ghost use Rattle.triggered_ops.specs.Layout.{spotted, settled, wait_at};
+ghost use Rattle.triggered_ops.specs.Layout.{spotted, noted_due, wait_at};
 ghost use Rattle.triggered_ops.specs.Hung.{belongs, home, threshold_of, IsHung, WaitsOn, EachOn};
 
 use crate::spots::Spots;
@@ -111,13 +111,13 @@ pub fn make_due<D>(
     requires first { first_place (thread_at (2 * ct.slot + 1) threads.old) ≡ Some place }
     requires within { length spots.old.spots ≤ threads.old.places }
     ensures hung { IsHung (wait_at spots.new.spots) threads.new stamps.now }
-    ensures spots { spots.new ≡ spotted (settled place true spots.old.spots) spots.old.room }
+    ensures spots { spots.new ≡ spotted (noted_due place true spots.old.spots) spots.old.room }
     ensures places { threads.new.places ≡ threads.old.places }
     ensures fewer { length (thread_at (2 * ct.slot + 1) threads.new) < length (thread_at (2 * ct.slot + 1) threads.old) }
 {
     threads.unlink(place);
     threads.push_back(home(stamps, ct, true), place);
-    spots.settle(place, true);
+    spots.note_due(place, true);
 }
 
 /// The last of those that are due becomes the first of those that aren't.
@@ -134,13 +134,13 @@ pub fn make_undue<D>(
     requires last { last_place (thread_at (2 * ct.slot) threads.old) ≡ Some place }
     requires within { length spots.old.spots ≤ threads.old.places }
     ensures hung { IsHung (wait_at spots.new.spots) threads.new stamps.now }
-    ensures spots { spots.new ≡ spotted (settled place false spots.old.spots) spots.old.room }
+    ensures spots { spots.new ≡ spotted (noted_due place false spots.old.spots) spots.old.room }
     ensures places { threads.new.places ≡ threads.old.places }
     ensures fewer { length (thread_at (2 * ct.slot) threads.new) < length (thread_at (2 * ct.slot) threads.old) }
 {
     threads.unlink(place);
     threads.insert(home(stamps, ct, false), None, place);
-    spots.settle(place, false);
+    spots.note_due(place, false);
 }
 
 /// Whether an operation waits at a place, and on this counting event.

@@ -6,7 +6,7 @@ ghost use Rattle.std.specs.List.{swap};
 ghost use Rattle.chain_list.specs.threads.Threads.{thread as thread_at, is_on, is_threaded, AreApart};
 ghost use Rattle.ptl_types.specs.Handles.{same_handle};
 ghost use Rattle.triggered_ops.specs.declared.spots.Wait.{Wait};
-ghost use Rattle.triggered_ops.specs.Operations.{deed_of, waits_on};
+ghost use Rattle.triggered_ops.specs.Operations.{action_of, waits_on};
 ghost use Rattle.triggered_ops.specs.Layout.{spotted, emptied, packed, numbers_of, operations_in, op_at, wait_at, operation_for};
 ghost use Rattle.triggered_ops.specs.Hung.{belongs, next_in, rest_after, threshold_of, Ascending, IsHung, IsGap, IsPacking, IsSame};
 ghost use Rattle.triggered_ops.specs.Hung.{IsThinner, WaitsOn, IsLow, IsHigh};
@@ -23,7 +23,7 @@ pub fn take_out<D>(spots: &mut Spots<D>, threads: &mut Threads, place: u32) -> O
     ensures hung { (stamps : List ℕ) → IsHung (wait_at spots.old.spots) threads.old stamps
         → IsHung (wait_at spots.new.spots) threads.new stamps }
     ensures places { threads.new.places ≡ threads.old.places }
-    ensures value { result ≡ option_map deed_of (op_at spots.old.spots place) }
+    ensures value { result ≡ option_map action_of (op_at spots.old.spots place) }
     ensures rest { spots.new ≡ spotted (emptied place spots.old.spots) spots.old.room }
 {
     threads.unlink(place);
@@ -274,7 +274,7 @@ pub fn put_in<D>(
     threads: &mut Threads,
     stamps: &[u64],
     number: u32,
-    deed: D,
+    action: D,
     wait: Wait,
 )
     requires hung { IsHung (wait_at spots.old.spots) threads.old stamps.now }
@@ -285,12 +285,12 @@ pub fn put_in<D>(
     requires high { IsHigh wait (wait_at spots.old.spots) }
     ensures hung { IsHung (wait_at spots.new.spots) threads.new stamps.now }
     ensures places { threads.new.places ≡ threads.old.places }
-    ensures value { operations_in spots.new.spots ≡ operations_in spots.old.spots ++ operation_for number wait deed ∷ [] }
+    ensures value { operations_in spots.new.spots ≡ operations_in spots.old.spots ++ operation_for number wait action ∷ [] }
     ensures numbers { numbers_of spots.new.spots ≡ numbers_of spots.old.spots ++ number ∷ [] }
     ensures same { spots.new.room ≡ spots.old.room }
 {
     hang(spots, threads, stamps, wait, spots.len());
-    spots.push(number, deed, wait);
+    spots.push(number, action, wait);
 }
 
 /// Takes the operations that wait on a counting event off their lists and out of their places.

@@ -4,9 +4,9 @@ ghost use Rattle.std.specs.Prelude.{◌≡◌, ℕ, ◌<◌, ◌≤◌, ◌^◌,
 ghost use Rattle.std.specs.Prelude.{option_map};
 ghost use Rattle.std.specs.Prelude.{◌++◌, ◌∷◌, [], AllPairs, length, take, map, filter, find, slice_get, slice_index_or};
 ghost use Rattle.std.specs.List.{swap};
-ghost use Rattle.triggered_ops.specs.Operations.{shown, numbered, deed_of, is_due, is_due_op, is_number};
+ghost use Rattle.triggered_ops.specs.Operations.{shown, numbered, action_of, is_due, is_due_op, is_number};
 ghost use Rattle.triggered_ops.specs.Hung.{threshold_of};
-ghost use Rattle.triggered_ops.specs.Layout.{spotted, no_spots, numbers_of, operations_in, op_at, op_of, wait_of, wait_at, settled};
+ghost use Rattle.triggered_ops.specs.Layout.{spotted, no_spots, numbers_of, operations_in, op_at, op_of, wait_of, wait_at, noted_due};
 ghost use Rattle.triggered_ops.specs.Layout.{emptied};
 ghost use Rattle.triggered_ops.specs.Layout.{spot_for, AreGone, StandsAt, AreBelow, AreFrom};
 
@@ -34,7 +34,7 @@ pub struct Spot<D> {
     stamp: u64,
     threshold: u64,
     due: bool,
-    deed: Option<D>,
+    action: Option<D>,
 }
 
 /// The places so far and room for more, and a mark at each whose operation is due.
@@ -64,7 +64,7 @@ impl<D> Model for Spots<D> {
 fn wait_of<D>(spot: &Spot<D>) -> Option<Wait>
     ensures { result ≡ wait_of spot.now }
 {
-    match &spot.deed {
+    match &spot.action {
         Some(_) => Some(Wait {
             ct: Handle {
                 slot: spot.slot,
@@ -154,8 +154,8 @@ fn shown_of<D>(spot: &Spot<D>) -> Option<(&D, Handle, u64)>
         slot: spot.slot,
         stamp: spot.stamp,
     };
-    match &spot.deed {
-        Some(deed) => Some((deed, ct, spot.threshold)),
+    match &spot.action {
+        Some(action) => Some((action, ct, spot.threshold)),
         None => None,
     }
 }
@@ -164,7 +164,7 @@ fn shown_of<D>(spot: &Spot<D>) -> Option<(&D, Handle, u64)>
 fn is_due_in<D>(spot: &Spot<D>) -> bool
     ensures { result ≡ is_due_op (op_of spot.now) }
 {
-    match &spot.deed {
+    match &spot.action {
         Some(_) => spot.due,
         None => false,
     }
@@ -240,7 +240,7 @@ impl<D> Spots<D> {
         }
     }
 
-    /// The deed, the counting event and the threshold of the operation at a place; `None` exactly where none waits there.
+    /// The action, the counting event and the threshold of the operation at a place; `None` exactly where none waits there.
     pub fn get(&self, place: u32) -> Option<(&D, Handle, u64)>
         ensures found { IfSome result (λ p. option_map shown (op_at self.now.spots place) ≡ Some (p.0.now, p.1, p.2)) }
         ensures none { IfNone result (op_at self.now.spots place ≡ None) }
@@ -258,7 +258,7 @@ impl<D> Spots<D> {
         ensures none { IfNone result (op_at self.now.spots place ≡ None) }
     {
         match self.get(place) {
-            Some((deed, ct, threshold)) => Some((self.number(place), deed, ct, threshold)),
+            Some((action, ct, threshold)) => Some((self.number(place), action, ct, threshold)),
             None => None,
         }
     }
@@ -296,18 +296,18 @@ impl<D> Spots<D> {
     }
 
     /// Notes whether the operation at a place is due.
-    pub fn settle(&mut self, place: u32, due: bool)
+    pub fn note_due(&mut self, place: u32, due: bool)
         requires { IsSome (wait_at self.old.spots place) }
-        ensures { self.new ≡ spotted (settled place due self.old.spots) self.old.room }
+        ensures { self.new ≡ spotted (noted_due place due self.old.spots) self.old.room }
     {
         self.spots[place as usize].due = due;
         self.marks.mark(place as usize, due);
     }
 
     /// Puts an operation at a further place.
-    pub fn push(&mut self, number: u32, deed: D, wait: Wait)
+    pub fn push(&mut self, number: u32, action: D, wait: Wait)
         requires { length self.old.spots < self.old.room }
-        ensures { self.new ≡ spotted (self.old.spots ++ spot_for number wait deed ∷ []) self.old.room }
+        ensures { self.new ≡ spotted (self.old.spots ++ spot_for number wait action ∷ []) self.old.room }
     {
         let place = self.spots.len();
         self.spots.push_reserved(Spot {
@@ -316,7 +316,7 @@ impl<D> Spots<D> {
             stamp: wait.ct.stamp,
             threshold: wait.threshold,
             due: wait.due,
-            deed: Some(deed),
+            action: Some(action),
         });
         self.marks.mark(place, wait.due);
         self.waiting += 1;
@@ -325,12 +325,12 @@ impl<D> Spots<D> {
     /// Takes the operation at a place out.
     pub fn take(&mut self, place: u32) -> Option<D>
         requires { IsSome (wait_at self.old.spots place) }
-        ensures value { result ≡ option_map deed_of (op_at self.old.spots place) }
+        ensures value { result ≡ option_map action_of (op_at self.old.spots place) }
         ensures rest { self.new ≡ spotted (emptied place self.old.spots) self.old.room }
     {
         self.marks.mark(place as usize, false);
         self.waiting -= 1;
-        self.spots[place as usize].deed.take()
+        self.spots[place as usize].action.take()
     }
 
     /// Moves the operation at a place to an earlier one, where none waits.

@@ -69,7 +69,7 @@ fn tell_one<D>(
 {
     if waits_on(spots, ct, place) {
         let due = spots.threshold(place) <= sum;
-        spots.settle(place, due);
+        spots.note_due(place, due);
     }
 }
 

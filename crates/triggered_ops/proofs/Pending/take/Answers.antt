@@ -1,6 +1,6 @@
 use Rattle.std.proofs.Common.{◌≡◌, true, Option, Some, None, length, refl, sym, ap, ◌∙◌, arith}
 use Rattle.std.specs.Prelude.{IfNone, is_some, option_map}
-use Rattle.triggered_ops.specs.Operations.{Operation, deed_of}
+use Rattle.triggered_ops.specs.Operations.{Operation, action_of}
 use Rattle.triggered_ops.specs.Layout.{Spotted, numbers_of, operations_in, op_at, wait_at}
 use Rattle.triggered_ops.proofs.Rising.{without-absent}
 use Rattle.triggered_ops.proofs.Laid.{laid-same}
@@ -14,7 +14,7 @@ waiting_at-requires g c = c.self.invariant.rising
 
 -- ---- it doesn't wait
 pub returns-in-None-clause-value : goal.returns-in-None-clause-value
-returns-in-None-clause-value g c = rw (← c.self.view_is) (sym (ap (option_map deed_of) c.in-None.ensures.none))
+returns-in-None-clause-value g c = rw (← c.self.view_is) (sym (ap (option_map action_of) c.in-None.ensures.none))
 
 pub returns-in-None-clause-rest : goal.returns-in-None-clause-rest
 returns-in-None-clause-rest g c = sym (without-absent c.args.number c.args.self.now (rw (← c.self.view_is) c.in-None.ensures.none))
@@ -43,7 +43,7 @@ invariant_of-self g c =
 pub returns-in-Some-clause-value : goal.returns-in-Some-clause-value
 returns-in-Some-clause-value g c =
     let f = c.in-Some.ensures.found in
-    rw (← c.self.view_is) (c.take_out.ensures.value ∙ sym (ap (option_map deed_of)
+    rw (← c.self.view_is) (c.take_out.ensures.value ∙ sym (ap (option_map action_of)
     (found-here c.self.inside.spots.spots c.args.number c.in-Some.place c.self.invariant.rising f)))
 
 pub returns-in-Some-clause-rest : goal.returns-in-Some-clause-rest
@@ -56,8 +56,8 @@ returns-in-Some-clause-rest g c =
           c.self.invariant.rising f,
     ) refl
 
--- what waits has a deed
-some-taken : {D : Type 0} (o : Option (Operation D)) (r : Option D) (P : Type 0) → r ≡ option_map deed_of o → is_some o ≡ true → IfNone r P
+-- what waits has an action
+some-taken : {D : Type 0} (o : Option (Operation D)) (r : Option D) (P : Type 0) → r ≡ option_map action_of o → is_some o ≡ true → IfNone r P
 some-taken None r P e some = cc
 some-taken (Some o) None P e some = cc
 some-taken (Some o) (Some d) P e some = tt

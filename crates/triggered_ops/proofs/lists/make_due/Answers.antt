@@ -4,7 +4,7 @@ use Rattle.chain_list.specs.threads.Threads.{Woven, thread, is_threaded, without
 use Rattle.triggered_ops.specs.Layout.{Spotted, wait_at}
 use Rattle.triggered_ops.proofs.Hanging.{home-due, length-taken, thread-without}
 use Rattle.triggered_ops.proofs.Moving.{home-thread, on-first, waits-on, threaded, left-free, made-due}
-use Rattle.triggered_ops.proofs.Places.{settled-at, wait-within}
+use Rattle.triggered_ops.proofs.Places.{noted-at, wait-within}
 use Rattle.triggered_ops.proofs.lists.make_due.Goals as goal
 
 pub unlink-requires : goal.unlink-requires
@@ -34,8 +34,8 @@ push_back-requires-clause-free g c =
     ap (is_threaded c.args.place) c.unlink.ensures ∙ left-free (wait_at c.args.spots.now.spots) c.args.threads.now c.args.stamps.now
     c.requires.hung c.args.ct c.requires.belongs c.args.place
 
-pub settle-requires : goal.settle-requires
-settle-requires g c =
+pub note_due-requires : goal.note_due-requires
+note_due-requires g c =
     let at = wait_at c.args.spots.now.spots in
     waits-on at c.args.threads.now c.args.stamps.now c.requires.hung (2 * c.args.ct.slot + 1) c.args.place
     (on-first at c.args.threads.now c.args.stamps.now c.requires.hung (2 * c.args.ct.slot + 1) c.args.place c.requires.first)
@@ -44,8 +44,8 @@ pub returns-clause-hung : goal.returns-clause-hung
 returns-clause-hung g c =
     let at = wait_at c.args.spots.now.spots in
     made-due at c.args.threads.now c.args.stamps.now c.requires.hung c.args.ct c.requires.belongs c.args.place c.requires.first
-    (wait_at c.settle.new.self.spots) c.push_back.new.self
-    (λ q. ap (λ (s : Spotted _). wait_at s.spots q) c.settle.ensures ∙ settled-at c.args.place true c.args.spots.now.spots q)
+    (wait_at c.note_due.new.self.spots) c.push_back.new.self
+    (λ q. ap (λ (s : Spotted _). wait_at s.spots q) c.note_due.ensures ∙ noted-at c.args.place true c.args.spots.now.spots q)
     (c.push_back.ensures ∙ (λ i. with_place ((c.home.ensures ∙ home-due c.args.stamps.now c.args.ct c.requires.belongs) i) c.args.place
     (c.unlink.ensures i)))
 

@@ -18,7 +18,7 @@ invariant_of-self g c =
     let long : vec_len c.self.inside.spots ≡ length c.self.inside.spots.items = omega (arith, c.self.inside.spots.ok.0) in
     rw (c.push_reserved.ensures.items, c.push_reserved.ensures.capacity, c.mark.ensures, c.len-place.ensures, long)
     (spotted-pushed c.self.inside.spots.items c.self.inside.marks c.self.inside.waiting c.self.inside.room
-    (vec_capacity c.self.inside.spots) c.self.invariant _ c.args.deed (c.self.inside.waiting + 1) refl room refl)
+    (vec_capacity c.self.inside.spots) c.self.invariant _ c.args.action (c.self.inside.waiting + 1) refl room refl)
 
 pub returns : goal.returns
 returns g c = rw (← c.self.view_is, c.push_reserved.ensures.items) refl

@@ -2,9 +2,9 @@ use Rattle.std.specs.Prelude.{vec_capacity}
 use Rattle.std.proofs.Common.{◌≡◌, ◌-◌, true, None, set, get_or, sym, ap, subst, ◌∙◌, arith}
 use Rattle.std.specs.Prelude.{is_some, option_map}
 use Rattle.triggered_ops.specs.declared.spots.Spot.{Spot}
-use Rattle.triggered_ops.specs.Operations.{deed_of}
+use Rattle.triggered_ops.specs.Operations.{action_of}
 use Rattle.triggered_ops.specs.Layout.{Spotted, spotted, wait_at, emptied, IsSpotted}
-use Rattle.triggered_ops.proofs.Places.{changed-set, op-get, deed-is}
+use Rattle.triggered_ops.proofs.Places.{changed-set, op-get, action-is}
 use Rattle.triggered_ops.proofs.Spotting.{spot-within, spotted-emptied, waits-some}
 use Rattle.triggered_ops.proofs.spots.Spots.take.Goals as goal
 
@@ -36,9 +36,9 @@ invariant_of-self g c =
     let found = c.index_mut.result.now in
     let some = waits-some c.self.inside.spots.items c.self.inside.marks c.self.inside.waiting c.self.inside.room
     (vec_capacity c.self.inside.spots) c.self.invariant c.args.place e in
-    let is : set s.spots.items c.args.place (record found { deed = c.take.new.self }) ≡ emptied c.args.place s.spots.items =
-    (λ i. set s.spots.items c.args.place (record (c.index_mut.ensures.value i) { deed = c.take.ensures.after i }))
-    ∙ changed-set (λ t. record t { deed = None }) c.args.place s.spots.items found w.0 in
+    let is : set s.spots.items c.args.place (record found { action = c.take.new.self }) ≡ emptied c.args.place s.spots.items =
+    (λ i. set s.spots.items c.args.place (record (c.index_mut.ensures.value i) { action = c.take.ensures.after i }))
+    ∙ changed-set (λ t. record t { action = None }) c.args.place s.spots.items found w.0 in
     rw c.mark.ensures (subst (λ l. IsSpotted l (set s.marks c.args.place 0) (s.waiting - 1) s.room (vec_capacity s.spots)) (sym is)
     (spotted-emptied c.self.inside.spots.items c.self.inside.marks c.self.inside.waiting c.self.inside.room
     (vec_capacity c.self.inside.spots) c.self.invariant c.args.place (s.waiting - 1) e (omega (arith, some))))
@@ -50,8 +50,8 @@ returns-clause-value g c =
     let w = spot-within c.self.inside.spots.items c.self.inside.marks c.self.inside.waiting c.self.inside.room
     (vec_capacity c.self.inside.spots) c.self.invariant c.args.place e in
     let found = c.index_mut.result.now in
-    rw (← c.self.view_is) (c.take.ensures.value ∙ ap (λ (t : Spot _). t.deed) c.index_mut.ensures.value
-    ∙ deed-is (get_or s.spots.items c.args.place found) ∙ sym (ap (option_map deed_of) (op-get s.spots.items c.args.place found w.0)))
+    rw (← c.self.view_is) (c.take.ensures.value ∙ ap (λ (t : Spot _). t.action) c.index_mut.ensures.value
+    ∙ action-is (get_or s.spots.items c.args.place found) ∙ sym (ap (option_map action_of) (op-get s.spots.items c.args.place found w.0)))
 
 pub returns-clause-rest : goal.returns-clause-rest
 returns-clause-rest g c =
@@ -60,7 +60,7 @@ returns-clause-rest g c =
     let w = spot-within c.self.inside.spots.items c.self.inside.marks c.self.inside.waiting c.self.inside.room
     (vec_capacity c.self.inside.spots) c.self.invariant c.args.place e in
     let found = c.index_mut.result.now in
-    let is : set s.spots.items c.args.place (record found { deed = c.take.new.self }) ≡ emptied c.args.place s.spots.items =
-    (λ i. set s.spots.items c.args.place (record (c.index_mut.ensures.value i) { deed = c.take.ensures.after i }))
-    ∙ changed-set (λ t. record t { deed = None }) c.args.place s.spots.items found w.0 in
+    let is : set s.spots.items c.args.place (record found { action = c.take.new.self }) ≡ emptied c.args.place s.spots.items =
+    (λ i. set s.spots.items c.args.place (record (c.index_mut.ensures.value i) { action = c.take.ensures.after i }))
+    ∙ changed-set (λ t. record t { action = None }) c.args.place s.spots.items found w.0 in
     rw (← c.self.view_is) (ap (λ l. spotted l s.room) is)
