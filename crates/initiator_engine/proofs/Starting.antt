@@ -22,7 +22,7 @@ use Rattle.ni_model.specs.Append.{need}
 use Rattle.ni_model.specs.Answers.{Home, home, bound_at}
 use Rattle.ni_model.specs.Starts.{header_of, put_header, get_header, fetch_header, put_args, bytes_read, counted_on, send_counter}
 use Rattle.ni_model.specs.Starts.{sent_from, started, started_by}
-use Rattle.ni_model.specs.Refusals.{deed_fault}
+use Rattle.ni_model.specs.Refusals.{action_fault}
 use Rattle.ni_model.specs.Conditions.{MayStart}
 use Rattle.initiator_engine.specs.Initiators.{is_start, room_for, args_fit, args_length, args_bytes, has_started}
 
@@ -47,7 +47,7 @@ both-right : (a b : Bool) → (a && b) ≡ true → b ≡ true
 both-right true b e = e
 both-right false b e = cc
 
-pub args-fit : (d : TriggeredOp) (mds : Table Bound) → deed_fault d mds ≡ None → args_fit (put_args d) mds ≡ true
+pub args-fit : (d : TriggeredOp) (mds : Table Bound) → action_fault d mds ≡ None → args_fit (put_args d) mds ≡ true
 args-fit (Put a) mds e = need-test _ _ _ (need-later _ _ _ e)
 args-fit (Get g) mds e = refl
 args-fit (Atomic a op ty) mds e = need-test _ _ _ (need-later _ _ _ e)

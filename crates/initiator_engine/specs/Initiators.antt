@@ -41,7 +41,7 @@ abbrev pub by_fault : Option NiFault → Result (Unit {0}) NiFault
 by_fault None = Ok tt
 by_fault (Some fault) = Err fault
 
--- the deed starts an operation; the others count
+-- the action starts an operation; the others count
 abbrev pub is_start : TriggeredOp → Bool
 is_start (Inc ct by) = false
 is_start (Set ct to) = false

@@ -95,7 +95,7 @@ pub fn counter_home(header: &Header, bound: &Bound) -> Option<Handle>
 }
 
 /// The first byte that a reply wrote, in bytes of the region; 0 where it wrote none.
-fn place_home(header: &Header, bound: &Bound) -> u64
+fn first_byte_home(header: &Header, bound: &Bound) -> u64
     requires due { is_due header.now bound.now ≡ true }
     requires part { bound.now.md.start + bound.now.md.length ≤ top }
     ensures { result ≡ (answer_event bound.now header.now).place }
@@ -125,7 +125,7 @@ fn answer_event(header: &Header, bound: &Bound) -> Event
         hdr_data: header.hdr_data,
         requested: 0,
         delivered: header.length,
-        place: place_home(header, bound),
+        place: first_byte_home(header, bound),
         ok: header.ok,
     }
 }

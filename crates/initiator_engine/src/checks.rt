@@ -1,8 +1,8 @@
-//! Whether the descriptors of a deed are live and hold the parts that it names.
+//! Whether the descriptors of an action are live and hold the parts that it names.
 
 ghost use Rattle.std.specs.Prelude.{◌≡◌};
 ghost use Rattle.ni_model.specs.Tables.{is_live};
-ghost use Rattle.ni_model.specs.Refusals.{holds_part, put_fits, get_fits, deed_is_live, deed_fits};
+ghost use Rattle.ni_model.specs.Refusals.{holds_part, put_fits, get_fits, action_is_live, action_fits};
 
 use crate::answers::bound_of;
 use ni_model::Bound;
@@ -43,11 +43,11 @@ fn get_fits(mds: &Store<Bound>, args: &GetArgs) -> bool
     holds_part(bound_of(mds, Some(args.md)), args.local_offset, args.length)
 }
 
-/// Whether the descriptors that a deed names are live.
-pub fn deed_is_live(mds: &Store<Bound>, deed: &TriggeredOp) -> bool
-    ensures { result ≡ deed_is_live deed.now mds.now }
+/// Whether the descriptors that an action names are live.
+pub fn action_is_live(mds: &Store<Bound>, action: &TriggeredOp) -> bool
+    ensures { result ≡ action_is_live action.now mds.now }
 {
-    match deed {
+    match action {
         TriggeredOp::Put(args) => is_live(mds, args.md),
         TriggeredOp::Get(args) => is_live(mds, args.md),
         TriggeredOp::Atomic(args, _, _) => is_live(mds, args.md),
@@ -58,11 +58,11 @@ pub fn deed_is_live(mds: &Store<Bound>, deed: &TriggeredOp) -> bool
     }
 }
 
-/// Whether the parts that a deed names lie in their descriptors.
-pub fn deed_fits(mds: &Store<Bound>, deed: &TriggeredOp) -> bool
-    ensures { result ≡ deed_fits deed.now mds.now }
+/// Whether the parts that an action names lie in their descriptors.
+pub fn action_fits(mds: &Store<Bound>, action: &TriggeredOp) -> bool
+    ensures { result ≡ action_fits action.now mds.now }
 {
-    match deed {
+    match action {
         TriggeredOp::Put(args) => put_fits(mds, args),
         TriggeredOp::Get(args) => get_fits(mds, args),
         TriggeredOp::Atomic(args, _, _) => put_fits(mds, args),

@@ -95,11 +95,11 @@ fn fetch_header(rank: Rank, back: &GetArgs, args: &PutArgs, change: Change) -> H
     }
 }
 
-/// The header of a deed that starts an operation; none of one that counts.
-pub fn header_of(rank: Rank, deed: &TriggeredOp) -> Option<Header>
-    ensures { result ≡ header_of rank deed.now }
+/// The header of an action that starts an operation; none of one that counts.
+pub fn header_of(rank: Rank, action: &TriggeredOp) -> Option<Header>
+    ensures { result ≡ header_of rank action.now }
 {
-    match deed {
+    match action {
         TriggeredOp::Put(args) => Some(put_header(
             rank,
             MessageKind::Put,
@@ -135,11 +135,11 @@ pub fn header_of(rank: Rank, deed: &TriggeredOp) -> Option<Header>
     }
 }
 
-/// The arguments of what the deed sends.
-pub fn put_args(deed: &TriggeredOp) -> Option<PutArgs>
-    ensures { result ≡ put_args deed.now }
+/// The arguments of what the action sends.
+pub fn put_args(action: &TriggeredOp) -> Option<PutArgs>
+    ensures { result ≡ put_args action.now }
 {
-    match deed {
+    match action {
         TriggeredOp::Put(args) => Some(*args),
         TriggeredOp::Atomic(args, _, _) => Some(*args),
         TriggeredOp::FetchAtomic(_, args, _, _) => Some(*args),
@@ -149,10 +149,10 @@ pub fn put_args(deed: &TriggeredOp) -> Option<PutArgs>
 }
 
 /// The descriptor that the start counts on and tells.
-pub fn counted_on(deed: &TriggeredOp) -> Option<Handle>
-    ensures { result ≡ counted_on deed.now }
+pub fn counted_on(action: &TriggeredOp) -> Option<Handle>
+    ensures { result ≡ counted_on action.now }
 {
-    match deed {
+    match action {
         TriggeredOp::Put(args) => Some(args.md),
         TriggeredOp::Get(args) => Some(args.md),
         TriggeredOp::Atomic(args, _, _) => Some(args.md),

@@ -5,14 +5,14 @@ ghost use Rattle.ni_model.specs.Tables.{no_things, lookup, with_new, without, ha
 ghost use Rattle.ni_model.specs.Calls.{bound, awaits_of};
 ghost use Rattle.ni_model.specs.Answers.{home, answered, bound_at, is_awaited};
 ghost use Rattle.ni_model.specs.Starts.{started, sent_from, counted_on, send_counter};
-ghost use Rattle.ni_model.specs.Refusals.{bind_fault, deed_fault, own_release_fault, md_names_ct, md_names_eq};
+ghost use Rattle.ni_model.specs.Refusals.{bind_fault, action_fault, own_release_fault, md_names_ct, md_names_eq};
 ghost use Rattle.ni_model.specs.Conditions.{MayStart};
 ghost use Rattle.ni_objects.specs.users.Rows.{IsAlone, HasOwnSlot};
 ghost use Rattle.initiator_engine.specs.Initiators.{initiating, with_mds, AreBoundIn, by_fault, is_start, room_for, has_started};
 ghost use Rattle.initiator_engine.specs.Initiators.{has_returned};
 
 use crate::answers::{await_less, bound_of, bring, counter_home, is_due, one_answer, raise_answer};
-use crate::checks::{deed_fits, deed_is_live, is_live};
+use crate::checks::{action_fits, action_is_live, is_live};
 use crate::headers::{counted_on, header_of, put_args};
 use crate::named::some_awaits;
 use crate::starts::{await_more, read_bytes, send_counter, send_event, send_queue};
@@ -70,14 +70,14 @@ fn started_with(
     mds: &mut Store<Bound>,
     cts: &mut Store<Counter>,
     eqs: &mut Store<Queue>,
-    deed: &TriggeredOp,
+    action: &TriggeredOp,
     header: &Header,
 ) -> Option<Handle>
-    ensures sent { (memory : List ℕ) → home mds.new memory cts.new eqs.new ≡ sent_from (home mds.old memory cts.old eqs.old) deed.now
+    ensures sent { (memory : List ℕ) → home mds.new memory cts.new eqs.new ≡ sent_from (home mds.old memory cts.old eqs.old) action.now
         header.now }
-    ensures counted { result ≡ send_counter (bound_at (counted_on deed.now) mds.old) }
+    ensures counted { result ≡ send_counter (bound_at (counted_on action.now) mds.old) }
 {
-    let bound = bound_of(mds, counted_on(deed));
+    let bound = bound_of(mds, counted_on(action));
     let ct = send_counter(bound);
     await_more(mds, header.home);
     count(cts, ct, successes(1));
@@ -233,15 +233,15 @@ impl Initiator {
         self.eqs.is_used(eq.slot)
     }
 
-    /// Whether the deed may start as far as its descriptors go: `Stale` where one of them isn't bound, `OutOfRegion` where a
+    /// Whether the action may start as far as its descriptors go: `Stale` where one of them isn't bound, `OutOfRegion` where a
     /// part that it names reaches past its descriptor.
-    pub fn check(&self, deed: &TriggeredOp) -> Result<(), NiFault>
-        ensures value { result ≡ by_fault (deed_fault deed.now self.now.mds) }
+    pub fn check(&self, action: &TriggeredOp) -> Result<(), NiFault>
+        ensures value { result ≡ by_fault (action_fault action.now self.now.mds) }
     {
-        if !deed_is_live(&self.mds, deed) {
+        if !action_is_live(&self.mds, action) {
             return Err(NiFault::Stale);
         }
-        if !deed_fits(&self.mds, deed) {
+        if !action_fits(&self.mds, action) {
             return Err(NiFault::OutOfRegion);
         }
         Ok(())
@@ -255,25 +255,25 @@ impl Initiator {
         region: &Region,
         cts: &mut Store<Counter>,
         eqs: &mut Store<Queue>,
-        deed: &TriggeredOp,
+        action: &TriggeredOp,
         room: Bytes,
     ) -> (Message, Option<Handle>)
-        requires start { is_start deed.now ≡ true }
-        requires may { MayStart deed.now self.old.ranks self.old.limits }
-        requires checked { deed_fault deed.now self.old.mds ≡ None }
-        requires room { room_for deed.now ≤ room.room }
+        requires start { is_start action.now ≡ true }
+        requires may { MayStart action.now self.old.ranks self.old.limits }
+        requires checked { action_fault action.now self.old.mds ≡ None }
+        requires room { room_for action.now ≤ room.room }
         requires inside { AreBoundIn (length region.now) self.old.mds }
         ensures started { has_started (home self.new.mds region.now cts.new eqs.new) result.0 result.1 ≡ started self.old.rank
-            (home self.old.mds region.now cts.old eqs.old) deed.now }
+            (home self.old.mds region.now cts.old eqs.old) action.now }
         ensures rest { self.new ≡ with_mds self.new.mds self.old }
     {
-        let header = match header_of(self.rank, deed) {
+        let header = match header_of(self.rank, action) {
             Some(header) => header,
             None => unreachable!(),
         };
-        let bytes = read_bytes(region, &self.mds, put_args(deed), room);
+        let bytes = read_bytes(region, &self.mds, put_args(action), room);
         let message = Message::new(header, bytes);
-        let counted = started_with(&mut self.mds, cts, eqs, deed, &header);
+        let counted = started_with(&mut self.mds, cts, eqs, action, &header);
         (message, counted)
     }
 

@@ -9,11 +9,11 @@ use Rattle.initiator_engine.proofs.initiator.Initiator.start.Goals as goal
 
 pub new-message-requires : goal.new-message-requires
 new-message-requires c =
-    let e : header_of c.self.inside.rank c.args.deed.now ≡ Some c.in-Some.header = sym c.header_of.ensures ∙ c.in-Some.is in
-    let len : length c.read_bytes-bytes.result.list ≡ args_length (put_args c.args.deed.now) =
+    let e : header_of c.self.inside.rank c.args.action.now ≡ Some c.in-Some.header = sym c.header_of.ensures ∙ c.in-Some.is in
+    let len : length c.read_bytes-bytes.result.list ≡ args_length (put_args c.args.action.now) =
     rw (← c.put_args.ensures) c.read_bytes-bytes.ensures.length in
-    let room : room_for c.args.deed.now ≤ c.read_bytes-bytes.result.room = rw c.read_bytes-bytes.ensures.room c.requires.room in
-    start-fills c.self.inside.rank c.args.deed.now c.in-Some.header c.read_bytes-bytes.result c.args.self.now.ranks c.args.self.now.limits
+    let room : room_for c.args.action.now ≤ c.read_bytes-bytes.result.room = rw c.read_bytes-bytes.ensures.room c.requires.room in
+    start-fills c.self.inside.rank c.args.action.now c.in-Some.header c.read_bytes-bytes.result c.args.self.now.ranks c.args.self.now.limits
     e c.requires.may len room
 
 pub invariant_of-self : goal.invariant_of-self
@@ -26,7 +26,7 @@ invariant_of-self c =
 pub returns-clause-started : goal.returns-clause-started
 returns-clause-started c =
     let i = c.self.inside in
-    let d = c.args.deed.now in
+    let d = c.args.action.now in
     let h = c.in-Some.header in
     let p = home i.mds c.args.region.now c.args.cts.now c.args.eqs.now in
     let bytes : c.read_bytes-bytes.result.list ≡ bytes_read p d = c.read_bytes-bytes.ensures.list
