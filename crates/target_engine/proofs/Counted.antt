@@ -16,7 +16,7 @@ use Rattle.ni_model.specs.declared.Found.{Found}
 use Rattle.ni_model.specs.declared.IndexedHeader.{IndexedHeader}
 use Rattle.ni_model.specs.Tables.{Live, Table, lookup, handle, with_new, no_things}
 use Rattle.ni_model.specs.Lists.{Index, index_at, queue_of, with_list}
-use Rattle.ni_model.specs.Arrive.{is_over, entries_after, settled_at, indices_after, headers_after, delivered, place}
+use Rattle.ni_model.specs.Arrive.{is_over, entries_after, updated_at, indices_after, headers_after, delivered, place}
 use Rattle.ni_model.specs.Append.{linked_at}
 use Rattle.ni_model.specs.Calls.{new_index, unlinked_in}
 use Rattle.ni_model.specs.Headers.{UnexpectedList, unexpected_list, is_of, headers_of}
@@ -234,9 +234,9 @@ counted-unlinked me hs r u once = record {
 }
 
 -- what becomes of the entry that took a message
-pub counted-settled : (f : Found) (h : Header) (hs : List IndexedHeader) (r : Records) → AreCounted hs r → AreOnce r.by_entry →
+pub counted-updated : (f : Found) (h : Header) (hs : List IndexedHeader) (r : Records) → AreCounted hs r → AreOnce r.by_entry →
     AreCounted hs (records_after f h r)
-counted-settled f h hs r u once =
+counted-updated f h hs r u once =
     let me : Handle = f.linked.handle in
     elim (is_over f.linked h) as (λ b. AreCounted hs (record r {
       by_entry = if b then recorded_by me not_linked r.by_entry else r.by_entry;
@@ -273,13 +273,13 @@ pub queues-linked : (pt : ℕ) (list : EntryList) (x : Linked) (is : List (Optio
     Counts (eq_users (slice_set is pt (linked_at list x (index_at pt is)))) e
 queues-linked pt list x is e u = queues-same pt is (linked_at list x (index_at pt is)) e u (queue-linked list x (index_at pt is))
 
-queue-settled : (f : Found) (h : Header) (o : Option Index) → queue_of (settled_at f h o) ≡ queue_of o
-queue-settled f h None = refl
-queue-settled f h (Some i) = queue-list f.list (entries_after f.linked h) i
+queue-updated : (f : Found) (h : Header) (o : Option Index) → queue_of (updated_at f h o) ≡ queue_of o
+queue-updated f h None = refl
+queue-updated f h (Some i) = queue-list f.list (entries_after f.linked h) i
 
-pub queues-settled : (f : Found) (h : Header) (is : List (Option Index)) (e : List ℕ) → Counts (eq_users is) e →
+pub queues-updated : (f : Found) (h : Header) (is : List (Option Index)) (e : List ℕ) → Counts (eq_users is) e →
     Counts (eq_users (indices_after f h is)) e
-queues-settled f h is e u = queues-same h.pt is (settled_at f h (index_at h.pt is)) e u (queue-settled f h (index_at h.pt is))
+queues-updated f h is e u = queues-same h.pt is (updated_at f h (index_at h.pt is)) e u (queue-updated f h (index_at h.pt is))
 
 queue-unlinked : (me : Handle) (o : Option Index) → queue_of (unlinked_in me o) ≡ queue_of o
 queue-unlinked me None = refl

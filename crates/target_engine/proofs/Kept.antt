@@ -24,13 +24,13 @@ use Rattle.ni_model.specs.Append.{fresh, linked_at}
 use Rattle.ni_model.specs.Calls.{unlinked_in, slot_in, entry_slot}
 use Rattle.target_engine.specs.declared.index.Index.{Index as PortalEntry}
 use Rattle.target_engine.specs.declared.entry_records.EntryRecord.{EntryRecord}
-use Rattle.target_engine.specs.PortalTable.{index, seen, seen_in, settled_in, HasLists, IsPortalEntry, IsUnused, MayLink, AreRecorded}
+use Rattle.target_engine.specs.PortalTable.{index, seen, seen_in, updated_in, HasLists, IsPortalEntry, IsUnused, MayLink, AreRecorded}
 use Rattle.target_engine.specs.PortalTable.{IsKept, lies_in, headers_in, frees_at, recorded_by, not_linked, records_with_header}
 use Rattle.target_engine.specs.PortalTable.{unlinked_after, linked_after, one_more, one_fewer}
 use Rattle.target_engine.proofs.Headers.{is_entry, unexpected-at_most, unexpected-all, unexpected-oldest, unexpected-both}
 use Rattle.target_engine.proofs.Records.{given-by, limit-by}
-use Rattle.target_engine.proofs.Recorded.{recorded-slot, settled-handle, recorded-at_most, recorded-headers, recorded-more, recorded-fewer}
-use Rattle.target_engine.proofs.Recorded.{recorded-frees, recorded-none, many-none, recorded-settled, many-settled, recorded-empty}
+use Rattle.target_engine.proofs.Recorded.{recorded-slot, updated-handle, recorded-at_most, recorded-headers, recorded-more, recorded-fewer}
+use Rattle.target_engine.proofs.Recorded.{recorded-frees, recorded-none, many-none, recorded-updated, many-updated, recorded-empty}
 use Rattle.target_engine.proofs.Recorded.{many-empty, recorded-unlinked, one-off, recorded-linked, many-linked, fresh_at, recorded-on}
 use Rattle.target_engine.proofs.Recorded.{linked-anywhere, unlinked-at}
 use Rattle.target_engine.proofs.Views.{seen-on, seen-off, portal_entries-lists, unused-portal_entries, unused-seen}
@@ -167,29 +167,29 @@ pub given-after : (f : Found) (h : Header) (t : Table EntryRecord) → (unlinked
 given-after f h t = elim (is_over f.linked h) as (λ b. (if b then recorded_by f.linked.handle not_linked t else t).given ≡ t.given)
     [ true ↦ given-by f.linked.handle not_linked t | false ↦ refl ]
 
-pub seen-settled : (most linked : ℕ) (f : Found) (h : Header) (is was new : List PortalEntry) (t : Table EntryRecord)
+pub seen-updated : (most linked : ℕ) (f : Found) (h : Header) (is was new : List PortalEntry) (t : Table EntryRecord)
     (hs : UnexpectedList) (s : List (Option Index)) → IsKept most is linked t hs → was ≡ is
-    → seen_in new ≡ slice_set (seen_in was) h.pt (settled_in f h (index_at h.pt (seen_in was))) → seen_in is ≡ s →
+    → seen_in new ≡ slice_set (seen_in was) h.pt (updated_in f h (index_at h.pt (seen_in was))) → seen_in is ≡ s →
     is_linked_at f.list f.linked.handle (index_at h.pt s) ≡ true → seen_in new ≡ indices_after f h (seen_in is)
-seen-settled most linked f h is was new t hs s k e after seen_as there =
+seen-updated most linked f h is was new t hs s k e after seen_as there =
     let at : is_linked_at f.list f.linked.handle (index_at h.pt (seen_in is)) ≡ true = rw seen_as there in
-    after ∙ ap (λ x. slice_set (seen_in x) h.pt (settled_in f h (index_at h.pt (seen_in x)))) e
-    ∙ settled-handle f h (seen_in is) hs.unexpected t k.recorded at
+    after ∙ ap (λ x. slice_set (seen_in x) h.pt (updated_in f h (index_at h.pt (seen_in x)))) e
+    ∙ updated-handle f h (seen_in is) hs.unexpected t k.recorded at
 
-pub kept-settled : (most n linked : ℕ) (f : Found) (h : Header) (is was new : List PortalEntry) (t u : Table EntryRecord)
+pub kept-updated : (most n linked : ℕ) (f : Found) (h : Header) (is was new : List PortalEntry) (t u : Table EntryRecord)
     (hs : UnexpectedList) (s : List (Option Index)) → IsKept most is linked t hs → was ≡ is → length new ≡ n
-    → seen_in new ≡ slice_set (seen_in was) h.pt (settled_in f h (index_at h.pt (seen_in was))) → KeepsPortalEntries was new →
+    → seen_in new ≡ slice_set (seen_in was) h.pt (updated_in f h (index_at h.pt (seen_in was))) → KeepsPortalEntries was new →
     u ≡ unlinked_after f h t → seen_in is ≡ s → is_linked_at f.list f.linked.handle (index_at h.pt s) ≡ true
     → IsKept most (take n (new ++ drop (length new) is)) (linked_after f h linked) u hs
-kept-settled most n linked f h is was new t u hs s k e len after keeps gone seen_as there =
+kept-updated most n linked f h is was new t u hs s k e len after keeps gone seen_as there =
     let at : is_linked_at f.list f.linked.handle (index_at h.pt (seen_in is)) ≡ true = rw seen_as there in
     let recorded : AreRecorded (indices_after f h (seen_in is)) hs.unexpected u =
-    rw gone (recorded-settled f h (seen_in is) hs.unexpected t k.recorded at) in
+    rw gone (recorded-updated f h (seen_in is) hs.unexpected t k.recorded at) in
     let given : u.given ≡ t.given = ap (λ (x : Table EntryRecord). x.given) gone ∙ given-after f h t in
     kept-lent most n (linked_after f h linked) is new (indices_after f h (seen_in is)) u hs len
-    (seen-settled most linked f h is was new t hs s k e after seen_as there) recorded
+    (seen-updated most linked f h is was new t hs s k e after seen_as there) recorded
     (still-portal_entries most linked is was new t u hs k e keeps given) (ap (λ (x : Table EntryRecord). x.limit) gone ∙ limit-after f h t
-    ∙ k.limit) (ap (linked_after f h) k.count ∙ many-settled f h (seen_in is) hs.unexpected t k.recorded at) k.held k.small
+    ∙ k.limit) (ap (linked_after f h) k.count ∙ many-updated f h (seen_in is) hs.unexpected t k.recorded at) k.held k.small
 
 pub kept-at_most : (most linked : ℕ) (is : List PortalEntry) (t : Table EntryRecord) (hs : UnexpectedList) (me : Handle) →
     IsKept most is linked t hs → headers_in (lookup me t.live) < 2 ^ 32

@@ -15,7 +15,7 @@ use Rattle.ni_model.specs.declared.IndexedHeader.{IndexedHeader}
 use Rattle.ni_model.specs.Tables.{Live, Table, lookup, has_slot, handle, with_new, no_things}
 use Rattle.ni_model.specs.Lists.{Index, index_at, entries_in, is_linked, is_linked_at, unlinked, advanced, with_list}
 use Rattle.ni_model.specs.Headers.{names_entry}
-use Rattle.ni_model.specs.Arrive.{is_over, running_after, entries_after, settled_at, indices_after}
+use Rattle.ni_model.specs.Arrive.{is_over, running_after, entries_after, updated_at, indices_after}
 use Rattle.ni_model.specs.Refusals.{is_linked_anywhere}
 use Rattle.ni_model.specs.Append.{fresh, linked_at}
 use Rattle.ni_model.specs.Calls.{slot_in, entry_slot, unlinked_in}
@@ -24,7 +24,7 @@ use Rattle.ni_objects.proofs.users.SumLemmas.{one_if, same-self, number_at, sum-
 use Rattle.target_engine.specs.declared.entry_records.EntryRecord.{EntryRecord}
 use Rattle.target_engine.specs.PortalTable.{entries_by, index_by, linked_by, headers_by, lies_in, linked_as, headers_as, idle_as, is_idle}
 use Rattle.target_engine.specs.PortalTable.{is_on, where_on, headers_in, frees_at, one_more, one_fewer, not_linked, recorded_anew}
-use Rattle.target_engine.specs.PortalTable.{changed_by, recorded_by, unlinked_after, linked_after, advanced_in, settled_in, AreRecorded}
+use Rattle.target_engine.specs.PortalTable.{changed_by, recorded_by, unlinked_after, linked_after, advanced_in, updated_in, AreRecorded}
 use Rattle.target_engine.proofs.Counting.{any_handle, is_handle, is_slot, but, elsewhere, is_linked_anywhere-count, entry_slot-count}
 use Rattle.target_engine.proofs.Counting.{linked-all, linked-unlinked, entries-push, entries-advanced, linked-set, linked-same}
 use Rattle.target_engine.proofs.Counting.{linked-split, unlinked-none, advanced-none, map-at}
@@ -335,7 +335,7 @@ list-over Priority x h i over = rw (entries-over x h i.priority over) refl
 list-over Overflow x h i over = rw (entries-over x h i.overflow over) refl
 
 over-at : (f : Found) (h : Header) (k : ℕ) (o : Option Index) → is_over f.linked h ≡ true → is_linked_at f.list f.linked.handle o ≡ true →
-    index_by (is_handle f.linked.handle) k o ≤ 1 → settled_at f h o ≡ unlinked_in f.linked.handle o
+    index_by (is_handle f.linked.handle) k o ≤ 1 → updated_at f h o ≡ unlinked_in f.linked.handle o
 over-at f h k None over e one = refl
 over-at f h k (Some i) over e one = ap (λ (j : Index). Some j) (list-over f.list f.linked h i over)
     ∙ sym (one-list f.list f.linked.handle k i e one)
@@ -358,7 +358,7 @@ list-kept Overflow x h i over =
 
 kept-at : (f : Found) (h : Header) (k : ℕ) (i : Index) → is_over f.linked h ≡ false → is_linked_at f.list f.linked.handle (Some i) ≡ true
     → index_by (is_handle f.linked.handle) k (Some i) ≤ 1
-    → (if f.linked.entry.manage_local then advanced_in f.linked.handle (running_after f.linked h) (Some i) else Some i) ≡ settled_at f h
+    → (if f.linked.entry.manage_local then advanced_in f.linked.handle (running_after f.linked h) (Some i) else Some i) ≡ updated_at f h
     (Some i)
 kept-at f h k i over e one =
     ap (λ o. if f.linked.entry.manage_local then o else Some i) (one-advanced f.list f.linked.handle (running_after f.linked h) k i e one)
@@ -369,21 +369,21 @@ kept-at f h k i over e one =
     some-if true i j = refl
     some-if false i j = refl
 
-settled-alone : (f : Found) (h : Header) (k : ℕ) (i : Index) → is_linked_at f.list f.linked.handle (Some i) ≡ true →
-    index_by (is_handle f.linked.handle) k (Some i) ≤ 1 → settled_in f h (Some i) ≡ settled_at f h (Some i)
-settled-alone f h k i e one =
+updated-alone : (f : Found) (h : Header) (k : ℕ) (i : Index) → is_linked_at f.list f.linked.handle (Some i) ≡ true →
+    index_by (is_handle f.linked.handle) k (Some i) ≤ 1 → updated_in f h (Some i) ≡ updated_at f h (Some i)
+updated-alone f h k i e one =
     elim (is_over f.linked h) as (λ b. is_over f.linked h ≡ b →
     (if b then unlinked_in f.linked.handle (Some i) else
-    (if f.linked.entry.manage_local then advanced_in f.linked.handle (running_after f.linked h) (Some i) else Some i)) ≡ settled_at f
+    (if f.linked.entry.manage_local then advanced_in f.linked.handle (running_after f.linked h) (Some i) else Some i)) ≡ updated_at f
     h (Some i)) [
       | true ↦ λ over. sym (over-at f h k (Some i) over e one)
       | false ↦ λ over. kept-at f h k i over e one
     ] refl
 
-settled-one : (f : Found) (h : Header) (k : ℕ) (o : Option Index) → is_linked_at f.list f.linked.handle o ≡ true →
-    index_by (is_handle f.linked.handle) k o ≤ 1 → settled_in f h o ≡ settled_at f h o
-settled-one f h k None e one = cc
-settled-one f h k (Some i) e one = settled-alone f h k i e one
+updated-one : (f : Found) (h : Header) (k : ℕ) (o : Option Index) → is_linked_at f.list f.linked.handle o ≡ true →
+    index_by (is_handle f.linked.handle) k o ≤ 1 → updated_in f h o ≡ updated_at f h o
+updated-one f h k None e one = cc
+updated-one f h k (Some i) e one = updated-alone f h k i e one
 
 number-at_most : (me : Handle) (o : Option EntryRecord) → number_at (linked_as (is_handle me)) me o ≤ 1
 number-at_most me None = omega arith
@@ -405,16 +405,16 @@ pub at_most-here : (me : Handle) (pt : ℕ) (is : List (Option Index)) (hs : Lis
 at_most-here me pt is hs t a = omega (arith, at_most-at me pt is hs t a, linked-split me pt 0 pt is (omega arith))
 
 -- an entry is in one list alone: what becomes of it in both is what becomes of it there
-pub settled-handle : (f : Found) (h : Header) (is : List (Option Index)) (hs : List IndexedHeader) (t : Table EntryRecord) →
+pub updated-handle : (f : Found) (h : Header) (is : List (Option Index)) (hs : List IndexedHeader) (t : Table EntryRecord) →
     AreRecorded is hs t → is_linked_at f.list f.linked.handle (index_at h.pt is) ≡ true →
-    slice_set is h.pt (settled_in f h (index_at h.pt is)) ≡ indices_after f h is
-settled-handle f h is hs t a e = ap (λ o. set is h.pt o) (settled-one f h h.pt (get_or is h.pt None) e
+    slice_set is h.pt (updated_in f h (index_at h.pt is)) ≡ indices_after f h is
+updated-handle f h is hs t a e = ap (λ o. set is h.pt o) (updated-one f h h.pt (get_or is h.pt None) e
     (at_most-here f.linked.handle h.pt is hs t a))
 
-pub settled-over : (f : Found) (h : Header) (is : List (Option Index)) (hs : List IndexedHeader) (t : Table EntryRecord) →
+pub updated-over : (f : Found) (h : Header) (is : List (Option Index)) (hs : List IndexedHeader) (t : Table EntryRecord) →
     AreRecorded is hs t → is_linked_at f.list f.linked.handle (index_at h.pt is) ≡ true → is_over f.linked h ≡ true →
     indices_after f h is ≡ map (unlinked_in f.linked.handle) is
-settled-over f h is hs t a e over =
+updated-over f h is hs t a e over =
     let me : Handle = f.linked.handle in
     let here = linked_at-some f.list me h.pt (get_or is h.pt None) e in
     let split = linked-split me h.pt 0 h.pt is (omega arith) in
@@ -447,7 +447,7 @@ list-stays Priority x h p k i over = rw (entries-stay x h p k i.priority over) r
 list-stays Overflow x h p k i over = rw (entries-stay x h p k i.overflow over) refl
 
 index-stays : (f : Found) (h : Header) (p : Handle → Option Handle → ℕ → Bool) (k : ℕ) (o : Option Index) → is_over f.linked h ≡ false →
-    index_by p k (settled_at f h o) ≡ index_by p k o
+    index_by p k (updated_at f h o) ≡ index_by p k o
 index-stays f h p k None over = refl
 index-stays f h p k (Some i) over = list-stays f.list f.linked h p k i over
 
@@ -470,27 +470,27 @@ same-many pt is o e =
     let z : 0 + pt ≡ pt = omega arith in
     sym (linked-all 0 (set is pt o)) ∙ linked-same any_handle 0 pt is o (rw z (e any_handle)) ∙ linked-all 0 is
 
-pub recorded-settled : (f : Found) (h : Header) (is : List (Option Index)) (hs : List IndexedHeader) (t : Table EntryRecord) →
+pub recorded-updated : (f : Found) (h : Header) (is : List (Option Index)) (hs : List IndexedHeader) (t : Table EntryRecord) →
     AreRecorded is hs t → is_linked_at f.list f.linked.handle (index_at h.pt is) ≡ true →
     AreRecorded (indices_after f h is) hs (unlinked_after f h t)
-recorded-settled f h is hs t a e =
+recorded-updated f h is hs t a e =
     let w = recorded-on f.linked.handle is hs t a (linked-anywhere f.list f.linked.handle h.pt is e) in
     elim (is_over f.linked h) as (λ b. is_over f.linked h ≡ b →
     AreRecorded (indices_after f h is) hs (if b then recorded_by f.linked.handle not_linked t else t)) [
-      | true ↦ λ over. rw (settled-over f h is hs t a e over) (recorded-unlinked f.linked.handle w.0 is hs t a w.1)
-      | false ↦ λ over. recorded-same h.pt is hs t (settled_at f h (get_or is h.pt None)) a
+      | true ↦ λ over. rw (updated-over f h is hs t a e over) (recorded-unlinked f.linked.handle w.0 is hs t a w.1)
+      | false ↦ λ over. recorded-same h.pt is hs t (updated_at f h (get_or is h.pt None)) a
           (λ p. index-stays f h p h.pt (get_or is h.pt None) over)
     ] refl
 
-pub many-settled : (f : Found) (h : Header) (is : List (Option Index)) (hs : List IndexedHeader) (t : Table EntryRecord) →
+pub many-updated : (f : Found) (h : Header) (is : List (Option Index)) (hs : List IndexedHeader) (t : Table EntryRecord) →
     AreRecorded is hs t → is_linked_at f.list f.linked.handle (index_at h.pt is) ≡ true → linked_after f h (sum_by entries_in is) ≡ sum_by
     entries_in (indices_after f h is)
-many-settled f h is hs t a e =
+many-updated f h is hs t a e =
     let w = recorded-on f.linked.handle is hs t a (linked-anywhere f.list f.linked.handle h.pt is e) in
     elim (is_over f.linked h) as (λ b. is_over f.linked h ≡ b → (if b then sum_by entries_in is - 1 else sum_by entries_in is) ≡ sum_by
     entries_in (indices_after f h is)) [
-      | true ↦ λ over. rw (settled-over f h is hs t a e over) (omega (arith, one-off f.linked.handle w.0 is hs t a w.1 w.2))
-      | false ↦ λ over. sym (same-many h.pt is (settled_at f h (get_or is h.pt None))
+      | true ↦ λ over. rw (updated-over f h is hs t a e over) (omega (arith, one-off f.linked.handle w.0 is hs t a w.1 w.2))
+      | false ↦ λ over. sym (same-many h.pt is (updated_at f h (get_or is h.pt None))
           (λ p. index-stays f h p h.pt (get_or is h.pt None) over))
     ] refl
 

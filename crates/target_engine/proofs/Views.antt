@@ -16,7 +16,7 @@ use Rattle.ni_model.specs.Append.{linked_at}
 use Rattle.ni_model.specs.Calls.{new_index, unlinked_in}
 use Rattle.match_lists.specs.Lists.{Both, linked_as, with_entries, without_entry, advanced_to}
 use Rattle.target_engine.specs.declared.index.Index.{Index as PortalEntry}
-use Rattle.target_engine.specs.PortalTable.{index, seen, seen_in, linked_in, advanced_in, settled_lists, settled_in, AreEmpty, HasLists}
+use Rattle.target_engine.specs.PortalTable.{index, seen, seen_in, linked_in, advanced_in, updated_lists, updated_in, AreEmpty, HasLists}
 use Rattle.target_engine.specs.PortalTable.{IsPortalEntry, IsUnused}
 
 -- ---- one place
@@ -73,15 +73,15 @@ unlinked-index me i =
     elim i.allocated as (λ b. (if b then Some (index i.eq (without_entry me i.lists)) else None) ≡ unlinked_in me
     (if b then Some (index i.eq i.lists) else None)) [ true ↦ refl | false ↦ refl ]
 
-abbrev settled_more : Found → Header → Option Index → Option Index
-settled_more f h o = if f.linked.entry.manage_local then advanced_in f.linked.handle (running_after f.linked h) o else o
+abbrev updated_more : Found → Header → Option Index → Option Index
+updated_more f h o = if f.linked.entry.manage_local then advanced_in f.linked.handle (running_after f.linked h) o else o
 
-settled-here : (f : Found) (h : Header) (eq : Option Handle) (b : Both) → Some (index eq (settled_lists f h b)) ≡ settled_in f h
+updated-here : (f : Found) (h : Header) (eq : Option Handle) (b : Both) → Some (index eq (updated_lists f h b)) ≡ updated_in f h
     (Some (index eq b))
-settled-here f h eq b =
+updated-here f h eq b =
     elim (is_over f.linked h) as (λ o. Some (index eq (if o then without_entry f.linked.handle b else
     (if f.linked.entry.manage_local then advanced_to f.linked.handle (running_after f.linked h) b else b)))
-    ≡ (if o then unlinked_in f.linked.handle (Some (index eq b)) else settled_more f h (Some (index eq b)))) [
+    ≡ (if o then unlinked_in f.linked.handle (Some (index eq b)) else updated_more f h (Some (index eq b)))) [
       | true ↦ refl
       | false ↦ elim f.linked.entry.manage_local as (λ m. Some
           (index eq (if m then advanced_to f.linked.handle (running_after f.linked h) b else b))
@@ -89,20 +89,20 @@ settled-here f h eq b =
           [ true ↦ refl | false ↦ refl ]
     ]
 
-settled-none : (f : Found) (h : Header) → settled_in f h None ≡ None
-settled-none f h =
-    elim (is_over f.linked h) as (λ o. (if o then None else settled_more f h None) ≡ None) [
+updated-none : (f : Found) (h : Header) → updated_in f h None ≡ None
+updated-none f h =
+    elim (is_over f.linked h) as (λ o. (if o then None else updated_more f h None) ≡ None) [
       | true ↦ refl
       | false ↦ elim f.linked.entry.manage_local as (λ m. (if m then advanced_in f.linked.handle (running_after f.linked h) None else
           None) ≡ None) [ true ↦ refl | false ↦ refl ]
     ]
 
-pub settled-index : (f : Found) (h : Header) (i : PortalEntry) → seen (with_lists i (settled_lists f h i.lists)) ≡ settled_in f h (seen i)
-settled-index f h i =
-    elim i.allocated as (λ b. (if b then Some (index i.eq (settled_lists f h i.lists)) else None) ≡ settled_in f h
+pub updated-index : (f : Found) (h : Header) (i : PortalEntry) → seen (with_lists i (updated_lists f h i.lists)) ≡ updated_in f h (seen i)
+updated-index f h i =
+    elim i.allocated as (λ b. (if b then Some (index i.eq (updated_lists f h i.lists)) else None) ≡ updated_in f h
     (if b then Some (index i.eq i.lists) else None)) [
-      | true ↦ settled-here f h i.eq i.lists
-      | false ↦ sym (settled-none f h)
+      | true ↦ updated-here f h i.eq i.lists
+      | false ↦ sym (updated-none f h)
     ]
 
 -- ---- what it keeps
@@ -133,8 +133,8 @@ advanced-stays me to b = record { limit = refl; slots = refl; at_most = refl; em
 same-stays : (b : Both) → StaysPortalEntry b b
 same-stays b = record { limit = refl; slots = refl; at_most = refl; empty = λ e. e }
 
-settled-stays : (f : Found) (h : Header) (b : Both) → StaysPortalEntry b (settled_lists f h b)
-settled-stays f h b =
+updated-stays : (f : Found) (h : Header) (b : Both) → StaysPortalEntry b (updated_lists f h b)
+updated-stays f h b =
     elim (is_over f.linked h) as (λ o. StaysPortalEntry b (if o then without_entry f.linked.handle b else
     (if f.linked.entry.manage_local then advanced_to f.linked.handle (running_after f.linked h) b else b))) [
       | true ↦ unlinked-stays f.linked.handle b
@@ -150,10 +150,10 @@ pub unlinked-portal_entry : (me : Handle) (i : PortalEntry) (most slots given : 
 unlinked-portal_entry me i most slots given k = stays-portal_entry i (without_entry me i.lists) most slots given
     (unlinked-stays me i.lists) k
 
-pub settled-portal_entry : (f : Found) (h : Header) (i : PortalEntry) (most slots given : ℕ) → IsPortalEntry most slots given i →
-    IsPortalEntry most slots given (with_lists i (settled_lists f h i.lists))
-settled-portal_entry f h i most slots given k = stays-portal_entry i (settled_lists f h i.lists) most slots given
-    (settled-stays f h i.lists) k
+pub updated-portal_entry : (f : Found) (h : Header) (i : PortalEntry) (most slots given : ℕ) → IsPortalEntry most slots given i →
+    IsPortalEntry most slots given (with_lists i (updated_lists f h i.lists))
+updated-portal_entry f h i most slots given k = stays-portal_entry i (updated_lists f h i.lists) most slots given
+    (updated-stays f h i.lists) k
 
 pub linked-portal_entry : (list : EntryList) (x : Linked) (i : PortalEntry) (most slots given : ℕ) → i.allocated ≡ true →
     IsPortalEntry most slots given i → IsPortalEntry most slots (given + 1)

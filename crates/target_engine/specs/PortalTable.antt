@@ -77,8 +77,8 @@ linked_in me (Some i) = or_else (find (is_named me) i.priority) (find (is_named 
 -- ---- what becomes of the entry that took a message, in whichever list it is
 
 -- in the two lists
-abbrev pub settled_lists : Found → Header → Both → Both
-settled_lists f h b =
+abbrev pub updated_lists : Found → Header → Both → Both
+updated_lists f h b =
     if is_over f.linked h then without_entry f.linked.handle b
     else (if f.linked.entry.manage_local then advanced_to f.linked.handle (running_after f.linked h) b else b)
 
@@ -88,8 +88,8 @@ advanced_in me to None = None
 advanced_in me to (Some i) = Some (record i { priority = advanced me to i.priority; overflow = advanced me to i.overflow })
 
 -- in an index
-abbrev pub settled_in : Found → Header → Option Index → Option Index
-settled_in f h o =
+abbrev pub updated_in : Found → Header → Option Index → Option Index
+updated_in f h o =
     if is_over f.linked h then unlinked_in f.linked.handle o
     else (if f.linked.entry.manage_local then advanced_in f.linked.handle (running_after f.linked h) o else o)
 

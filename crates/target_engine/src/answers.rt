@@ -6,7 +6,7 @@ ghost use Rattle.ptl_types.specs.Kinds.{is_no_ack};
 ghost use Rattle.ni_model.specs.Arrive.{ack_header, reply_header, answer, refused};
 
 use crate::measures::is_put_or_atomic;
-use crate::spent::SpareBuffers;
+use crate::spare_buffers::SpareBuffers;
 use ni_model::Arrived;
 use ptl_types::{AckRequest, Bytes, Header, Message, MessageKind, Outcome};
 
@@ -28,39 +28,31 @@ fn ack_header(ok: bool, count: u64, header: &Header) -> Header
     }
 }
 
-/// The header of the reply; it asks for no acknowledgement.
+/// The header of the reply: that of the acknowledgement but for its kind. It asks for no acknowledgement.
 fn reply_header(ok: bool, count: u64, header: &Header) -> Header
     ensures { result ≡ reply_header ok count header.now }
 {
     Header {
         kind: MessageKind::Reply,
-        source: header.target,
-        target: header.source,
-        offset: 0,
-        length: if ok { count } else { 0 },
-        op: None,
-        swap: None,
-        operand: 0,
         ack: AckRequest::NoAck,
-        ok,
-        ..*header
+        ..ack_header(ok, count, header)
     }
 }
 
-/// The acknowledgement, where one was asked for. It has no bytes. Else the message's room is spent.
+/// The acknowledgement, where one was asked for. It has no bytes. Else the message's room is spare.
 pub fn acknowledge(
     ok: bool,
     count: u64,
     header: &Header,
     mut bytes: Bytes,
-    spent: &mut SpareBuffers,
+    spares: &mut SpareBuffers,
 ) -> Option<Message>
     ensures { result ≡ (if is_no_ack header.now.ack then None else Some (message (ack_header ok count header.now) [])) }
 {
     bytes.clear();
     match header.ack {
         AckRequest::NoAck => {
-            spent.keep(bytes);
+            spares.keep(bytes);
             None
         }
         _ => Some(Message::new(ack_header(ok, count, header), bytes)),
@@ -76,24 +68,24 @@ pub fn reply(header: &Header, count: u64, bytes: Bytes) -> Message
 }
 
 /// The answer, not ok, to a message that wasn't delivered, where it asked for one.
-fn refusal(message: Message, spent: &mut SpareBuffers) -> Option<Message>
+fn refusal(message: Message, spares: &mut SpareBuffers) -> Option<Message>
     ensures { result ≡ answer false 0 [] message.header }
 {
     let (header, mut bytes) = message.into_parts();
     if is_put_or_atomic(header.kind) {
-        return acknowledge(false, 0, &header, bytes, spent);
+        return acknowledge(false, 0, &header, bytes, spares);
     }
     bytes.clear();
     Some(Message::new(reply_header(false, 0, &header), bytes))
 }
 
 /// A message that wasn't delivered.
-pub fn refused(outcome: Outcome, message: Message, spent: &mut SpareBuffers) -> Arrived
+pub fn refused(outcome: Outcome, message: Message, spares: &mut SpareBuffers) -> Arrived
     ensures { result ≡ refused outcome message.header }
 {
     Arrived {
         outcome,
-        answer: refusal(message, spent),
+        answer: refusal(message, spares),
         counted: None,
     }
 }

@@ -24,6 +24,17 @@ use ni_objects::handles::{Store, is_live_or_none};
 use ni_objects::queues::Queue;
 use ptl_types::{Appended, Entry, EventKind, Handle, List as Place, NiFault};
 
+/// What is appended: an entry, to which list of which portal table index.
+#[derive(Clone, Copy)]
+pub struct AppendArgs {
+    /// The portal table index.
+    pub pt: u32,
+    /// Which of its two lists.
+    pub list: Place,
+    /// The entry.
+    pub entry: Entry,
+}
+
 impl Target {
     /// Whether no further entry can be linked: as many as the limit are, or all stamps were given.
     fn is_full(&self) -> bool
@@ -69,25 +80,17 @@ impl Target {
         &mut self,
         cts: &mut Store<Counter>,
         eqs: &mut Store<Queue>,
-        pt: u32,
-        entry: &Entry,
+        args: &AppendArgs,
     ) -> Option<Handle>
-        ensures left { self.new ≡ with_unexpected (left_in pt entry.now self.old.headers.unexpected) self.old }
-        ensures counts { cts.new ≡ each_counted (overflow_counter entry.now) (found_in pt entry.now self.old.headers.unexpected) cts.old }
-        ensures events { eqs.new ≡ each_gone self.old (left_in pt entry.now self.old.headers.unexpected)
-            (found_in pt entry.now self.old.headers.unexpected) eqs.old }
-        ensures counted { result ≡ counted_by entry.now (found_in pt entry.now self.old.headers.unexpected) }
+        ensures left { self.new ≡ with_unexpected (left_in args.now.pt args.now.entry self.old.headers.unexpected) self.old }
+        ensures counts { cts.new ≡ each_counted (overflow_counter args.now.entry)
+            (found_in args.now.pt args.now.entry self.old.headers.unexpected) cts.old }
+        ensures events { eqs.new ≡ each_gone self.old (left_in args.now.pt args.now.entry self.old.headers.unexpected)
+            (found_in args.now.pt args.now.entry self.old.headers.unexpected) eqs.old }
+        ensures counted { result ≡ counted_by args.now.entry (found_in args.now.pt args.now.entry self.old.headers.unexpected) }
     {
         let records = &mut self.records;
-        take_found(
-            &self.indices,
-            records,
-            &mut self.headers,
-            cts,
-            eqs,
-            pt,
-            entry,
-        )
+        take_found(&self.indices, records, &mut self.headers, cts, eqs, args)
     }
 
     /// A use-once entry takes the oldest header that it finds, else it is linked.
@@ -96,20 +99,19 @@ impl Target {
         &mut self,
         cts: &mut Store<Counter>,
         eqs: &mut Store<Queue>,
-        pt: u32,
-        entry: Entry,
+        args: AppendArgs,
     ) -> (Appended, Option<Handle>)
-        requires index { is_allocated pt self.old ≡ true }
+        requires index { is_allocated args.pt self.old ≡ true }
         requires room { (nat_le self.old.limit (linked_count self.old) || nat_le top self.old.given) ≡ false }
-        requires once { entry.use_once ≡ true }
-        ensures appends { (region : List ℕ) → AppendsSome pt Place.Priority entry (parts self.old region cts.old eqs.old)
+        requires once { args.entry.use_once ≡ true }
+        ensures appends { (region : List ℕ) → AppendsSome args.pt Place.Priority args.entry (parts self.old region cts.old eqs.old)
             (has_appended (parts self.new region cts.new eqs.new) result.0 result.1) }
         ensures slot { SlotBelow (self.old.limit + self.old.headers.limit) result.0 }
     {
-        let unexpected = match self.headers.take_oldest(pt, &entry) {
+        let unexpected = match self.headers.take_oldest(args.pt, &args.entry) {
             Some(unexpected) => unexpected,
             None => {
-                let me = self.link(eqs, pt, Place::Priority, entry);
+                let me = self.link(eqs, args.pt, Place::Priority, args.entry);
                 return (Appended::Linked(me), None);
             }
         };
@@ -118,12 +120,12 @@ impl Target {
             &mut self.records,
             cts,
             eqs,
-            &entry,
+            &args.entry,
             &unexpected,
         );
         (
             Appended::Consumed(unexpected.header),
-            overflow_counter(&entry),
+            overflow_counter(&args.entry),
         )
     }
 
@@ -139,32 +141,36 @@ impl Target {
         region: &Region,
         cts: &mut Store<Counter>,
         eqs: &mut Store<Queue>,
-        pt: u32,
-        list: Place,
-        entry: Entry,
+        args: AppendArgs,
     ) -> Result<(Appended, Option<Handle>), NiFault>
-        ensures err { IfErr result (λ fault. append_fault pt entry (parts self.old region.now cts.old eqs.old) ≡ Some fault) }
+        ensures err { IfErr result (λ fault. append_fault args.pt args.entry (parts self.old region.now cts.old eqs.old) ≡ Some fault) }
         ensures unchanged { OnErr result ((self.new ≡ self.old) × (cts.new ≡ cts.old) × (eqs.new ≡ eqs.old)) }
-        ensures ok { OnOk result (append_fault pt entry (parts self.old region.now cts.old eqs.old) ≡ None) }
-        ensures appended { IfOk result (λ r. AppendsSome pt list entry (parts self.old region.now cts.old eqs.old)
+        ensures ok { OnOk result (append_fault args.pt args.entry (parts self.old region.now cts.old eqs.old) ≡ None) }
+        ensures appended { IfOk result (λ r. AppendsSome args.pt args.list args.entry (parts self.old region.now cts.old eqs.old)
             (has_appended (parts self.new region.now cts.new eqs.new) r.0 r.1)) }
         ensures slot { IfOk result (λ r. SlotBelow (self.old.limit + self.old.headers.limit) r.0) }
     {
-        if !is_allocated(&self.indices, pt) || !is_live_or_none(cts, entry.ct) {
+        if !is_allocated(&self.indices, args.pt) || !is_live_or_none(cts, args.entry.ct) {
             return Err(NiFault::Stale);
         }
         if self.is_full() {
             return Err(NiFault::NoSpace);
         }
-        if !region.fits(entry.start, entry.length) {
+        if !region.fits(args.entry.start, args.entry.length) {
             return Err(NiFault::OutOfRegion);
         }
-        match list {
-            Place::Overflow => Ok((Appended::Linked(self.link(eqs, pt, list, entry)), None)),
-            Place::Priority if entry.use_once => Ok(self.append_once(cts, eqs, pt, entry)),
+        match args.list {
+            Place::Overflow => Ok((
+                Appended::Linked(self.link(eqs, args.pt, args.list, args.entry)),
+                None,
+            )),
+            Place::Priority if args.entry.use_once => Ok(self.append_once(cts, eqs, args)),
             Place::Priority => {
-                let counted = self.take_all(cts, eqs, pt, &entry);
-                Ok((Appended::Linked(self.link(eqs, pt, list, entry)), counted))
+                let counted = self.take_all(cts, eqs, &args);
+                Ok((
+                    Appended::Linked(self.link(eqs, args.pt, args.list, args.entry)),
+                    counted,
+                ))
             }
         }
     }

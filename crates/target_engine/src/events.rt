@@ -4,7 +4,7 @@ ghost use Rattle.std.specs.Prelude.{◌≡◌, ◌+◌, ◌<◌, ◌^◌};
 ghost use Rattle.ni_model.specs.Events.{kind_delivered, message_event, entry_event};
 ghost use Rattle.ni_model.specs.Arrive.{delivery_raised, events_after};
 
-use crate::measures::{delivered, is_over, place};
+use crate::measures::{delivered, first_byte, is_over};
 use ni_model::Found;
 use ni_objects::delivery::raise;
 use ni_objects::handles::Store;
@@ -64,7 +64,7 @@ fn raise_delivery(eqs: &mut Store<Queue>, eq: Option<Handle>, found: &Found, hea
 {
     if let List::Priority = found.list {
         let count = delivered(&found.linked, header);
-        let at = place(&found.linked, header);
+        let at = first_byte(&found.linked, header);
         raise(
             eqs,
             eq,

@@ -9,8 +9,8 @@ ghost use Rattle.ni_model.specs.Arrive.{memory_after, answer, new_bytes, old_byt
 ghost use Rattle.ni_model.specs.Conditions.{IsPartIn};
 
 use crate::answers::{acknowledge, reply};
-use crate::measures::{delivered, is_put_or_atomic, place};
-use crate::spent::SpareBuffers;
+use crate::measures::{delivered, first_byte, is_put_or_atomic};
+use crate::spare_buffers::SpareBuffers;
 use crate::swap::swap_element;
 use lane_ops::combine;
 use ni_model::Linked;
@@ -26,7 +26,7 @@ fn write_put(region: &mut Region, linked: &Linked, message: &Message)
     // Brings the bound of the region's length to the proof.
     let _size = region.len();
     let count = delivered(linked, message.header());
-    let at = place(linked, message.header());
+    let at = first_byte(linked, message.header());
     let bytes = message.bytes();
     region.write(at, &bytes.as_slice()[..count as usize]);
 }
@@ -41,7 +41,7 @@ fn read_get(region: &Region, linked: &Linked, message: Message) -> Message
     let _size = region.len();
     let (header, mut bytes) = message.into_parts();
     let count = delivered(linked, &header);
-    let at = place(linked, &header);
+    let at = first_byte(linked, &header);
     bytes.clear();
     region.read_into(at, &mut bytes, count);
     reply(&header, count, bytes)
@@ -106,7 +106,7 @@ fn exchange_part(region: &mut Region, linked: &Linked, header: &Header, bytes: B
 {
     let _size = region.len();
     let count = delivered(linked, header);
-    let at = place(linked, header);
+    let at = first_byte(linked, header);
     let mut items = first_bytes(bytes, count);
     exchange_at(region, at, header, &mut items);
     items
@@ -117,7 +117,7 @@ fn exchange_elements(
     region: &mut Region,
     linked: &Linked,
     message: Message,
-    spent: &mut SpareBuffers,
+    spares: &mut SpareBuffers,
 ) -> Option<Message>
     requires part { IsPartIn (length region.old) linked.now }
     requires elements { has_elements message.header.kind ≡ true }
@@ -130,7 +130,7 @@ fn exchange_elements(
     let items = exchange_part(region, linked, &header, bytes);
     let bytes = Bytes::from_vec(items);
     if is_put_or_atomic(header.kind) {
-        acknowledge(true, count, &header, bytes, spent)
+        acknowledge(true, count, &header, bytes, spares)
     } else {
         Some(reply(&header, count, bytes))
     }
@@ -141,7 +141,7 @@ pub fn exchange(
     region: &mut Region,
     linked: &Linked,
     message: Message,
-    spent: &mut SpareBuffers,
+    spares: &mut SpareBuffers,
 ) -> Option<Message>
     requires request { is_answer message.header.kind ≡ false }
     requires part { IsPartIn (length region.old) linked.now }
@@ -153,9 +153,9 @@ pub fn exchange(
         MessageKind::Put => {
             write_put(region, linked, &message);
             let (header, bytes) = message.into_parts();
-            acknowledge(true, delivered(linked, &header), &header, bytes, spent)
+            acknowledge(true, delivered(linked, &header), &header, bytes, spares)
         }
         MessageKind::Get => Some(read_get(region, linked, message)),
-        _ => exchange_elements(region, linked, message, spent),
+        _ => exchange_elements(region, linked, message, spares),
     }
 }

@@ -8,7 +8,7 @@ ghost use Rattle.ni_model.specs.Calls.{unlinked_in, new_index};
 ghost use Rattle.ni_model.specs.Lists.{queue_of, index_at, entries_in, is_linked};
 ghost use Rattle.ni_model.specs.Refusals.{entry_names_ct};
 ghost use Rattle.match_lists.specs.Lists.{with_entries, without_entry, linked_as};
-ghost use Rattle.target_engine.specs.PortalTable.{index, seen, seen_ref, seen_in, linked_in, settled_lists, settled_in, AreEmpty, HasLists};
+ghost use Rattle.target_engine.specs.PortalTable.{index, seen, seen_ref, seen_in, linked_in, updated_lists, updated_in, AreEmpty, HasLists};
 ghost use Rattle.target_engine.specs.PortalTable.{IsPortalEntry, IsUnused, MayAppend, MayLink};
 
 use crate::measures::{delivered, is_over, is_put_or_atomic, running_after};
@@ -79,12 +79,12 @@ fn names_ct<L: Ledger>(blank: Blank, lists: &Lists, ct: Handle) -> bool
 }
 
 /// What becomes of the entry that took the message: unlinked, advanced or left as it is.
-fn settle<L: Ledger>(blank: Blank, lists: &mut Lists, found: &Found, header: &Header)
+fn update_entry<L: Ledger>(blank: Blank, lists: &mut Lists, found: &Found, header: &Header)
     requires name { blank.name ≡ L.name }
     requires parts { blank.parts ≡ L.parts }
     requires one { blank.parts ≡ 1 }
     requires there { linked_as found.now.linked.handle lists.old ≡ Some found.now.linked }
-    ensures { lists.new ≡ settled_lists found.now header.now lists.old }
+    ensures { lists.new ≡ updated_lists found.now header.now lists.old }
 {
     let mut steps = Steps::<L>::start(blank);
     let me = found.linked.handle;
@@ -176,12 +176,12 @@ impl Index {
     }
 
     /// What becomes of the entry that took the message.
-    fn settle(&mut self, found: &Found, header: &Header)
+    fn update_entry(&mut self, found: &Found, header: &Header)
         requires { linked_in found.now.linked.handle (seen self.old) ≡ Some found.now.linked }
-        ensures after { seen self.new ≡ settled_in found.now header.now (seen self.old) }
+        ensures after { seen self.new ≡ updated_in found.now header.now (seen self.old) }
         ensures kept { (most slots given : ℕ) → IsPortalEntry most slots given self.old → IsPortalEntry most slots given self.new }
     {
-        settle::<Brand>(Blank::new(1), &mut self.lists, found, header);
+        update_entry::<Brand>(Blank::new(1), &mut self.lists, found, header);
     }
 }
 
@@ -246,16 +246,16 @@ pub fn free_at(indices: &mut [Index], pt: u32)
 }
 
 /// What becomes of the entry that took the message, in its list.
-pub fn settle_at(indices: &mut [Index], found: &Found, header: &Header)
+pub fn update_entry_at(indices: &mut [Index], found: &Found, header: &Header)
     requires { linked_in found.now.linked.handle (index_at header.now.pt (seen_in indices.old)) ≡ Some found.now.linked }
     ensures after { seen_in indices.new ≡ slice_set (seen_in indices.old) header.now.pt
-        (settled_in found.now header.now (index_at header.now.pt (seen_in indices.old))) }
+        (updated_in found.now header.now (index_at header.now.pt (seen_in indices.old))) }
     ensures kept { (most slots given : ℕ) → All (IsPortalEntry most slots given) indices.old →
         All (IsPortalEntry most slots given) indices.new }
 {
     let at = header.pt as usize;
     if at < indices.len() {
-        indices[at].settle(found, header);
+        indices[at].update_entry(found, header);
     }
 }
 

@@ -11,11 +11,12 @@ mod exchange;
 mod gone;
 mod index;
 mod measures;
-mod spent;
+mod spare_buffers;
 mod swap;
 mod takes;
 mod target;
 mod unlinks;
 
-pub use spent::SpareBuffers;
+pub use appends::AppendArgs;
+pub use spare_buffers::SpareBuffers;
 pub use target::Target;

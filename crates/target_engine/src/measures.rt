@@ -48,8 +48,8 @@ pub fn delivered(linked: &Linked, header: &Header) -> u64
     )
 }
 
-/// Where the first of them goes; 0 where none is delivered.
-pub fn place(linked: &Linked, header: &Header) -> u64
+/// Where the first of them goes, in bytes of the region: the entry's start and the offset in the entry. 0 where none is delivered.
+pub fn first_byte(linked: &Linked, header: &Header) -> u64
     requires { linked.now.entry.start + linked.now.entry.length < 2 ^ 64 }
     ensures { result ≡ place linked.now header.now }
 {

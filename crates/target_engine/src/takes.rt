@@ -8,6 +8,7 @@ ghost use Rattle.ni_model.specs.Append.{overflow_counter, each_counted, each_gon
 ghost use Rattle.target_engine.specs.PortalTable.{seen_in, AreRecorded, AreCounted, frees_at, without_header};
 ghost use Rattle.target_engine.specs.Sides.{side};
 
+use crate::appends::AppendArgs;
 use crate::entry_records::Records;
 use crate::gone::{frees, kind_taken, raise_gone};
 use crate::index::Index;
@@ -59,30 +60,29 @@ pub fn take_found(
     headers: &mut Headers,
     cts: &mut Store<Counter>,
     eqs: &mut Store<Queue>,
-    pt: u32,
-    entry: &Entry,
+    args: &AppendArgs,
 ) -> Option<Handle>
     requires recorded { AreRecorded (seen_in indices.now) headers.old.unexpected records.old.by_entry }
     requires counted { AreCounted headers.old.unexpected records.old }
-    ensures recorded { AreRecorded (seen_in indices.now) (left_in pt entry.now headers.old.unexpected) records.new.by_entry }
-    ensures users { AreCounted (left_in pt entry.now headers.old.unexpected) records.new }
+    ensures recorded { AreRecorded (seen_in indices.now) (left_in args.now.pt args.now.entry headers.old.unexpected) records.new.by_entry }
+    ensures users { AreCounted (left_in args.now.pt args.now.entry headers.old.unexpected) records.new }
     ensures long { length records.new.waiting ≡ length records.old.waiting }
     ensures given { records.new.by_entry.given ≡ records.old.by_entry.given }
     ensures limit { records.new.by_entry.limit ≡ records.old.by_entry.limit }
-    ensures left { headers.new ≡ unexpected_list (left_in pt entry.now headers.old.unexpected) headers.old.limit }
-    ensures counts { cts.new ≡ each_counted (overflow_counter entry.now) (found_in pt entry.now headers.old.unexpected) cts.old }
+    ensures left { headers.new ≡ unexpected_list (left_in args.now.pt args.now.entry headers.old.unexpected) headers.old.limit }
+    ensures counts { cts.new ≡ each_counted (overflow_counter args.now.entry) (found_in args.now.pt args.now.entry headers.old.unexpected) cts.old }
     ensures events { eqs.new ≡ each_gone (side 0 0 (seen_in indices.now) 0 (unexpected_list [] 0))
-        (left_in pt entry.now headers.old.unexpected) (found_in pt entry.now headers.old.unexpected) eqs.old }
-    ensures counted { result ≡ counted_by entry.now (found_in pt entry.now headers.old.unexpected) }
+        (left_in args.now.pt args.now.entry headers.old.unexpected) (found_in args.now.pt args.now.entry headers.old.unexpected) eqs.old }
+    ensures counted { result ≡ counted_by args.now.entry (found_in args.now.pt args.now.entry headers.old.unexpected) }
 {
     let mut kept = 0;
     let mut counted = None;
     let waiting = headers.as_slice().len();
     for at in 0..waiting {
         let unexpected = headers.as_slice()[at];
-        if finds(&unexpected, pt, entry) {
-            take_header(indices, records, cts, eqs, entry, &unexpected);
-            counted = overflow_counter(entry);
+        if finds(&unexpected, args.pt, &args.entry) {
+            take_header(indices, records, cts, eqs, &args.entry, &unexpected);
+            counted = overflow_counter(&args.entry);
         } else {
             headers.put_at(kept, unexpected);
             kept += 1;

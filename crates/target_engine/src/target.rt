@@ -3,10 +3,10 @@
 ghost use Rattle.std.specs.Prelude.{◌≡◌, ◌+◌, ◌<◌, ◌-◌, ◌^◌, [], None, Some, true, false, IfOk, option_copied, length, All, replicate};
 ghost use Rattle.ptl_types.specs.Kinds.{is_answer};
 ghost use Rattle.ni_model.specs.Headers.{unexpected_list};
-ghost use Rattle.ni_model.specs.Arrive.{parts, received, request, accepted, counts_after, headers_after, indices_after, is_overflow};
-ghost use Rattle.ni_model.specs.Arrive.{outcome_in};
-ghost use Rattle.ni_model.specs.Conditions.{IsPartIn, HasPartsIn, HasRoom};
-ghost use Rattle.ni_model.specs.Lists.{index_at, is_linked_at};
+ghost use Rattle.ni_model.specs.Arrive.{parts, received, request, counts_after, events_after, headers_after, indices_after, side_after};
+ghost use Rattle.ni_model.specs.Arrive.{counter_of, is_overflow, outcome_in};
+ghost use Rattle.ni_model.specs.Conditions.{HasPartsIn, HasRoom};
+ghost use Rattle.ni_model.specs.Lists.{index_at, is_linked_at, queue_of};
 ghost use Rattle.match_lists.specs.unexpected.Places.{header_at};
 ghost use Rattle.ni_model.specs.Tables.{lookup};
 ghost use Rattle.ni_objects.specs.users.Rows.{count_at};
@@ -17,9 +17,9 @@ use crate::answers::refused;
 use crate::entry_records::{Records, add_header, forget};
 use crate::events::raise_events;
 use crate::exchange::exchange;
-use crate::index::{Index, chosen_in, queue_at, settle_at};
-use crate::measures::{delivered, place};
-use crate::spent::SpareBuffers;
+use crate::index::{Index, chosen_in, queue_at, update_entry_at};
+use crate::measures::{delivered, first_byte};
+use crate::spare_buffers::SpareBuffers;
 use match_lists::unexpected::{Headers, allows};
 use ni_model::{Arrived, Found, IndexedHeader, Linked};
 use ni_objects::counters::Counter;
@@ -54,7 +54,7 @@ fn note_header(headers: &mut Headers, records: &mut Records, found: &Found, head
             header.pt,
             UnexpectedHeader {
                 entry: found.linked.handle,
-                place: place(&found.linked, header),
+                place: first_byte(&found.linked, header),
                 delivered: delivered(&found.linked, header),
                 header: *header,
             },
@@ -190,7 +190,7 @@ impl Target {
     }
 
     /// What a request does here, but for the two registers: its outcome, its answer, and the counting event that rose. The
-    /// answer uses the message's own bytes, so that nothing takes memory. Where there is no answer the message's room is spent.
+    /// answer uses the message's own bytes, so that nothing takes memory. Where there is no answer the message's room is spare.
     #[tactic(auto, unfolding(ni_model::specs::Arrive::request))]
     pub fn request(
         &mut self,
@@ -198,7 +198,7 @@ impl Target {
         cts: &mut Store<Counter>,
         eqs: &mut Store<Queue>,
         message: Message,
-        spent: &mut SpareBuffers,
+        spares: &mut SpareBuffers,
     ) -> Arrived
         requires request { is_answer message.header.kind ≡ false }
         requires inside { All (HasPartsIn (length region.old)) self.old.indices }
@@ -208,15 +208,18 @@ impl Target {
         let header = *message.header();
         let found = match chosen_in(&self.indices, &header) {
             Some(found) => found,
-            None => return refused(Outcome::Dropped, message, spent),
+            None => return refused(Outcome::Dropped, message, spares),
         };
         if !allows(&found.linked.entry, header.kind) {
-            return refused(Outcome::Violation, message, spent);
+            return refused(Outcome::Violation, message, spares);
         }
         if is_overflow(found.list) && self.headers.is_full() {
-            return refused(Outcome::Dropped, message, spent);
+            return refused(Outcome::Dropped, message, spares);
         }
-        self.accept(region, cts, eqs, message, &found, spent)
+        // Brings the bound of the region's length to the proof.
+        let _size = region.len();
+        let answer = exchange(region, &found.linked, message, spares);
+        self.accept(cts, eqs, &found, &header, answer)
     }
 
     /// A message in the overflow list leaves its header.
@@ -230,42 +233,42 @@ impl Target {
     }
 
     /// What becomes of the entry that took the message.
-    fn settle(&mut self, found: &Found, header: &Header)
+    fn update_entry(&mut self, found: &Found, header: &Header)
         requires there { is_linked_at found.now.list found.now.linked.handle (index_at header.now.pt self.old.indices) ≡ true }
         requires entry { linked_in found.now.linked.handle (index_at header.now.pt self.old.indices) ≡ Some found.now.linked }
         ensures { self.new ≡ record self.old { indices = indices_after found.now header.now self.old.indices } }
     {
-        settle_at(&mut self.indices, found, header);
+        update_entry_at(&mut self.indices, found, header);
         forget(&mut self.records, &mut self.linked, found, header);
     }
 
-    /// The delivery to the entry that was found: memory, count, header, entry, events and the answer.
+    /// What a delivery to the entry that was found leaves besides its bytes: count, header, entry and events. The answer is given.
     fn accept(
         &mut self,
-        region: &mut Region,
         cts: &mut Store<Counter>,
         eqs: &mut Store<Queue>,
-        message: Message,
         found: &Found,
-        spent: &mut SpareBuffers,
+        header: &Header,
+        answer: Option<Message>,
     ) -> Arrived
-        requires request { is_answer message.header.kind ≡ false }
-        requires part { IsPartIn (length region.old) found.now.linked }
+        requires part { found.now.linked.entry.start + found.now.linked.entry.length < 2 ^ 64 }
         requires room { HasRoom found.now.list self.old.headers }
-        requires there { is_linked_at found.now.list found.now.linked.handle (index_at message.header.pt self.old.indices) ≡ true }
-        requires entry { linked_in found.now.linked.handle (index_at message.header.pt self.old.indices) ≡ Some found.now.linked }
-        ensures { received (parts self.new region.new cts.new eqs.new) result ≡ accepted (parts self.old region.old cts.old eqs.old)
-            message found.now }
+        requires there { is_linked_at found.now.list found.now.linked.handle (index_at header.now.pt self.old.indices) ≡ true }
+        requires entry { linked_in found.now.linked.handle (index_at header.now.pt self.old.indices) ≡ Some found.now.linked }
+        ensures side { self.new ≡ side_after found.now header.now self.old }
+        ensures counts { cts.new ≡ counts_after found.now.linked cts.old }
+        ensures events { eqs.new ≡ events_after found.now header.now (queue_of (index_at header.now.pt self.old.indices)) eqs.old }
+        ensures arrived { result ≡ record {
+          outcome = outcome_in found.now.list;
+          answer = answer;
+          counted = counter_of found.now.linked;
+        } }
     {
-        // Brings the bound of the region's length to the proof.
-        let _size = region.len();
-        let header = *message.header();
         let eq = queue_at(&self.indices, header.pt);
-        let answer = exchange(region, &found.linked, message, spent);
         count_message(cts, &found.linked);
-        self.note(found, &header);
-        self.settle(found, &header);
-        raise_events(eqs, eq, found, &header);
+        self.note(found, header);
+        self.update_entry(found, header);
+        raise_events(eqs, eq, found, header);
         Arrived {
             outcome: outcome_in(found.list),
             answer,

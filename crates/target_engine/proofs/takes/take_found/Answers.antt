@@ -20,10 +20,10 @@ loop-at-init c =
       counts = refl;
       rose = refl;
       recorded = recorded-unexpected (seen_in c.args.indices.now) xs
-          (left_in c.args.pt c.args.entry.now xs ++ found_in c.args.pt c.args.entry.now xs) c.args.records.now.by_entry
-          c.requires.recorded (λ p. unexpected-parts (lies_in p) c.args.pt c.args.entry.now xs);
-      users = counted-same xs (left_in c.args.pt c.args.entry.now xs ++ found_in c.args.pt c.args.entry.now xs) c.args.records.now
-          c.requires.counted (λ p. unexpected-parts p c.args.pt c.args.entry.now xs);
+          (left_in c.args.args.now.pt c.args.args.now.entry xs ++ found_in c.args.args.now.pt c.args.args.now.entry xs) c.args.records.now.by_entry
+          c.requires.recorded (λ p. unexpected-parts (lies_in p) c.args.args.now.pt c.args.args.now.entry xs);
+      users = counted-same xs (left_in c.args.args.now.pt c.args.args.now.entry xs ++ found_in c.args.args.now.pt c.args.args.now.entry xs) c.args.records.now
+          c.requires.counted (λ p. unexpected-parts p c.args.args.now.pt c.args.args.now.entry xs);
       long = refl;
       given = refl;
       limit = refl;
@@ -31,8 +31,8 @@ loop-at-init c =
 
 pub loop-at-preserved : goal.loop-at-preserved
 loop-at-preserved c =
-    let pt = c.args.pt in
-    let e = c.args.entry.now in
+    let pt = c.args.args.now.pt in
+    let e = c.args.args.now.entry in
     let xs = c.args.headers.now.unexpected in
     let ys = c.loop-at.headers.unexpected in
     let zs = c.as_slice.result.now in

@@ -17,7 +17,7 @@ by-once slot pt e p u = rw u refl
 
 pub invariant_of-self-2 : goal.invariant_of-self-2
 invariant_of-self-2 c =
-    let o : oldest c.args.pt c.args.entry c.self.inside.headers.unexpected ≡ Some c.in-Some.unexpected = sym c.take_oldest.ensures.oldest
+    let o : oldest c.args.args.pt c.args.args.entry c.self.inside.headers.unexpected ≡ Some c.in-Some.unexpected = sym c.take_oldest.ensures.oldest
     ∙ c.in-Some.is in
     let i = c.self.inside in
     let hs = i.headers.unexpected in
@@ -25,13 +25,13 @@ invariant_of-self-2 c =
     let gone = c.take_header.ensures.gone in
     record {
       kept =
-          kept-fewer i.limit i.linked c.args.pt c.args.entry unexpected i.indices.items i.records.by_entry
+          kept-fewer i.limit i.linked c.args.args.pt c.args.args.entry unexpected i.indices.items i.records.by_entry
           c.take_header.new.records.by_entry i.headers c.take_oldest.new.self c.self.invariant.kept o c.take_oldest.ensures.rest
           (ap (λ (r : Records). r.by_entry) gone);
       counted =
           rw (c.take_oldest.ensures.rest, gone)
-          (counted-gone unexpected hs (without_oldest c.args.pt c.args.entry hs) i.records c.self.invariant.counted
-          c.self.invariant.kept.recorded.once (λ p. unexpected-oldest p c.args.pt c.args.entry hs unexpected o));
+          (counted-gone unexpected hs (without_oldest c.args.args.pt c.args.args.entry hs) i.records c.self.invariant.counted
+          c.self.invariant.kept.recorded.once (λ p. unexpected-oldest p c.args.args.pt c.args.args.entry hs unexpected o));
       queues = c.self.invariant.queues;
       long = ap (λ (r : Records). length r.waiting) gone ∙ long-gone unexpected i.records ∙ c.self.invariant.long;
       small = c.self.invariant.small;
@@ -42,15 +42,15 @@ unfolding append
 returns-clause-appends c =
     λ region.
     let s = free_slot c.args.self.now.indices in
-    let o : oldest c.args.pt c.args.entry c.self.inside.headers.unexpected ≡ Some c.in-Some.unexpected = sym c.take_oldest.ensures.oldest
+    let o : oldest c.args.args.pt c.args.args.entry c.self.inside.headers.unexpected ≡ Some c.in-Some.unexpected = sym c.take_oldest.ensures.oldest
     ∙ c.in-Some.is in
-    let freed = kept-frees c.self.inside.limit c.self.inside.linked c.args.pt c.args.entry c.in-Some.unexpected
+    let freed = kept-frees c.self.inside.limit c.self.inside.linked c.args.args.pt c.args.args.entry c.in-Some.unexpected
     c.self.inside.indices.items c.self.inside.records.by_entry c.self.inside.headers c.self.invariant.kept o in
     record {
       slot = s.0;
       free = s.1;
       ended =
-          rw (← by-once s.0 c.args.pt c.args.entry (parts c.args.self.now region c.args.cts.now c.args.eqs.now) c.requires.once)
+          rw (← by-once s.0 c.args.args.pt c.args.args.entry (parts c.args.self.now region c.args.cts.now c.args.eqs.now) c.requires.once)
           (rw (
             ← c.self.view_is,
             o,

@@ -30,7 +30,7 @@ impl SpareBuffers {
     /// # Errors
     ///
     /// There was no memory for the places.
-    pub fn with_places(alloc: Global, places: u64) -> Result<SpareBuffers, NoMemory> {
+    pub fn with_capacity(alloc: Global, places: u64) -> Result<SpareBuffers, NoMemory> {
         let rooms = Vec::with_capacity(alloc, places as usize)?;
         Ok(SpareBuffers {
             rooms: Some(rooms),
