@@ -9,7 +9,7 @@ use Rattle.ptl_types.specs.declared.calls.TriggeredOp.TheVariants.{Put, Get, Ato
 use Rattle.ni_model.specs.declared.Bound.{Bound}
 use Rattle.ni_model.specs.declared.Linked.{Linked}
 use Rattle.ni_model.specs.Tables.{Live, Table, lookup, is_live_or_none}
-use Rattle.ni_model.specs.Refusals.{holds_part, put_fits, get_fits, deed_fits, counts_on_live}
+use Rattle.ni_model.specs.Refusals.{holds_part, put_fits, get_fits, action_fits, counts_on_live}
 use Rattle.triggered_ops.specs.Operations.{Operation, posted}
 use Rattle.ni_model.specs.Queues.{Waiting}
 use Rattle.ni_model.specs.Lists.{Index, queue_of}
@@ -17,10 +17,10 @@ use Rattle.ni_objects.specs.users.Rows.{IsAlone, HasOwnSlot}
 use Rattle.ni_objects.proofs.users.SlotLemmas.{named-alone}
 use Rattle.target_engine.specs.Sides.{EntriesAlone}
 use Rattle.ptl_types.specs.declared.calls.Limits.{Limits}
-use Rattle.portals_ni.specs.declared.armed.PostedOp.{PostedOp}
-use Rattle.portals_ni.specs.Answers.{deed_counter}
+use Rattle.portals_ni.specs.declared.posted_op.PostedOp.{PostedOp}
+use Rattle.portals_ni.specs.Answers.{action_counter}
 use Rattle.portals_ni.specs.Lasting.{HasEntries, EntryIsLive, QueueIsLive, BoundIsLive, OperationIsLive}
-use Rattle.portals_ni.specs.Pendings.{deed_in}
+use Rattle.portals_ni.specs.Pendings.{action_in}
 use Rattle.portals_ni.specs.Sound.{IsArmed}
 use Rattle.portals_ni.specs.Uses.{put_md, get_md, CtsAlone, MdsAlone}
 
@@ -54,7 +54,7 @@ bound-eqs-alone eq cts eqs xs own live = All-weaker (BoundIsLive cts eqs) (λ (x
 
 -- ---- pending operations
 
-counter-live : (d : TriggeredOp) (cts : Table Count) → counts_on_live d cts ≡ true → is_live_or_none (deed_counter d) cts ≡ true
+counter-live : (d : TriggeredOp) (cts : Table Count) → counts_on_live d cts ≡ true → is_live_or_none (action_counter d) cts ≡ true
 counter-live (Put a) cts e = refl
 counter-live (Get g) cts e = refl
 counter-live (Atomic a op ty) cts e = refl
@@ -64,13 +64,13 @@ counter-live (Inc h by) cts e = e
 counter-live (Set h to) cts e = e
 
 pub operation-cts-alone : (ct : Handle) (cts : Table Count) (ws : List (Operation PostedOp)) → HasOwnSlot ct cts →
-    All (OperationIsLive cts) (map (posted deed_in) ws) → All (CtsAlone ct) ws
+    All (OperationIsLive cts) (map (posted action_in) ws) → All (CtsAlone ct) ws
 operation-cts-alone ct cts [] own all = All-nil (CtsAlone ct)
 operation-cts-alone ct cts (w ∷ ws) own all =
-    let live = All-head (OperationIsLive cts) (posted deed_in w) (map (posted deed_in) ws) all in
+    let live = All-head (OperationIsLive cts) (posted action_in w) (map (posted action_in) ws) all in
     All-cons (CtsAlone ct) w ws
-    (named-alone ct (Some w.ct) cts own live.0, named-alone ct (deed_counter w.deed.deed) cts own (counter-live w.deed.deed cts live.1))
-    (operation-cts-alone ct cts ws own (All-tail (OperationIsLive cts) (posted deed_in w) (map (posted deed_in) ws) all))
+    (named-alone ct (Some w.ct) cts own live.0, named-alone ct (action_counter w.action.action) cts own (counter-live w.action.action cts live.1))
+    (operation-cts-alone ct cts ws own (All-tail (OperationIsLive cts) (posted action_in w) (map (posted action_in) ws) all))
 
 holds-live : (o : Option Bound) (at n : ℕ) → holds_part o at n ≡ true → is_some o ≡ true
 holds-live None at n e = cc
@@ -80,7 +80,7 @@ both-true : (a b : Bool) → (a && b) ≡ true → (a ≡ true) × (b ≡ true)
 both-true true b e = (refl, e)
 both-true false b e = cc
 
-put-live : (d : TriggeredOp) (mds : Table Bound) → deed_fits d mds ≡ true → is_live_or_none (put_md d) mds ≡ true
+put-live : (d : TriggeredOp) (mds : Table Bound) → action_fits d mds ≡ true → is_live_or_none (put_md d) mds ≡ true
 put-live (Put a) mds e = holds-live (lookup a.md mds.live) a.local_offset a.length e
 put-live (Get g) mds e = refl
 put-live (Atomic a op ty) mds e = holds-live (lookup a.md mds.live) a.local_offset a.length e
@@ -91,7 +91,7 @@ put-live (Swap g a op ty operand) mds e = holds-live (lookup a.md mds.live) a.lo
 put-live (Inc h by) mds e = refl
 put-live (Set h to) mds e = refl
 
-get-live : (d : TriggeredOp) (mds : Table Bound) → deed_fits d mds ≡ true → is_live_or_none (get_md d) mds ≡ true
+get-live : (d : TriggeredOp) (mds : Table Bound) → action_fits d mds ≡ true → is_live_or_none (get_md d) mds ≡ true
 get-live (Put a) mds e = refl
 get-live (Get g) mds e = holds-live (lookup g.md mds.live) g.local_offset g.length e
 get-live (Atomic a op ty) mds e = refl
@@ -103,10 +103,10 @@ get-live (Inc h by) mds e = refl
 get-live (Set h to) mds e = refl
 
 pub operation-mds-alone : (md : Handle) (mds : Table Bound) (ranks : ℕ) (limits : Limits) (ws : List (Operation PostedOp)) →
-    HasOwnSlot md mds → All (λ (w : Operation PostedOp). IsArmed mds ranks limits w.deed) ws → All (MdsAlone md) ws
+    HasOwnSlot md mds → All (λ (w : Operation PostedOp). IsArmed mds ranks limits w.action) ws → All (MdsAlone md) ws
 operation-mds-alone md mds ranks limits ws own all =
-    All-weaker (λ (w : Operation PostedOp). IsArmed mds ranks limits w.deed) (MdsAlone md)
+    All-weaker (λ (w : Operation PostedOp). IsArmed mds ranks limits w.action) (MdsAlone md)
     (λ w armed. (
-      named-alone md (get_md w.deed.deed) mds own (get-live w.deed.deed mds armed.fits),
-      named-alone md (put_md w.deed.deed) mds own (put-live w.deed.deed mds armed.fits),
+      named-alone md (get_md w.action.action) mds own (get-live w.action.action mds armed.fits),
+      named-alone md (put_md w.action.action) mds own (put-live w.action.action mds armed.fits),
     )) ws all

@@ -25,8 +25,8 @@ use Rattle.ni_model.specs.Starts.{started}
 use Rattle.ni_model.specs.Append.{append_fault, is_allocated, search}
 use Rattle.ni_model.specs.State.{State, parts_of, home_of, with_home, drops_after, violations_after, after_request, after_answer}
 use Rattle.ni_model.specs.Ready.{Fires, fires, fired}
-use Rattle.ni_model.specs.Refusals.{pt_alloc_fault, ct_set_fault, ct_inc_fault, alloc_fault, unlink_fault, bind_fault, deed_fault}
-use Rattle.ni_model.specs.Refusals.{deed_passes, triggered_fault, md_names_ct, md_names_eq, index_names_ct, index_names_eq}
+use Rattle.ni_model.specs.Refusals.{pt_alloc_fault, ct_set_fault, ct_inc_fault, alloc_fault, unlink_fault, bind_fault, action_fault}
+use Rattle.ni_model.specs.Refusals.{action_passes, triggered_fault, md_names_ct, md_names_eq, index_names_ct, index_names_eq}
 use Rattle.ni_model.specs.Refusals.{operation_names_ct}
 use Rattle.ni_model.specs.Calls.{ends, Makes, MayLackMemory, enough, lacking, AnswersReady, new_index, bound, ct_alloc, ct_free, eq_free}
 use Rattle.ni_model.specs.Calls.{ct_set, ct_inc, ct_cancel, eq_alloc, eq_get, md_bind, entry_slot, unlinked_in, me_append, me_unlink}
@@ -34,12 +34,12 @@ use Rattle.ni_model.specs.Calls.{me_search, pt_alloc, start, triggered}
 use Rattle.ni_objects.proofs.handles.StoreLemmas.{change-absent}
 use Rattle.initiator_engine.specs.Initiators.{Initiating, with_mds, is_start, has_started, has_returned}
 use Rattle.target_engine.specs.Sides.{has_searched, has_appended, AppendsSome}
-use Rattle.triggered_ops.specs.Operations.{Operations, deed_of, operation_at, is_ready, told, with_posted, without_number, waiting_on}
+use Rattle.triggered_ops.specs.Operations.{Operations, action_of, operation_at, is_ready, told, with_posted, without_number, waiting_on}
 use Rattle.triggered_ops.specs.Operations.{cancelled, posted_all}
 use Rattle.std.specs.Prelude.{slice_set}
-use Rattle.portals_ni.specs.declared.armed.PostedOp.{PostedOp}
-use Rattle.portals_ni.specs.Answers.{MakesIfMemory, event_taken, deed_counts}
-use Rattle.portals_ni.specs.Pendings.{deed_in, told_by}
+use Rattle.portals_ni.specs.declared.posted_op.PostedOp.{PostedOp}
+use Rattle.portals_ni.specs.Answers.{MakesIfMemory, event_taken, action_counts}
+use Rattle.portals_ni.specs.Pendings.{action_in, told_by}
 use Rattle.portals_ni.specs.Sound.{IsTold, Stands, state_of}
 use Rattle.portals_ni.proofs.Ends.{ends-done, ends-refused, free_slot, is-free, free_entry_slot, entry-is-free}
 use Rattle.portals_ni.proofs.Firing.{posted-new, posted-cancelled, length-waiting, posted-without, ready-is, fired-is, done-start}
@@ -49,8 +49,8 @@ use Rattle.portals_ni.proofs.Told.{posted-tells, posted-told_by}
 
 -- what was told is forgotten
 pub told-forgotten : (ct : Option Handle) (c : Table Count) (ops left : Operations PostedOp) → left ≡ told_by ct c ops →
-    posted_all deed_in left ≡ posted_all deed_in ops
-told-forgotten ct c ops left e = ap (posted_all deed_in) e ∙ posted-told_by ct c ops
+    posted_all action_in left ≡ posted_all action_in ops
+told-forgotten ct c ops left e = ap (posted_all action_in) e ∙ posted-told_by ct c ops
 
 pub live-true : {A : Type 0} (b : Bool) (o : Option A) → (IsTrue b ↔ IsSome o) → b ≡ true → is_some o ≡ true
 live-true true None r e = cc (r.0 refl)
@@ -66,7 +66,7 @@ module _ (t : Side) (r : List ℕ) (c : Table Count) (e : Table Waiting) (i : In
 
   -- what was told isn't seen
   pub told-state : (ct : Handle) (sum : ℕ) (left : Operations PostedOp) → left ≡ told ct sum ops → before ≡ state_of t r c e i left d v
-  told-state ct sum left made = sym (rw (ap (posted_all deed_in) made ∙ posted-tells ct sum ops) refl)
+  told-state ct sum left made = sym (rw (ap (posted_all action_in) made ∙ posted-tells ct sum ops) refl)
 
   -- ---- the engines' parts
 
@@ -111,7 +111,7 @@ module _ (t : Side) (r : List ℕ) (c : Table Count) (e : Table Waiting) (i : In
   }
 
   pub free-ends : (ct : Handle) (k : Table Count) (live : Bool) → (IsTrue live ↔ IsSome (lookup ct c.live)) → live ≡ true →
-      md_names_ct ct i.mds.live ≡ false → index_names_ct ct t.indices ≡ false → operation_names_ct ct (posted_all deed_in ops).waiting
+      md_names_ct ct i.mds.live ≡ false → index_names_ct ct t.indices ≡ false → operation_names_ct ct (posted_all action_in ops).waiting
       ≡ false → k ≡ without ct c → ends (state_of t r k e i ops d v) (Ok tt) ≡ ct_free ct before
   free-ends ct k live is lives mds entries waiting gone = rw (gone, live-true live (lookup ct c.live) is lives, mds, entries, waiting) refl
 
@@ -212,35 +212,35 @@ module _ (t : Side) (r : List ℕ) (c : Table Count) (e : Table Waiting) (i : In
 
   -- ---- starts
 
-  pub start-ends : (deed : TriggeredOp) (j : Initiating) (k : Table Count) (f : Table Waiting) (left : Operations PostedOp) (m : Sent)
-      (ct : Option Handle) → deed_fault deed i.mds ≡ None → i.rank ≡ t.rank → has_started (home j.mds r k f) m ct ≡ started i.rank
-      (home i.mds r c e) deed → j ≡ with_mds j.mds i → left ≡ told_by ct k ops → ends (state_of t r k f j left d v) (Ok (Some m)) ≡ start
-      deed before
-  start-ends deed j k f left m ct none rank is rest told =
-      let same : has_started (home j.mds r k f) m ct ≡ started t.rank (home i.mds r c e) deed = is
-      ∙ ap (λ n. started n (home i.mds r c e) deed) rank in
+  pub start-ends : (action : TriggeredOp) (j : Initiating) (k : Table Count) (f : Table Waiting) (left : Operations PostedOp) (m : Sent)
+      (ct : Option Handle) → action_fault action i.mds ≡ None → i.rank ≡ t.rank → has_started (home j.mds r k f) m ct ≡ started i.rank
+      (home i.mds r c e) action → j ≡ with_mds j.mds i → left ≡ told_by ct k ops → ends (state_of t r k f j left d v) (Ok (Some m)) ≡ start
+      action before
+  start-ends action j k f left m ct none rank is rest told =
+      let same : has_started (home j.mds r k f) m ct ≡ started t.rank (home i.mds r c e) action = is
+      ∙ ap (λ n. started n (home i.mds r c e) action) rank in
       rw (none, ← same, home-state j r k f left ct rest told) refl
 
-  pub post-ends : (deed : TriggeredOp) (ct : Handle) (threshold sum n : ℕ) (a : PostedOp) (left : Operations PostedOp) →
-      triggered_fault deed ct c i.mds (posted_all deed_in ops) ≡ None → a.deed ≡ deed → n ≡ ops.given →
-      left ≡ with_posted a ct threshold sum (told ct sum ops) → ends (state_of t r c e i left d v) (Ok n) ≡ triggered deed ct threshold
+  pub post-ends : (action : TriggeredOp) (ct : Handle) (threshold sum n : ℕ) (a : PostedOp) (left : Operations PostedOp) →
+      triggered_fault action ct c i.mds (posted_all action_in ops) ≡ None → a.action ≡ action → n ≡ ops.given →
+      left ≡ with_posted a ct threshold sum (told ct sum ops) → ends (state_of t r c e i left d v) (Ok n) ≡ triggered action ct threshold
       before
-  post-ends deed ct threshold sum n a left none is number made =
+  post-ends action ct threshold sum n a left none is number made =
       rw (none, posted-new a ct threshold sum ops left made, is, number) refl
 
-  pub start-may : (deed : TriggeredOp) (j : Initiating) (k : Table Count) (f : Table Waiting) (left : Operations PostedOp) (m : Sent)
-      (ct : Option Handle) → deed_fault deed i.mds ≡ None → i.rank ≡ t.rank → has_started (home j.mds r k f) m ct ≡ started i.rank
-      (home i.mds r c e) deed → j ≡ with_mds j.mds i → left ≡ told_by ct k ops →
-      MayLackMemory (start deed before) before (ends (state_of t r k f j left d v) (Ok (Some m)))
-  start-may deed j k f left m ct none rank is rest told = subst (λ x. MayLackMemory (start deed before) before x)
-      (sym (start-ends deed j k f left m ct none rank is rest told)) enough
+  pub start-may : (action : TriggeredOp) (j : Initiating) (k : Table Count) (f : Table Waiting) (left : Operations PostedOp) (m : Sent)
+      (ct : Option Handle) → action_fault action i.mds ≡ None → i.rank ≡ t.rank → has_started (home j.mds r k f) m ct ≡ started i.rank
+      (home i.mds r c e) action → j ≡ with_mds j.mds i → left ≡ told_by ct k ops →
+      MayLackMemory (start action before) before (ends (state_of t r k f j left d v) (Ok (Some m)))
+  start-may action j k f left m ct none rank is rest told = subst (λ x. MayLackMemory (start action before) before x)
+      (sym (start-ends action j k f left m ct none rank is rest told)) enough
 
-  pub post-may : (deed : TriggeredOp) (ct : Handle) (threshold sum n : ℕ) (a : PostedOp) (left : Operations PostedOp) →
-      triggered_fault deed ct c i.mds (posted_all deed_in ops) ≡ None → a.deed ≡ deed → n ≡ ops.given →
-      left ≡ with_posted a ct threshold sum (told ct sum ops) → MayLackMemory (triggered deed ct threshold before) before
+  pub post-may : (action : TriggeredOp) (ct : Handle) (threshold sum n : ℕ) (a : PostedOp) (left : Operations PostedOp) →
+      triggered_fault action ct c i.mds (posted_all action_in ops) ≡ None → a.action ≡ action → n ≡ ops.given →
+      left ≡ with_posted a ct threshold sum (told ct sum ops) → MayLackMemory (triggered action ct threshold before) before
       (ends (state_of t r c e i left d v) (Ok n))
-  post-may deed ct threshold sum n a left none is number made = subst (λ x. MayLackMemory (triggered deed ct threshold before) before x)
-      (sym (post-ends deed ct threshold sum n a left none is number made)) enough
+  post-may action ct threshold sum n a left none is number made = subst (λ x. MayLackMemory (triggered action ct threshold before) before x)
+      (sym (post-ends action ct threshold sum n a left none is number made)) enough
 
   -- ---- arrivals
 
@@ -270,31 +270,31 @@ module _ (t : Side) (r : List ℕ) (c : Table Count) (e : Table Waiting) (i : In
   ready-answers (Some n) told some none = rw (ready-is n c ops told, some) refl
 
   pub fire-counts : (n : ℕ) (a : PostedOp) (k : Table Count) (between left : Operations PostedOp) (ct : Option Handle) →
-      option_map deed_of (operation_at n ops) ≡ Some a → is_start a.deed ≡ false → between ≡ without_number n ops →
-      k ≡ deed_counts a.deed c → left ≡ told_by ct k between → fires (state_of t r k e i left d v) None ≡ fired before n
+      option_map action_of (operation_at n ops) ≡ Some a → is_start a.action ≡ false → between ≡ without_number n ops →
+      k ≡ action_counts a.action c → left ≡ told_by ct k between → fires (state_of t r k e i left d v) None ≡ fired before n
   fire-counts n a k between left ct is counts gone made told =
       let done_of = fired-is before n ops a refl is in
       rw (
         done_of,
-        done-count (state_of t r c e i (without_number n ops) d v) a.deed counts,
+        done-count (state_of t r c e i (without_number n ops) d v) a.action counts,
         told-forgotten ct k between left told,
         gone,
         made,
       ) refl
 
   pub fire-starts : (n : ℕ) (a : PostedOp) (j : Initiating) (k : Table Count) (f : Table Waiting) (between left : Operations PostedOp)
-      (m : Sent) (ct : Option Handle) → option_map deed_of (operation_at n ops) ≡ Some a → is_start a.deed ≡ true →
-      between ≡ without_number n ops → i.rank ≡ t.rank → has_started (home j.mds r k f) m ct ≡ started i.rank (home i.mds r c e) a.deed →
+      (m : Sent) (ct : Option Handle) → option_map action_of (operation_at n ops) ≡ Some a → is_start a.action ≡ true →
+      between ≡ without_number n ops → i.rank ≡ t.rank → has_started (home j.mds r k f) m ct ≡ started i.rank (home i.mds r c e) a.action →
       j ≡ with_mds j.mds i → left ≡ told_by ct k between → fires (state_of t r k f j left d v) (Some m) ≡ fired before n
   fire-starts n a j k f between left m ct is starts gone rank sent rest told =
       let done_of = fired-is before n ops a refl is in
-      let same : has_started (home j.mds r k f) m ct ≡ started t.rank (home i.mds r c e) a.deed = sent
-      ∙ ap (λ x. started x (home i.mds r c e) a.deed) rank in
+      let same : has_started (home j.mds r k f) m ct ≡ started t.rank (home i.mds r c e) a.action = sent
+      ∙ ap (λ x. started x (home i.mds r c e) a.action) rank in
       let ranks : j.ranks ≡ i.ranks = ap (λ (x : Initiating). x.ranks) rest in
       let limits : j.limits ≡ i.limits = ap (λ (x : Initiating). x.limits) rest in
       rw (
         done_of,
-        done-start (state_of t r c e i (without_number n ops) d v) a.deed starts,
+        done-start (state_of t r c e i (without_number n ops) d v) a.action starts,
         ← same,
         told-forgotten ct k between left told,
         gone,
@@ -304,9 +304,9 @@ module _ (t : Side) (r : List ℕ) (c : Table Count) (e : Table Waiting) (i : In
 
   -- ---- what a firing leaves of the limits, the sums and the live names
 
-  pub fired-stands : (n : ℕ) (a : PostedOp) → option_map deed_of (operation_at n ops) ≡ Some a → deed_passes a.deed ≡ false →
+  pub fired-stands : (n : ℕ) (a : PostedOp) → option_map action_of (operation_at n ops) ≡ Some a → action_passes a.action ≡ false →
       Stands before → Stands (fired before n).state
   fired-stands n a is fits stands =
       let left : Stands (state_of t r c e i (without_number n ops) d v) = rw (posted-without n ops) (fewer-stands n before stands) in
       subst (λ (f : Fires). Stands f.state) (sym (fired-is before n ops a refl is))
-      (done-stands (state_of t r c e i (without_number n ops) d v) a.deed fits left)
+      (done-stands (state_of t r c e i (without_number n ops) d v) a.action fits left)

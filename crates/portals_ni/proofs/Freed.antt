@@ -13,7 +13,7 @@ use Rattle.ni_model.specs.Tables.{Live, Table, is_live, is_live_or_none, names, 
 use Rattle.ni_model.specs.Queues.{Waiting}
 use Rattle.ni_model.specs.Lists.{Index}
 use Rattle.ni_model.specs.State.{State, Posted}
-use Rattle.ni_model.specs.Refusals.{entry_names_ct, index_names_ct, index_names_eq, md_names_ct, md_names_eq, deed_names_ct}
+use Rattle.ni_model.specs.Refusals.{entry_names_ct, index_names_ct, index_names_eq, md_names_ct, md_names_eq, action_names_ct}
 use Rattle.ni_model.specs.Refusals.{operation_names_ct, counts_on_live, ct_free_fault, eq_free_fault}
 use Rattle.ni_model.specs.Calls.{ct_free, eq_free}
 use Rattle.portals_ni.specs.Lasting.{HasEntries, EntryIsLive, QueueIsLive, BoundIsLive, OperationIsLive}
@@ -67,24 +67,24 @@ bounds-without ct cts eqs (x ∷ xs) apart all =
     All-cons (BoundIsLive (without ct cts) eqs) x xs (none-without x.value.md.ct ct cts other.0 live.0, live.1)
     (bounds-without ct cts eqs xs other.1 (All-tail (BoundIsLive cts eqs) x xs all))
 
-deed-without : (d : TriggeredOp) (ct : Handle) (cts : Table Count) → deed_names_ct ct d ≡ false → counts_on_live d cts ≡ true →
+action-without : (d : TriggeredOp) (ct : Handle) (cts : Table Count) → action_names_ct ct d ≡ false → counts_on_live d cts ≡ true →
     counts_on_live d (without ct cts) ≡ true
-deed-without (Put a) ct cts apart is = refl
-deed-without (Get g) ct cts apart is = refl
-deed-without (Atomic a op ty) ct cts apart is = refl
-deed-without (FetchAtomic g a op ty) ct cts apart is = refl
-deed-without (Swap g a op ty operand) ct cts apart is = refl
-deed-without (Inc h by) ct cts apart is = live-without h ct cts apart is
-deed-without (Set h to) ct cts apart is = live-without h ct cts apart is
+action-without (Put a) ct cts apart is = refl
+action-without (Get g) ct cts apart is = refl
+action-without (Atomic a op ty) ct cts apart is = refl
+action-without (FetchAtomic g a op ty) ct cts apart is = refl
+action-without (Swap g a op ty operand) ct cts apart is = refl
+action-without (Inc h by) ct cts apart is = live-without h ct cts apart is
+action-without (Set h to) ct cts apart is = live-without h ct cts apart is
 
 operations-without : (ct : Handle) (cts : Table Count) (ps : List Posted) → operation_names_ct ct ps ≡ false →
     All (OperationIsLive cts) ps → All (OperationIsLive (without ct cts)) ps
 operations-without ct cts [] apart all = All-nil (OperationIsLive (without ct cts))
 operations-without ct cts (p ∷ ps) apart all =
-    let other = neither (same_handle p.ct ct || deed_names_ct ct p.deed) (operation_names_ct ct ps) apart in
-    let both = neither (same_handle p.ct ct) (deed_names_ct ct p.deed) other.0 in
+    let other = neither (same_handle p.ct ct || action_names_ct ct p.action) (operation_names_ct ct ps) apart in
+    let both = neither (same_handle p.ct ct) (action_names_ct ct p.action) other.0 in
     let live = All-head (OperationIsLive cts) p ps all in
-    All-cons (OperationIsLive (without ct cts)) p ps (live-without p.ct ct cts both.0 live.0, deed-without p.deed ct cts both.1 live.1)
+    All-cons (OperationIsLive (without ct cts)) p ps (live-without p.ct ct cts both.0 live.0, action-without p.action ct cts both.1 live.1)
     (operations-without ct cts ps other.1 (All-tail (OperationIsLive cts) p ps all))
 
 ct-freed : (ct : Handle) (s : State) → ct_free_fault ct s.cts s.indices s.mds s.pending ≡ None → Stands s →

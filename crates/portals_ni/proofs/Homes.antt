@@ -24,7 +24,7 @@ use Rattle.ni_model.specs.Answers.{Home, bound_at, is_due, memory_home, one_answ
 use Rattle.ni_model.specs.Answers.{lost_answer, answered_at, answered}
 use Rattle.ni_model.specs.Starts.{header_of, one_awaited, awaits_more, send_counter, counted_on, started_by, started}
 use Rattle.ni_model.specs.Conditions.{IsBoundIn, IsKept}
-use Rattle.ni_model.specs.Refusals.{holds_part, deed_is_live, put_fits, get_fits, deed_fits, deed_fault, deed_names_md}
+use Rattle.ni_model.specs.Refusals.{holds_part, action_is_live, put_fits, get_fits, action_fits, action_fault, action_names_md}
 use Rattle.initiator_engine.specs.Initiators.{AreBoundIn}
 use Rattle.initiator_engine.proofs.Bounds.{bound_has}
 use Rattle.portals_ni.proofs.Counts.{ChangesAt, changes-none, changes-counted, lookup-push, lookup-without}
@@ -94,17 +94,17 @@ holds-changed h f mds keeps = λ k at n apart holds. holds-change k h f at n mds
 pub holds-without : (h : Handle) (mds : Table Bound) → HoldsOn (λ k. same_handle k h) mds (without h mds)
 holds-without h mds = λ k at n apart holds. rw (lookup-without k h mds.live apart) holds
 
--- ---- what a deed names
+-- ---- what an action names
 
-abbrev pub deed_skips : (Handle → Bool) → TriggeredOp → Bool
-deed_skips skips (Put a) = skips a.md
-deed_skips skips (Get g) = skips g.md
-deed_skips skips (Atomic a op ty) = skips a.md
-deed_skips skips (FetchAtomic g a op ty) = skips g.md || skips a.md
-deed_skips skips (Swap g a op ty operand) = skips g.md || skips a.md
-deed_skips skips _ = false
+abbrev pub action_skips : (Handle → Bool) → TriggeredOp → Bool
+action_skips skips (Put a) = skips a.md
+action_skips skips (Get g) = skips g.md
+action_skips skips (Atomic a op ty) = skips a.md
+action_skips skips (FetchAtomic g a op ty) = skips g.md || skips a.md
+action_skips skips (Swap g a op ty operand) = skips g.md || skips a.md
+action_skips skips _ = false
 
-pub skips-none : (d : TriggeredOp) → deed_skips skips_none d ≡ false
+pub skips-none : (d : TriggeredOp) → action_skips skips_none d ≡ false
 skips-none (Put a) = refl
 skips-none (Get g) = refl
 skips-none (Atomic a op ty) = refl
@@ -113,7 +113,7 @@ skips-none (Swap g a op ty operand) = refl
 skips-none (Inc ct by) = refl
 skips-none (Set ct to) = refl
 
-pub skips-md : (md : Handle) (d : TriggeredOp) → deed_names_md md d ≡ deed_skips (λ k. same_handle k md) d
+pub skips-md : (md : Handle) (d : TriggeredOp) → action_names_md md d ≡ action_skips (λ k. same_handle k md) d
 skips-md md (Put a) = refl
 skips-md md (Get g) = refl
 skips-md md (Atomic a op ty) = refl
@@ -143,8 +143,8 @@ fetch-on skips old new g a holds apart fits =
     and-both (get_fits g new) (put_fits a new) (holds g.md g.local_offset g.length apart_of.0 fits_of.0)
     (holds a.md a.local_offset a.length apart_of.1 fits_of.1)
 
-pub fits-on : (skips : Handle → Bool) (old new : Table Bound) (d : TriggeredOp) → HoldsOn skips old new → deed_skips skips d ≡ false →
-    deed_fits d old ≡ true → deed_fits d new ≡ true
+pub fits-on : (skips : Handle → Bool) (old new : Table Bound) (d : TriggeredOp) → HoldsOn skips old new → action_skips skips d ≡ false →
+    action_fits d old ≡ true → action_fits d new ≡ true
 fits-on skips old new (Put a) holds apart fits = holds a.md a.local_offset a.length apart fits
 fits-on skips old new (Get g) holds apart fits = holds g.md g.local_offset g.length apart fits
 fits-on skips old new (Atomic a op ty) holds apart fits = holds a.md a.local_offset a.length apart fits
@@ -153,7 +153,7 @@ fits-on skips old new (Swap g a op ty operand) holds apart fits = fetch-on skips
 fits-on skips old new (Inc ct by) holds apart fits = refl
 fits-on skips old new (Set ct to) holds apart fits = refl
 
--- what a deed names in a live descriptor is live
+-- what an action names in a live descriptor is live
 put-live : (a : PutArgs) (mds : Table Bound) → put_fits a mds ≡ true → is_live a.md mds ≡ true
 put-live a mds fits = held-some (lookup a.md mds.live) a.local_offset a.length fits
 
@@ -165,7 +165,7 @@ fetch-live : (g : GetArgs) (a : PutArgs) (mds : Table Bound) → get_fits g mds 
 fetch-live g a mds fits = let f = both (get_fits g mds) (put_fits a mds) fits in
     and-both (is_live g.md mds) (is_live a.md mds) (get-live g mds f.0) (put-live a mds f.1)
 
-fits-live : (d : TriggeredOp) (mds : Table Bound) → deed_fits d mds ≡ true → deed_is_live d mds ≡ true
+fits-live : (d : TriggeredOp) (mds : Table Bound) → action_fits d mds ≡ true → action_is_live d mds ≡ true
 fits-live (Put a) mds fits = put-live a mds fits
 fits-live (Get g) mds fits = get-live g mds fits
 fits-live (Atomic a op ty) mds fits = put-live a mds fits
@@ -174,7 +174,7 @@ fits-live (Swap g a op ty operand) mds fits = fetch-live g a mds fits
 fits-live (Inc ct by) mds fits = refl
 fits-live (Set ct to) mds fits = refl
 
-pub fits-unrefused : (d : TriggeredOp) (mds : Table Bound) → deed_fits d mds ≡ true → deed_fault d mds ≡ None
+pub fits-unrefused : (d : TriggeredOp) (mds : Table Bound) → action_fits d mds ≡ true → action_fault d mds ≡ None
 fits-unrefused d mds fits = rw (fits-live d mds fits, fits) refl
 
 -- ---- starts and answers

@@ -22,7 +22,7 @@ use Rattle.ptl_types.specs.declared.entries.List.{List as EntryList}
 use Rattle.ptl_types.specs.declared.calls.Appended.{Appended}
 use Rattle.ni_model.specs.Append.{Searched, need, search, is_within, is_allocated, linked_count, append_fault}
 use Rattle.ni_model.specs.Calls.{bound, unlinked_in}
-use Rattle.ni_model.specs.Refusals.{bind_fault, triggered_fault, deed_passes}
+use Rattle.ni_model.specs.Refusals.{bind_fault, triggered_fault, action_passes}
 use Rattle.ni_model.specs.State.{Operations as Posts}
 use Rattle.ptl_types.specs.Filled.{Filled}
 use Rattle.ni_model.specs.Queues.{Waiting}
@@ -33,8 +33,8 @@ use Rattle.ni_model.specs.Conditions.{HasPartsIn, IsBoundIn, MayStart}
 use Rattle.initiator_engine.specs.Initiators.{Initiating, with_mds, room_for}
 use Rattle.target_engine.specs.Sides.{has_searched, has_appended, AppendsSome}
 use Rattle.triggered_ops.specs.Operations.{Operation, Operations, is_number, waits_on, told, with_posted, without_number, cancelled}
-use Rattle.portals_ni.specs.declared.armed.PostedOp.{PostedOp}
-use Rattle.portals_ni.specs.Answers.{deed_counts, deed_counter}
+use Rattle.portals_ni.specs.declared.posted_op.PostedOp.{PostedOp}
+use Rattle.portals_ni.specs.Answers.{action_counts, action_counter}
 use Rattle.portals_ni.specs.Pendings.{told_by}
 use Rattle.portals_ni.specs.Sound.{IsArmed, IsTold, IsSound}
 use Rattle.initiator_engine.proofs.Starting.{need-test, need-later}
@@ -42,16 +42,16 @@ use Rattle.portals_ni.proofs.Counts.{ChangesAt, changes-none, changes-one, chang
 use Rattle.portals_ni.proofs.Parts.{unlink-parts}
 use Rattle.portals_ni.proofs.Targets.{Keeps, search-keeps, AppendKeeps, append-keeps}
 use Rattle.portals_ni.proofs.Homes.{HoldsOn, skips_none, skips-none, fits-on, holds-push, bound-push, KeepsHome}
-use Rattle.portals_ni.proofs.Told.{all-told, told-again, deeds-told, deeds-told_by}
+use Rattle.portals_ni.proofs.Told.{all-told, told-again, actions-told, actions-told_by}
 use Rattle.portals_ni.proofs.Firing.{post-told}
 
 -- what was armed stays so where the descriptors hold what they held
 pub still-armed : (old new : Table Bound) (ranks : ℕ) (limits : Limits) (ws : List (Operation PostedOp)) → HoldsOn skips_none old new →
-    All (λ w. IsArmed old ranks limits w.deed) ws → All (λ w. IsArmed new ranks limits w.deed) ws
+    All (λ w. IsArmed old ranks limits w.action) ws → All (λ w. IsArmed new ranks limits w.action) ws
 still-armed old new ranks limits ws holds all =
-    All-weaker (λ (w : Operation PostedOp). IsArmed old ranks limits w.deed) (λ (w : Operation PostedOp). IsArmed new ranks limits w.deed)
+    All-weaker (λ (w : Operation PostedOp). IsArmed old ranks limits w.action) (λ (w : Operation PostedOp). IsArmed new ranks limits w.action)
     (λ w is. record {
-      fits = fits-on skips_none old new w.deed.deed holds (skips-none w.deed.deed) is.fits;
+      fits = fits-on skips_none old new w.action.action holds (skips-none w.action.action) is.fits;
       may = is.may;
       room =
           is.room;
@@ -67,7 +67,7 @@ target-sound t u r s c d e f i ops ct is keeps = record {
   limit = is.limit ∙ sym keeps.limit;
   parts = rw keeps.size keeps.parts;
   bound = rw keeps.size is.bound;
-  armed = deeds-told_by (IsArmed i.mds i.ranks i.limits) ct d ops is.armed;
+  armed = actions-told_by (IsArmed i.mds i.ranks i.limits) ct d ops is.armed;
   told = all-told ct c d ops keeps.counts is.told;
 }
 
@@ -80,7 +80,7 @@ home-sound t r s c d e f i mds ops ct is keeps = record {
   limit = is.limit;
   parts = rw keeps.size is.parts;
   bound = rw keeps.size keeps.bound;
-  armed = deeds-told_by (IsArmed mds i.ranks i.limits) ct d ops (still-armed i.mds mds i.ranks i.limits ops.waiting keeps.holds is.armed);
+  armed = actions-told_by (IsArmed mds i.ranks i.limits) ct d ops (still-armed i.mds mds i.ranks i.limits ops.waiting keeps.holds is.armed);
   told = all-told ct c d ops keeps.counts is.told;
 }
 
@@ -92,7 +92,7 @@ count-sound t r c d i ops ct is changes = record {
   limit = is.limit;
   parts = is.parts;
   bound = is.bound;
-  armed = deeds-told_by (IsArmed i.mds i.ranks i.limits) ct d ops is.armed;
+  armed = actions-told_by (IsArmed i.mds i.ranks i.limits) ct d ops is.armed;
   told = all-told ct c d ops changes is.told;
 }
 
@@ -104,7 +104,7 @@ fewer-sound t r c i ops left is fewer = record {
   limit = is.limit;
   parts = is.parts;
   bound = is.bound;
-  armed = fewer (λ w. IsArmed i.mds i.ranks i.limits w.deed) is.armed;
+  armed = fewer (λ w. IsArmed i.mds i.ranks i.limits w.action) is.armed;
   told = fewer (IsTold c) is.told;
 }
 
@@ -156,7 +156,7 @@ told-sound t r c i ops ct count is live = record {
   limit = is.limit;
   parts = is.parts;
   bound = is.bound;
-  armed = deeds-told (IsArmed i.mds i.ranks i.limits) (waits_on ct) (total count) ops.waiting is.armed;
+  armed = actions-told (IsArmed i.mds i.ranks i.limits) (waits_on ct) (total count) ops.waiting is.armed;
   told = told-again ct count c ops live is.told;
 }
 
@@ -169,20 +169,20 @@ post-sound t r c i ops a ct threshold count is armed live = record {
   limit = is.limit;
   parts = is.parts;
   bound = is.bound;
-  armed = All-push (λ (w : Operation PostedOp). IsArmed i.mds i.ranks i.limits w.deed) (told ct (total count) ops).waiting _
+  armed = All-push (λ (w : Operation PostedOp). IsArmed i.mds i.ranks i.limits w.action) (told ct (total count) ops).waiting _
       (told-sound t r c i ops ct count is live).armed armed;
   told = post-told ct count c ops a threshold live is.told;
 }
 
--- ---- the counting event of a deed that counts
-pub changes-deed : (d : TriggeredOp) (cts : Table Count) → ChangesAt (deed_counter d) cts (deed_counts d cts)
-changes-deed (Put a) cts = changes-none None cts
-changes-deed (Get g) cts = changes-none None cts
-changes-deed (Atomic a op ty) cts = changes-none None cts
-changes-deed (FetchAtomic g a op ty) cts = changes-none None cts
-changes-deed (Swap g a op ty operand) cts = changes-none None cts
-changes-deed (Inc ct by) cts = changes-counted (Some ct) by cts
-changes-deed (Set ct to) cts = changes-one ct (λ c. to) cts
+-- ---- the counting event of an action that counts
+pub changes-action : (d : TriggeredOp) (cts : Table Count) → ChangesAt (action_counter d) cts (action_counts d cts)
+changes-action (Put a) cts = changes-none None cts
+changes-action (Get g) cts = changes-none None cts
+changes-action (Atomic a op ty) cts = changes-none None cts
+changes-action (FetchAtomic g a op ty) cts = changes-none None cts
+changes-action (Swap g a op ty operand) cts = changes-none None cts
+changes-action (Inc ct by) cts = changes-counted (Some ct) by cts
+changes-action (Set ct to) cts = changes-one ct (λ c. to) cts
 
 -- an operation less
 pub taken-sound : (t : Side) (r : List ℕ) (c : Table Count) (i : Initiating) (ops : Operations PostedOp) (n : ℕ) → IsSound t r c i ops →
@@ -250,14 +250,14 @@ may-start d ranks n l e may = let P : ℕ → Type 0 = λ x. MayStart d ranks (r
 
 pub posts-armed : (d : TriggeredOp) (ct : Handle) (cts : Table Count) (mds : Table Bound) (ops : Posts) (ranks : ℕ) (limits : Limits)
     (room : Filled) → triggered_fault d ct cts mds ops ≡ None → MayStart d ranks limits → room_for d ≤ room.room →
-    IsArmed mds ranks limits (record { deed = d; room = room })
+    IsArmed mds ranks limits (record { action = d; room = room })
 posts-armed d ct cts mds ops ranks limits room none may fits =
     let later = need-later _ _ _ (need-later _ _ _ none) in
     record {
       fits = need-test _ _ _ later;
       may = may;
       room = fits;
-      counts = not-false (deed_passes d) (need-test _ _ _ (need-later _ _ _ later));
+      counts = not-false (action_passes d) (need-test _ _ _ (need-later _ _ _ later));
     }
 
 pub posts-live : (d : TriggeredOp) (ct : Handle) (cts : Table Count) (mds : Table Bound) (ops : Posts) →

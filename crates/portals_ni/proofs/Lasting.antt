@@ -12,7 +12,7 @@ use Rattle.ni_model.specs.State.{State, Posted}
 use Rattle.initiator_engine.specs.Initiators.{Initiating}
 use Rattle.triggered_ops.specs.Operations.{IsKept, posted}
 use Rattle.triggered_ops.proofs.Rising.{AllPairs-map}
-use Rattle.portals_ni.specs.Pendings.{deed_in}
+use Rattle.portals_ni.specs.Pendings.{action_in}
 use Rattle.portals_ni.specs.Lasting.{Lasts, CanFire}
 use Rattle.portals_ni.specs.Sound.{IsArmed, IsWhole, state_of}
 use Rattle.portals_ni.proofs.Firing.{Op, Ops, length-posted}
@@ -26,14 +26,14 @@ pub lasts : (t : Side) (r : List ℕ) (c : Table Count) (e : Table Waiting) (i :
 lasts t r c e i ops d v is kept =
     let s : State = state_of t r c e i ops d v in
     record {
-      rising = AllPairs-map (λ (p q : Posted). p.number < q.number) (posted deed_in) ops.waiting kept.rising;
-      were_given = All-map (λ (p : Posted). p.number < ops.given) (posted deed_in) ops.waiting kept.were_given;
+      rising = AllPairs-map (λ (p q : Posted). p.number < q.number) (posted action_in) ops.waiting kept.rising;
+      were_given = All-map (λ (p : Posted). p.number < ops.given) (posted action_in) ops.waiting kept.were_given;
       numbers = kept.numbers;
       at_most = rw (length-posted ops.waiting) kept.limited;
-      firing = All-map (CanFire s) (posted deed_in) ops.waiting
-          (All-weaker (λ (w : Op). IsArmed i.mds i.ranks i.limits w.deed) (λ (w : Op). CanFire s (posted deed_in w))
+      firing = All-map (CanFire s) (posted action_in) ops.waiting
+          (All-weaker (λ (w : Op). IsArmed i.mds i.ranks i.limits w.action) (λ (w : Op). CanFire s (posted action_in w))
           (λ w armed. record {
-            may_start = may-start w.deed.deed i.ranks t.limit i.limits is.sound.limit armed.may;
+            may_start = may-start w.action.action i.ranks t.limit i.limits is.sound.limit armed.may;
             fits =
                 armed.fits;
             counts = armed.counts;

@@ -28,7 +28,7 @@ use Rattle.ni_model.specs.Headers.{UnexpectedList, allows, no_room, oldest, foun
 use Rattle.ni_model.specs.Events.{message_event, unlink_event, kind_delivered, link_event, header_event, kind_taken, missed_event, is_reply}
 use Rattle.ni_model.specs.Events.{asks_event, answer_event, send_event}
 use Rattle.ni_model.specs.Arrive.{Parts, Received, received, refused, request, judged, accepted, chosen, is_overflow, is_over, counter_of}
-use Rattle.ni_model.specs.Arrive.{delivered, place, settled_at, settled, headers_after, delivery_raised, events_after}
+use Rattle.ni_model.specs.Arrive.{delivered, place, updated_at, updated, headers_after, delivery_raised, events_after}
 use Rattle.ni_model.specs.Answers.{Home, Returned, answered, answered_at, bound_at, came_home, lost_answer, is_due, counter_home}
 use Rattle.ni_model.specs.Answers.{one_answer, awaits_less, one_less, events_home}
 use Rattle.ni_model.specs.Starts.{started, started_by, header_of, awaits_more, one_awaited, send_counter, send_queue, counted_on}
@@ -119,9 +119,9 @@ queue-set eqs is pt o same all = All-set (QueueIsLive eqs) is pt o (ap (λ h. is
 
 -- ---- a request
 
-settled-queue : (f : Found) (h : Header) (o : Option Index) → queue_of (settled_at f h o) ≡ queue_of o
-settled-queue f h None = refl
-settled-queue f h (Some i) = elim f.list as (λ l. queue_of (Some (settled (record f { list = l }) h i)) ≡ i.eq)
+updated-queue : (f : Found) (h : Header) (o : Option Index) → queue_of (updated_at f h o) ≡ queue_of o
+updated-queue f h None = refl
+updated-queue f h (Some i) = elim f.list as (λ l. queue_of (Some (updated (record f { list = l }) h i)) ≡ i.eq)
     [ Priority ↦ refl | Overflow ↦ refl ]
 
 headers-limit : (f : Found) (h : Header) (hs : UnexpectedList) → (headers_after f h hs).limit ≡ hs.limit
@@ -146,13 +146,13 @@ events-grow f h eq eqs =
 
 accepted-lead : (p : Parts) (m : Sent) (f : Found) → PartsLead p (accepted p m f).parts
 accepted-lead p m f = record {
-  indices = length-set p.side.indices m.header.pt (settled_at f m.header (index_at m.header.pt p.side.indices));
+  indices = length-set p.side.indices m.header.pt (updated_at f m.header (index_at m.header.pt p.side.indices));
   headers = headers-limit f m.header p.side.headers;
   counts = counts-counted (counter_of f.linked) (successes 1) p.cts;
   queues = events-grow f m.header (queue_of (index_at m.header.pt p.side.indices)) p.eqs;
   entries_live = indices-entries (EntryIsLive (accepted p m f).parts.cts) (λ x to is. is) f m.header p.side.indices;
   indices_live = queue-set (accepted p m f).parts.eqs p.side.indices m.header.pt
-      (settled_at f m.header (index_at m.header.pt p.side.indices)) (settled-queue f m.header (index_at m.header.pt p.side.indices));
+      (updated_at f m.header (index_at m.header.pt p.side.indices)) (updated-queue f m.header (index_at m.header.pt p.side.indices));
 }
 
 either : {D : Type 0} (P : D → Type 0) (b : Bool) (x y : D) → P x → P y → P (if b then x else y)

@@ -22,7 +22,7 @@ use Rattle.ni_model.specs.declared.Linked.{Linked}
 use Rattle.ni_model.specs.declared.Found.{Found}
 use Rattle.ni_model.specs.Lists.{Index, index_at, unlinked, advanced, advance_one}
 use Rattle.ni_model.specs.Arrive.{writes, combined_by, swapped_by, new_bytes, old_bytes, memory_after, delivered, place, entries_after}
-use Rattle.ni_model.specs.Arrive.{is_over, running_after, settled, settled_at, indices_after}
+use Rattle.ni_model.specs.Arrive.{is_over, running_after, updated, updated_at, indices_after}
 use Rattle.ni_model.specs.Append.{linked_at}
 use Rattle.ni_model.specs.Calls.{new_index, unlinked_in}
 use Rattle.ni_model.specs.Conditions.{IsPartIn, HasPartsIn}
@@ -101,11 +101,11 @@ entries-all P stays x h xs all =
 
 -- ---- those of an index
 
-settled-entries : (P : Linked → Type 0) → StaysAt P → (f : Found) (h : Header) (o : Option Index) → HasEntries P o →
-    HasEntries P (settled_at f h o)
-settled-entries P stays f h None has = tt
-settled-entries P stays f h (Some i) has =
-    elim f.list as (λ l. HasEntries P (Some (settled (record f { list = l }) h i))) [
+updated-entries : (P : Linked → Type 0) → StaysAt P → (f : Found) (h : Header) (o : Option Index) → HasEntries P o →
+    HasEntries P (updated_at f h o)
+updated-entries P stays f h None has = tt
+updated-entries P stays f h (Some i) has =
+    elim f.list as (λ l. HasEntries P (Some (updated (record f { list = l }) h i))) [
       | Priority ↦ (entries-all P stays f.linked h i.priority has.0, has.1)
       | Overflow ↦ (has.0, entries-all P stays f.linked h i.overflow has.1)
     ]
@@ -131,8 +131,8 @@ at-entries P pt is all = at_has (HasEntries P) is pt None all tt
 -- after a request
 pub indices-entries : (P : Linked → Type 0) → StaysAt P → (f : Found) (h : Header) (is : List (Option Index)) → All (HasEntries P) is →
     All (HasEntries P) (indices_after f h is)
-indices-entries P stays f h is all = All-set (HasEntries P) is h.pt (settled_at f h (index_at h.pt is))
-    (settled-entries P stays f h (index_at h.pt is) (at-entries P h.pt is all)) all
+indices-entries P stays f h is all = All-set (HasEntries P) is h.pt (updated_at f h (index_at h.pt is))
+    (updated-entries P stays f h (index_at h.pt is) (at-entries P h.pt is all)) all
 
 -- one entry more, and one fewer
 pub append-entries : (P : Linked → Type 0) (pt : ℕ) (list : EntryList) (x : Linked) (is : List (Option Index)) → P x →

@@ -14,8 +14,8 @@ use Rattle.ni_model.specs.Ready.{is_ready_op, message_target, target_of}
 use Rattle.ni_model.specs.Tables.{Table}
 use Rattle.triggered_ops.specs.Operations.{is_number, is_due, is_due_op, due_numbers, shown, posted, posted_all}
 use Rattle.triggered_ops.proofs.Rising.{Rises, pairs-head, pairs-tail}
-use Rattle.portals_ni.specs.declared.armed.PostedOp.{PostedOp}
-use Rattle.portals_ni.specs.Pendings.{deed_in}
+use Rattle.portals_ni.specs.declared.posted_op.PostedOp.{PostedOp}
+use Rattle.portals_ni.specs.Pendings.{action_in}
 use Rattle.portals_ni.specs.Sound.{IsTold}
 use Rattle.portals_ni.proofs.Firing.{Op, Ops, find-posted, ready-is}
 
@@ -53,25 +53,25 @@ by-number f p (w ∷ ws) all =
       | false ↦ rest
     ])
 
-numbers-posted : (ws : List Op) → map (λ (p : Posted). p.number) (map (posted deed_in) ws) ≡ map (λ (w : Op). w.number) ws
+numbers-posted : (ws : List Op) → map (λ (p : Posted). p.number) (map (posted action_in) ws) ≡ map (λ (w : Op). w.number) ws
 numbers-posted [] = refl
 numbers-posted (w ∷ ws) = rw (numbers-posted ws) refl
 
 ready-found : (cts : Table Count) (ops : Ops) (vs : List Op) → All (IsTold cts) ops.waiting →
     All (λ (v : Op). find (is_number v.number) ops.waiting ≡ Some v) vs →
-    All (λ (v : Op). is_ready_op cts (model.posted_at v.number (posted_all deed_in ops)) ≡ is_due v) vs
-ready-found cts ops [] told found = All-nil (λ (v : Op). is_ready_op cts (model.posted_at v.number (posted_all deed_in ops)) ≡ is_due v)
+    All (λ (v : Op). is_ready_op cts (model.posted_at v.number (posted_all action_in ops)) ≡ is_due v) vs
+ready-found cts ops [] told found = All-nil (λ (v : Op). is_ready_op cts (model.posted_at v.number (posted_all action_in ops)) ≡ is_due v)
 ready-found cts ops (v ∷ vs) told found =
-    All-cons (λ (v : Op). is_ready_op cts (model.posted_at v.number (posted_all deed_in ops)) ≡ is_due v) v vs
+    All-cons (λ (v : Op). is_ready_op cts (model.posted_at v.number (posted_all action_in ops)) ≡ is_due v) v vs
     (ready-is v.number cts ops told ∙ ap is_due_op (All-head (λ (v : Op). find (is_number v.number) ops.waiting ≡ Some v) v vs found))
     (ready-found cts ops vs told (All-tail (λ (v : Op). find (is_number v.number) ops.waiting ≡ Some v) v vs found))
 
 pub due-are : (cts : Table Count) (ops : Ops) → AllPairs Rises ops.waiting → All (IsTold cts) ops.waiting →
-    filter (λ t. is_ready_op cts (model.posted_at t (posted_all deed_in ops)))
-    (map (λ (p : Posted). p.number) (posted_all deed_in ops).waiting) ≡ due_numbers ops
+    filter (λ t. is_ready_op cts (model.posted_at t (posted_all action_in ops)))
+    (map (λ (p : Posted). p.number) (posted_all action_in ops).waiting) ≡ due_numbers ops
 due-are cts ops rising told =
-    ap (filter (λ t. is_ready_op cts (model.posted_at t (posted_all deed_in ops)))) (numbers-posted ops.waiting)
-    ∙ by-number (λ t. is_ready_op cts (model.posted_at t (posted_all deed_in ops))) is_due ops.waiting
+    ap (filter (λ t. is_ready_op cts (model.posted_at t (posted_all action_in ops)))) (numbers-posted ops.waiting)
+    ∙ by-number (λ t. is_ready_op cts (model.posted_at t (posted_all action_in ops))) is_due ops.waiting
     (ready-found cts ops ops.waiting told (self-found ops.waiting rising))
 
 -- ---- those whose message is for one rank
@@ -92,15 +92,15 @@ module _ {A : Type 0} where
 
 -- what is found of a number is what is posted under it
 pub target-found : (t : ℕ) (ops : Ops) (a : PostedOp) (ct : Handle) (threshold : ℕ) → option_map shown (find (is_number t) ops.waiting)
-    ≡ Some (a, ct, threshold) → target_of (model.posted_at t (posted_all deed_in ops)) ≡ message_target a.deed
+    ≡ Some (a, ct, threshold) → target_of (model.posted_at t (posted_all action_in ops)) ≡ message_target a.action
 target-found t ops a ct threshold is = rw (find-posted t ops.waiting) (split (find (is_number t) ops.waiting) is)
   where
-    split : (o : Option Op) → option_map shown o ≡ Some (a, ct, threshold) → target_of (option_map (posted deed_in) o) ≡ message_target
-        a.deed
+    split : (o : Option Op) → option_map shown o ≡ Some (a, ct, threshold) → target_of (option_map (posted action_in) o) ≡ message_target
+        a.action
     split None e = cc
-    split (Some w) e = let all : shown w ≡ (a, ct, threshold) = cc in let same : w.deed ≡ a =
+    split (Some w) e = let all : shown w ≡ (a, ct, threshold) = cc in let same : w.action ≡ a =
         ap (λ (p : PostedOp × Handle × ℕ). p.0) all in rw same refl
 
-pub target-none : (t : ℕ) (ops : Ops) → find (is_number t) ops.waiting ≡ None → target_of (model.posted_at t (posted_all deed_in ops))
+pub target-none : (t : ℕ) (ops : Ops) → find (is_number t) ops.waiting ≡ None → target_of (model.posted_at t (posted_all action_in ops))
     ≡ None
 target-none t ops is = rw (find-posted t ops.waiting, is) refl

@@ -29,7 +29,7 @@ use Rattle.ni_model.specs.Append.{append}
 use Rattle.ni_model.specs.State.{State, Operations, Delivers, parts_of, with_parts, home_of, with_home, with_outcome, after_request}
 use Rattle.ni_model.specs.State.{after_answer}
 use Rattle.ni_model.specs.Ready.{Fires, fires, with_posted, without_number, is_number, cancelled, waits_on, done}
-use Rattle.ni_model.specs.Refusals.{inc_passes, counts_on_live, deed_is_live, deed_passes}
+use Rattle.ni_model.specs.Refusals.{inc_passes, counts_on_live, action_is_live, action_passes}
 use Rattle.ni_model.specs.Append.{search}
 use Rattle.ni_model.specs.Calls.{Done, ends, ends_by, Makes, MayLackMemory, enough, lacking, with_index, new_index, with_counter}
 use Rattle.ni_model.specs.Calls.{with_bound, with_operation, bound, unlinked_in, pt_alloc, ct_alloc, ct_set, ct_inc, ct_cancel, eq_alloc}
@@ -311,12 +311,12 @@ start-stands d s is =
 pub triggered-stands : (d : TriggeredOp) (ct : Handle) (threshold : ℕ) (s : State) → Stands s → Stands (triggered d ct threshold s).state
 triggered-stands d ct threshold s is =
     call-stands _ s (with_operation d ct threshold s) s.pending.given is (λ none.
-    let counts : Bool = counts_on_live d s.cts && deed_is_live d s.mds in
+    let counts : Bool = counts_on_live d s.cts && action_is_live d s.mds in
     let live : is_live ct s.cts && counts ≡ true = need-test _ _ _ none in
     operations-lead s (with_posted d ct threshold s.pending) refl
     (λ all. All-push (OperationIsLive s.cts) s.pending.waiting _ all (
       and-left (is_live ct s.cts) counts live,
-      and-left (counts_on_live d s.cts) (deed_is_live d s.mds) (and-right (is_live ct s.cts) counts live),
+      and-left (counts_on_live d s.cts) (action_is_live d s.mds) (and-right (is_live ct s.cts) counts live),
     )))
 
 pub fewer-stands : (t : ℕ) (s : State) → Stands s → Stands (record s { pending = without_number t s.pending })
@@ -330,7 +330,7 @@ sends-stands : (s : State) (d : TriggeredOp) → Stands s → Stands (with_home 
 sends-stands s d is = leads-stands s (with_home (started s.rank (home_of s) d).home s)
     (home-lead s (started s.rank (home_of s) d).home (started-lead s.rank (home_of s) d)) is
 
-pub done-stands : (s : State) (d : TriggeredOp) → deed_passes d ≡ false → Stands s → Stands (done s d).state
+pub done-stands : (s : State) (d : TriggeredOp) → action_passes d ≡ false → Stands s → Stands (done s d).state
 done-stands s (Put a) fits is = sends-stands s (Put a) is
 done-stands s (Get g) fits is = sends-stands s (Get g) is
 done-stands s (Atomic a op ty) fits is = sends-stands s (Atomic a op ty) is

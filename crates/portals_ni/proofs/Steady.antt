@@ -167,15 +167,15 @@ pub bounds-on : (c d : Table Count) (e f : Table Waiting) (xs : List (Live Bound
 bounds-on c d e f xs cts eqs all = All-weaker (BoundIsLive c e) (BoundIsLive d f)
     (λ x live. (grows-or-none x.value.md.ct c d cts live.0, grows-or-none x.value.md.eq e f eqs live.1)) xs all
 
-deed-on : (d : TriggeredOp) (old new : Table Count) → Grows old new → counts_on_live d old ≡ true → counts_on_live d new ≡ true
-deed-on (Put a) old new grows is = refl
-deed-on (Get g) old new grows is = refl
-deed-on (Atomic a op ty) old new grows is = refl
-deed-on (FetchAtomic g a op ty) old new grows is = refl
-deed-on (Swap g a op ty operand) old new grows is = refl
-deed-on (Inc ct by) old new grows is = grows.live ct is
-deed-on (Set ct to) old new grows is = grows.live ct is
+action-on : (d : TriggeredOp) (old new : Table Count) → Grows old new → counts_on_live d old ≡ true → counts_on_live d new ≡ true
+action-on (Put a) old new grows is = refl
+action-on (Get g) old new grows is = refl
+action-on (Atomic a op ty) old new grows is = refl
+action-on (FetchAtomic g a op ty) old new grows is = refl
+action-on (Swap g a op ty operand) old new grows is = refl
+action-on (Inc ct by) old new grows is = grows.live ct is
+action-on (Set ct to) old new grows is = grows.live ct is
 
 pub operations-on : (old new : Table Count) (ps : List Posted) → Grows old new → All (OperationIsLive old) ps → All (OperationIsLive new) ps
 operations-on old new ps grows all = All-weaker (OperationIsLive old) (OperationIsLive new)
-    (λ p live. (grows.live p.ct live.0, deed-on p.deed old new grows live.1)) ps all
+    (λ p live. (grows.live p.ct live.0, action-on p.action old new grows live.1)) ps all

@@ -11,8 +11,8 @@ use Rattle.ni_model.specs.Tables.{Table, lookup, names}
 use Rattle.ni_model.specs.Counts.{total}
 use Rattle.triggered_ops.specs.Operations.{Operation, Operations, waits_on, told, told_if, posted, posted_all}
 use Rattle.ni_objects.proofs.users.SumLemmas.{same-is}
-use Rattle.portals_ni.specs.declared.armed.PostedOp.{PostedOp}
-use Rattle.portals_ni.specs.Pendings.{deed_in, tell_at, told_by}
+use Rattle.portals_ni.specs.declared.posted_op.PostedOp.{PostedOp}
+use Rattle.portals_ni.specs.Pendings.{action_in, tell_at, told_by}
 use Rattle.portals_ni.specs.Sound.{IsTold}
 use Rattle.portals_ni.proofs.Counts.{ChangesAt, changes-none}
 
@@ -94,38 +94,38 @@ told-again h c cts ops now all = each-anew h c cts cts ops.waiting (changes-none
 -- ---- telling changes nothing else
 
 pub posted-told : (test : Operation PostedOp → Bool) (sum : ℕ) (ws : List (Operation PostedOp)) →
-    map (posted deed_in) (map (told_if test sum) ws) ≡ map (posted deed_in) ws
+    map (posted action_in) (map (told_if test sum) ws) ≡ map (posted action_in) ws
 posted-told test sum [] = refl
 posted-told test sum (w ∷ ws) = rw (posted-told test sum ws) refl
 
-pub posted-tells : (ct : Handle) (sum : ℕ) (ops : Operations PostedOp) → posted_all deed_in (told ct sum ops) ≡ posted_all deed_in ops
+pub posted-tells : (ct : Handle) (sum : ℕ) (ops : Operations PostedOp) → posted_all action_in (told ct sum ops) ≡ posted_all action_in ops
 posted-tells ct sum ops = rw (posted-told (waits_on ct) sum ops.waiting) refl
 
-pub posted-tell_at : (h : Handle) (o : Option Count) (ops : Operations PostedOp) → posted_all deed_in (tell_at h o ops) ≡ posted_all
-    deed_in ops
+pub posted-tell_at : (h : Handle) (o : Option Count) (ops : Operations PostedOp) → posted_all action_in (tell_at h o ops) ≡ posted_all
+    action_in ops
 posted-tell_at h None ops = refl
 posted-tell_at h (Some c) ops = posted-tells h (total c) ops
 
 pub posted-told_by : (ct : Option Handle) (cts : Table Count) (ops : Operations PostedOp) →
-    posted_all deed_in (told_by ct cts ops) ≡ posted_all deed_in ops
+    posted_all action_in (told_by ct cts ops) ≡ posted_all action_in ops
 posted-told_by None cts ops = refl
 posted-told_by (Some h) cts ops = posted-tell_at h (lookup h cts.live) ops
 
--- the deeds stay, and what holds of each
-pub deeds-told : (P : PostedOp → Type 0) (test : Operation PostedOp → Bool) (sum : ℕ) (ws : List (Operation PostedOp)) →
-    All (λ w. P w.deed) ws → All (λ w. P w.deed) (map (told_if test sum) ws)
-deeds-told P test sum [] all = all
-deeds-told P test sum (w ∷ ws) all =
-    All-cons (λ (x : Operation PostedOp). P x.deed) (told_if test sum w) (map (told_if test sum) ws)
-    (All-head (λ (x : Operation PostedOp). P x.deed) w ws all)
-    (deeds-told P test sum ws (All-tail (λ (x : Operation PostedOp). P x.deed) w ws all))
+-- the actions stay, and what holds of each
+pub actions-told : (P : PostedOp → Type 0) (test : Operation PostedOp → Bool) (sum : ℕ) (ws : List (Operation PostedOp)) →
+    All (λ w. P w.action) ws → All (λ w. P w.action) (map (told_if test sum) ws)
+actions-told P test sum [] all = all
+actions-told P test sum (w ∷ ws) all =
+    All-cons (λ (x : Operation PostedOp). P x.action) (told_if test sum w) (map (told_if test sum) ws)
+    (All-head (λ (x : Operation PostedOp). P x.action) w ws all)
+    (actions-told P test sum ws (All-tail (λ (x : Operation PostedOp). P x.action) w ws all))
 
-deeds-tell_at : (P : PostedOp → Type 0) (h : Handle) (o : Option Count) (ops : Operations PostedOp) → All (λ w. P w.deed) ops.waiting →
-    All (λ w. P w.deed) (tell_at h o ops).waiting
-deeds-tell_at P h None ops all = all
-deeds-tell_at P h (Some c) ops all = deeds-told P (waits_on h) (total c) ops.waiting all
+actions-tell_at : (P : PostedOp → Type 0) (h : Handle) (o : Option Count) (ops : Operations PostedOp) → All (λ w. P w.action) ops.waiting →
+    All (λ w. P w.action) (tell_at h o ops).waiting
+actions-tell_at P h None ops all = all
+actions-tell_at P h (Some c) ops all = actions-told P (waits_on h) (total c) ops.waiting all
 
-pub deeds-told_by : (P : PostedOp → Type 0) (ct : Option Handle) (cts : Table Count) (ops : Operations PostedOp) →
-    All (λ w. P w.deed) ops.waiting → All (λ w. P w.deed) (told_by ct cts ops).waiting
-deeds-told_by P None cts ops all = all
-deeds-told_by P (Some h) cts ops all = deeds-tell_at P h (lookup h cts.live) ops all
+pub actions-told_by : (P : PostedOp → Type 0) (ct : Option Handle) (cts : Table Count) (ops : Operations PostedOp) →
+    All (λ w. P w.action) ops.waiting → All (λ w. P w.action) (told_by ct cts ops).waiting
+actions-told_by P None cts ops all = all
+actions-told_by P (Some h) cts ops all = actions-tell_at P h (lookup h cts.live) ops all

@@ -13,17 +13,17 @@ use Rattle.ptl_types.specs.declared.calls.TriggeredOp.{TriggeredOp}
 use Rattle.ptl_types.specs.declared.calls.TriggeredOp.TheVariants.{Put, Get, Atomic, FetchAtomic, Swap, Inc, Set}
 use Rattle.ptl_types.specs.Handles.{same_handle}
 use Rattle.ni_model.specs.Tables.{names}
-use Rattle.ni_model.specs.Refusals.{deed_names_ct, deed_names_md, operation_names_ct, operation_names_md}
-use Rattle.triggered_ops.specs.Operations.{Operation, Operations, is_number, waits_on, waiting_on, cancelled, shown, deed_of, told_if}
+use Rattle.ni_model.specs.Refusals.{action_names_ct, action_names_md, operation_names_ct, operation_names_md}
+use Rattle.triggered_ops.specs.Operations.{Operation, Operations, is_number, waits_on, waiting_on, cancelled, shown, action_of, told_if}
 use Rattle.triggered_ops.specs.Operations.{told_where, without_number, operation_at, no_operations, posted, posted_all}
 use Rattle.triggered_ops.proofs.Rising.{Rises, pairs-head, pairs-tail, length-filter_le}
 use Rattle.triggered_ops.proofs.Found.{find-behind}
 use Rattle.ni_objects.specs.users.Rows.{one_if_slot, one_at, count_at, incremented, decremented, more, fewer, Counts}
 use Rattle.ni_objects.proofs.users.RowLemmas.{counts-same, counts-none, counts-incremented, counts-decremented, counts-more, counts-fewer}
 use Rattle.ni_objects.proofs.users.RowLemmas.{counts-at_most, add-room, one-at_most, names-step}
-use Rattle.portals_ni.specs.declared.armed.PostedOp.{PostedOp}
-use Rattle.portals_ni.specs.Answers.{deed_counter}
-use Rattle.portals_ni.specs.Pendings.{deed_in}
+use Rattle.portals_ni.specs.declared.posted_op.PostedOp.{PostedOp}
+use Rattle.portals_ni.specs.Answers.{action_counter}
+use Rattle.portals_ni.specs.Pendings.{action_in}
 use Rattle.portals_ni.specs.Uses.{put_md, get_md, ct_uses, md_uses, AreUsed, cts_with, mds_with, cts_without, mds_without, CtsAlone}
 use Rattle.portals_ni.specs.Uses.{MdsAlone}
 
@@ -88,19 +88,19 @@ used-told test sum ops cts mds u = record {
 }
 
 module _ (f g : ℕ → ℕ) (row : List ℕ) (c : Counts f row) where
-  cts-come : (ct : Handle) (d : TriggeredOp) → ((k : ℕ) → g k ≡ f k + (one_if_slot ct.slot k + one_at (deed_counter d) k)) →
+  cts-come : (ct : Handle) (d : TriggeredOp) → ((k : ℕ) → g k ≡ f k + (one_if_slot ct.slot k + one_at (action_counter d) k)) →
       Counts g (cts_with ct d row)
   cts-come ct d up =
       let first = λ (k : ℕ). f k + one_if_slot ct.slot k in
-      counts-more first g (incremented ct.slot row) (counts-incremented f first row c ct.slot (λ k. refl)) (deed_counter d)
+      counts-more first g (incremented ct.slot row) (counts-incremented f first row c ct.slot (λ k. refl)) (action_counter d)
       (λ k. omega (arith, up k))
 
-  cts-go : (ct : Handle) (d : TriggeredOp) → ((k : ℕ) → f k ≡ g k + (one_if_slot ct.slot k + one_at (deed_counter d) k)) →
+  cts-go : (ct : Handle) (d : TriggeredOp) → ((k : ℕ) → f k ≡ g k + (one_if_slot ct.slot k + one_at (action_counter d) k)) →
       Counts g (cts_without ct d row)
   cts-go ct d down =
-      let first = λ (k : ℕ). g k + one_at (deed_counter d) k in
+      let first = λ (k : ℕ). g k + one_at (action_counter d) k in
       counts-fewer first g (decremented ct.slot row) (counts-decremented f first row c ct.slot (λ k. omega (arith, down k)))
-      (deed_counter d) (λ k. refl)
+      (action_counter d) (λ k. refl)
 
   mds-come : (d : TriggeredOp) → ((k : ℕ) → g k ≡ f k + (one_at (get_md d) k + one_at (put_md d) k)) → Counts g (mds_with d row)
   mds-come d up =
@@ -114,44 +114,44 @@ module _ (f g : ℕ → ℕ) (row : List ℕ) (c : Counts f row) where
       (λ k. refl)
 
 pub used-posted : (ops new : Operations PostedOp) (w : Op) (cts mds : List ℕ) → AreUsed ops cts mds →
-    new.waiting ≡ ops.waiting ++ w ∷ [] → AreUsed new (cts_with w.ct w.deed.deed cts) (mds_with w.deed.deed mds)
+    new.waiting ≡ ops.waiting ++ w ∷ [] → AreUsed new (cts_with w.ct w.action.action cts) (mds_with w.action.action mds)
 used-posted ops new w cts mds u e = record {
-  counters = cts-come (λ k. sum_by (ct_uses k) ops.waiting) (λ k. sum_by (ct_uses k) new.waiting) cts u.counters w.ct w.deed.deed
+  counters = cts-come (λ k. sum_by (ct_uses k) ops.waiting) (λ k. sum_by (ct_uses k) new.waiting) cts u.counters w.ct w.action.action
       (λ k. ap (sum_by (ct_uses k)) e ∙ uses-push (ct_uses k) ops.waiting w);
-  descriptors = mds-come (λ k. sum_by (md_uses k) ops.waiting) (λ k. sum_by (md_uses k) new.waiting) mds u.descriptors w.deed.deed
+  descriptors = mds-come (λ k. sum_by (md_uses k) ops.waiting) (λ k. sum_by (md_uses k) new.waiting) mds u.descriptors w.action.action
       (λ k. ap (sum_by (md_uses k)) e ∙ uses-push (md_uses k) ops.waiting w);
 }
 
 pub used-taken : (ops : Operations PostedOp) (t : ℕ) (w : Op) (cts mds : List ℕ) → AreUsed ops cts mds → AllPairs Rises ops.waiting →
-    operation_at t ops ≡ Some w → AreUsed (without_number t ops) (cts_without w.ct w.deed.deed cts) (mds_without w.deed.deed mds)
+    operation_at t ops ≡ Some w → AreUsed (without_number t ops) (cts_without w.ct w.action.action cts) (mds_without w.action.action mds)
 used-taken ops t w cts mds u all at = record {
   counters = cts-go (λ k. sum_by (ct_uses k) ops.waiting) (λ k. sum_by (ct_uses k) (without_number t ops).waiting) cts u.counters w.ct
-      w.deed.deed (λ k. uses-without (ct_uses k) t ops.waiting w all at);
+      w.action.action (λ k. uses-without (ct_uses k) t ops.waiting w all at);
   descriptors = mds-go (λ k. sum_by (md_uses k) ops.waiting) (λ k. sum_by (md_uses k) (without_number t ops).waiting) mds u.descriptors
-      w.deed.deed (λ k. uses-without (md_uses k) t ops.waiting w all at);
+      w.action.action (λ k. uses-without (md_uses k) t ops.waiting w all at);
 }
 
--- by what was shown of it, and the deed that was taken
-taken-op : (o : Option Op) (b a : PostedOp) (h : Handle) (th : ℕ) → option_map shown o ≡ Some (b, h, th) → option_map deed_of o ≡ Some a →
-    (w : Op) × (o ≡ Some w) × (w.ct ≡ h) × (w.deed ≡ a)
+-- by what was shown of it, and the action that was taken
+taken-op : (o : Option Op) (b a : PostedOp) (h : Handle) (th : ℕ) → option_map shown o ≡ Some (b, h, th) → option_map action_of o ≡ Some a →
+    (w : Op) × (o ≡ Some w) × (w.ct ≡ h) × (w.action ≡ a)
 taken-op None b a h th e f = cc
 taken-op (Some w) b a h th e f =
     let same : shown w ≡ (b, h, th) = cc in
-    let deed : w.deed ≡ a = cc in
-    (w, refl, ap (λ (s : PostedOp × Handle × ℕ). s.1) same, deed)
+    let action : w.action ≡ a = cc in
+    (w, refl, ap (λ (s : PostedOp × Handle × ℕ). s.1) same, action)
 
 pub used-gone : (ops : Operations PostedOp) (t : ℕ) (b a : PostedOp) (h : Handle) (th : ℕ) (cts mds : List ℕ) → AreUsed ops cts mds →
-    AllPairs Rises ops.waiting → option_map shown (operation_at t ops) ≡ Some (b, h, th) → option_map deed_of (operation_at t ops) ≡ Some a
-    → AreUsed (without_number t ops) (cts_without h a.deed cts) (mds_without a.deed mds)
+    AllPairs Rises ops.waiting → option_map shown (operation_at t ops) ≡ Some (b, h, th) → option_map action_of (operation_at t ops) ≡ Some a
+    → AreUsed (without_number t ops) (cts_without h a.action cts) (mds_without a.action mds)
 used-gone ops t b a h th cts mds u all e f =
     let w = taken-op (operation_at t ops) b a h th e f in
     let k = used-taken ops t w.0 cts mds u all w.1 in
-    subst (λ (x : PostedOp). AreUsed (without_number t ops) (cts_without h x.deed cts) (mds_without x.deed mds)) w.3
-    (subst (λ (x : Handle). AreUsed (without_number t ops) (cts_without x w.0.deed.deed cts) (mds_without w.0.deed.deed mds)) w.2 k)
+    subst (λ (x : PostedOp). AreUsed (without_number t ops) (cts_without h x.action cts) (mds_without x.action mds)) w.3
+    (subst (λ (x : Handle). AreUsed (without_number t ops) (cts_without x w.0.action.action cts) (mds_without w.0.action.action mds)) w.2 k)
 
 -- one that was shown can be taken
 pub shown-taken : (o : Option Op) (b : PostedOp) (h : Handle) (th : ℕ) (r : Option PostedOp) → option_map shown o ≡ Some (b, h, th) →
-    r ≡ option_map deed_of o → r ≡ None → ⊥
+    r ≡ option_map action_of o → r ≡ None → ⊥
 shown-taken None b h th r e f none = cc
 shown-taken (Some w) b h th r e f none = cc
 
@@ -220,10 +220,10 @@ length-parts ct ops = length-filter_both (waits_on ct) (λ p. not (waits_on ct p
 -- ---- there is room to count an operation more
 
 ct-at_most : (k : ℕ) (w : Op) → ct_uses k w ≤ 2
-ct-at_most k w = omega (arith, one-at_most (Some w.ct) k, one-at_most (deed_counter w.deed.deed) k)
+ct-at_most k w = omega (arith, one-at_most (Some w.ct) k, one-at_most (action_counter w.action.action) k)
 
 md-at_most : (k : ℕ) (w : Op) → md_uses k w ≤ 2
-md-at_most k w = omega (arith, one-at_most (get_md w.deed.deed) k, one-at_most (put_md w.deed.deed) k)
+md-at_most k w = omega (arith, one-at_most (get_md w.action.action) k, one-at_most (put_md w.action.action) k)
 
 pub room-raise : (ops : Operations PostedOp) (cts mds : List ℕ) (ct : Handle) → AreUsed ops cts mds → length ops.waiting < 2 ^ 32 →
     count_at ct.slot cts < 2 ^ 64 - 1
@@ -258,7 +258,7 @@ room-put ops cts mds p o u small =
 
 -- ---- what is named is what is counted
 
-counter-named : (ct : Handle) (d : TriggeredOp) → deed_names_ct ct d ≡ names (deed_counter d) ct
+counter-named : (ct : Handle) (d : TriggeredOp) → action_names_ct ct d ≡ names (action_counter d) ct
 counter-named ct (Put a) = refl
 counter-named ct (Get g) = refl
 counter-named ct (Atomic a op ty) = refl
@@ -271,7 +271,7 @@ or-none : (a : Bool) → a ≡ (a || false)
 or-none true = refl
 or-none false = refl
 
-mds-named : (md : Handle) (d : TriggeredOp) → deed_names_md md d ≡ (names (get_md d) md || names (put_md d) md)
+mds-named : (md : Handle) (d : TriggeredOp) → action_names_md md d ≡ (names (get_md d) md || names (put_md d) md)
 mds-named md (Put a) = refl
 mds-named md (Get g) = or-none (same_handle g.md md)
 mds-named md (Atomic a op ty) = refl
@@ -284,45 +284,45 @@ or-both : (a b c : Bool) → ((a || b) || c) ≡ (a || (b || c))
 or-both true b c = refl
 or-both false b c = refl
 
-ops-name-ct : (ct : Handle) (ws : List Op) → All (CtsAlone ct) ws → operation_names_ct ct (map (posted deed_in) ws) ≡ nat_lt 0
+ops-name-ct : (ct : Handle) (ws : List Op) → All (CtsAlone ct) ws → operation_names_ct ct (map (posted action_in) ws) ≡ nat_lt 0
     (sum_by (ct_uses ct.slot) ws)
 ops-name-ct ct [] all = refl
 ops-name-ct ct (w ∷ ws) all =
     let alone = All-head (CtsAlone ct) w ws all in
-    let rest : Bool = operation_names_ct ct (map (posted deed_in) ws) in
+    let rest : Bool = operation_names_ct ct (map (posted action_in) ws) in
     let n : ℕ = sum_by (ct_uses ct.slot) ws in
-    let whole : one_at (Some w.ct) ct.slot + (one_at (deed_counter w.deed.deed) ct.slot + n) ≡ sum_by (ct_uses ct.slot) (w ∷ ws) =
+    let whole : one_at (Some w.ct) ct.slot + (one_at (action_counter w.action.action) ct.slot + n) ≡ sum_by (ct_uses ct.slot) (w ∷ ws) =
     omega (arith, sum_by-cons (ct_uses ct.slot) w ws) in
-    ap (λ b. (same_handle w.ct ct || b) || rest) (counter-named ct w.deed.deed)
-    ∙ or-both (same_handle w.ct ct) (names (deed_counter w.deed.deed) ct) rest
-    ∙ names-step ct (Some w.ct) (names (deed_counter w.deed.deed) ct || rest) (one_at (deed_counter w.deed.deed) ct.slot + n) alone.0
-    (names-step ct (deed_counter w.deed.deed) rest n alone.1 (ops-name-ct ct ws (All-tail (CtsAlone ct) w ws all)))
+    ap (λ b. (same_handle w.ct ct || b) || rest) (counter-named ct w.action.action)
+    ∙ or-both (same_handle w.ct ct) (names (action_counter w.action.action) ct) rest
+    ∙ names-step ct (Some w.ct) (names (action_counter w.action.action) ct || rest) (one_at (action_counter w.action.action) ct.slot + n) alone.0
+    (names-step ct (action_counter w.action.action) rest n alone.1 (ops-name-ct ct ws (All-tail (CtsAlone ct) w ws all)))
     ∙ ap (λ m. nat_lt 0 m) whole
 
-ops-name-md : (md : Handle) (ws : List Op) → All (MdsAlone md) ws → operation_names_md md (map (posted deed_in) ws) ≡ nat_lt 0
+ops-name-md : (md : Handle) (ws : List Op) → All (MdsAlone md) ws → operation_names_md md (map (posted action_in) ws) ≡ nat_lt 0
     (sum_by (md_uses md.slot) ws)
 ops-name-md md [] all = refl
 ops-name-md md (w ∷ ws) all =
     let alone = All-head (MdsAlone md) w ws all in
-    let rest : Bool = operation_names_md md (map (posted deed_in) ws) in
+    let rest : Bool = operation_names_md md (map (posted action_in) ws) in
     let n : ℕ = sum_by (md_uses md.slot) ws in
-    let whole : one_at (get_md w.deed.deed) md.slot + (one_at (put_md w.deed.deed) md.slot + n) ≡ sum_by (md_uses md.slot) (w ∷ ws) =
+    let whole : one_at (get_md w.action.action) md.slot + (one_at (put_md w.action.action) md.slot + n) ≡ sum_by (md_uses md.slot) (w ∷ ws) =
     omega (arith, sum_by-cons (md_uses md.slot) w ws) in
-    ap (λ b. b || rest) (mds-named md w.deed.deed)
-    ∙ or-both (names (get_md w.deed.deed) md) (names (put_md w.deed.deed) md) rest
-    ∙ names-step md (get_md w.deed.deed) (names (put_md w.deed.deed) md || rest) (one_at (put_md w.deed.deed) md.slot + n) alone.0
-    (names-step md (put_md w.deed.deed) rest n alone.1 (ops-name-md md ws (All-tail (MdsAlone md) w ws all)))
+    ap (λ b. b || rest) (mds-named md w.action.action)
+    ∙ or-both (names (get_md w.action.action) md) (names (put_md w.action.action) md) rest
+    ∙ names-step md (get_md w.action.action) (names (put_md w.action.action) md || rest) (one_at (put_md w.action.action) md.slot + n) alone.0
+    (names-step md (put_md w.action.action) rest n alone.1 (ops-name-md md ws (All-tail (MdsAlone md) w ws all)))
     ∙ ap (λ m. nat_lt 0 m) whole
 
 pub used-ct : (ct : Handle) (n : ℕ) (ops : Operations PostedOp) (cts mds : List ℕ) → AreUsed ops cts mds →
-    slice_get cts ct.slot ≡ Some n → All (CtsAlone ct) ops.waiting → nat_lt 0 n ≡ operation_names_ct ct (posted_all deed_in ops).waiting
+    slice_get cts ct.slot ≡ Some n → All (CtsAlone ct) ops.waiting → nat_lt 0 n ≡ operation_names_ct ct (posted_all action_in ops).waiting
 used-ct ct n ops cts mds u at all =
     let uses : n ≡ sum_by (ct_uses ct.slot) ops.waiting = sym (get_or_from_slice_get cts ct.slot n 0 at)
     ∙ u.counters ct.slot (slice_get_within cts ct.slot n at) in
     ap (λ m. nat_lt 0 m) uses ∙ sym (ops-name-ct ct ops.waiting all)
 
 pub used-md : (md : Handle) (n : ℕ) (ops : Operations PostedOp) (cts mds : List ℕ) → AreUsed ops cts mds →
-    slice_get mds md.slot ≡ Some n → All (MdsAlone md) ops.waiting → nat_lt 0 n ≡ operation_names_md md (posted_all deed_in ops).waiting
+    slice_get mds md.slot ≡ Some n → All (MdsAlone md) ops.waiting → nat_lt 0 n ≡ operation_names_md md (posted_all action_in ops).waiting
 used-md md n ops cts mds u at all =
     let uses : n ≡ sum_by (md_uses md.slot) ops.waiting = sym (get_or_from_slice_get mds md.slot n 0 at)
     ∙ u.descriptors md.slot (slice_get_within mds md.slot n at) in

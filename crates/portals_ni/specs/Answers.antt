@@ -31,14 +31,14 @@ abbrev pub as_started : Result Sent NiFault → Result (Option Sent) NiFault
 as_started (Ok m) = Ok (Some m)
 as_started (Err fault) = Err fault
 
--- what a deed does that counts
-abbrev pub deed_counts : TriggeredOp → Table Count → Table Count
-deed_counts (Inc ct by) cts = counted (Some ct) by cts
-deed_counts (Set ct to) cts = changed ct (λ (c : Count). to) cts
-deed_counts _ cts = cts
+-- what an action does that counts
+abbrev pub action_counts : TriggeredOp → Table Count → Table Count
+action_counts (Inc ct by) cts = counted (Some ct) by cts
+action_counts (Set ct to) cts = changed ct (λ (c : Count). to) cts
+action_counts _ cts = cts
 
 -- the counting event that it counts on
-abbrev pub deed_counter : TriggeredOp → Option Handle
-deed_counter (Inc ct by) = Some ct
-deed_counter (Set ct to) = Some ct
-deed_counter _ = None
+abbrev pub action_counter : TriggeredOp → Option Handle
+action_counter (Inc ct by) = Some ct
+action_counter (Set ct to) = Some ct
+action_counter _ = None

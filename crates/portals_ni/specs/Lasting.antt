@@ -10,7 +10,7 @@ use Rattle.ni_model.specs.Counts.{total}
 use Rattle.ni_model.specs.Queues.{Waiting}
 use Rattle.ni_model.specs.Lists.{Index, queue_of}
 use Rattle.ni_model.specs.Conditions.{HasPartsIn, IsBoundIn, MayStart}
-use Rattle.ni_model.specs.Refusals.{counts_on_live, deed_fits, deed_passes}
+use Rattle.ni_model.specs.Refusals.{counts_on_live, action_fits, action_passes}
 use Rattle.ni_model.specs.State.{State, Posted}
 
 -- each table's limit is the one that `limits` tells
@@ -41,7 +41,7 @@ BoundIsLive cts eqs x = (is_live_or_none x.value.md.ct cts ≡ true) × (is_live
 
 -- the counting events that a pending operation waits on and counts on are
 abbrev pub OperationIsLive : Table Count → Posted → Type 0
-OperationIsLive cts p = (is_live p.ct cts ≡ true) × (counts_on_live p.deed cts ≡ true)
+OperationIsLive cts p = (is_live p.ct cts ≡ true) × (counts_on_live p.action cts ≡ true)
 
 -- what is named is live, so that it isn't freed
 pub record NamesLive (s : State) : Type 0 where
@@ -56,9 +56,9 @@ SumsFit cts = (ct : Handle) (c : Count) → lookup ct cts.live ≡ Some c → to
 
 -- a pending operation can be fired: it may start, what it names lies in its descriptors, and what it sets or adds fits a counter
 pub record CanFire (s : State) (p : Posted) : Type 0 where
-  pub may_start : MayStart p.deed s.ranks s.limits
-  pub fits : deed_fits p.deed s.mds ≡ true
-  pub counts : deed_passes p.deed ≡ false
+  pub may_start : MayStart p.action s.ranks s.limits
+  pub fits : action_fits p.action s.mds ≡ true
+  pub counts : action_passes p.action ≡ false
 
 -- all that lasts, but for the limits
 pub record Lasts (s : State) : Type 0 where

@@ -7,11 +7,11 @@ use Rattle.ni_model.specs.Tables.{Table, lookup}
 use Rattle.ni_model.specs.Counts.{total}
 use Rattle.ni_model.specs.Ready.{is_rank, posted_at, target_of}
 use Rattle.triggered_ops.specs.Operations.{Operations, told, due_numbers, posted_all}
-use Rattle.portals_ni.specs.declared.armed.PostedOp.{PostedOp}
+use Rattle.portals_ni.specs.declared.posted_op.PostedOp.{PostedOp}
 
--- the deed of a pending operation
-abbrev pub deed_in : PostedOp → TriggeredOp
-deed_in a = a.deed
+-- the action of a pending operation
+abbrev pub action_in : PostedOp → TriggeredOp
+action_in a = a.action
 
 -- the sum of a counting event is told to the operations that wait on it, where it is live
 abbrev pub tell_at : Handle → Option Count → Operations PostedOp → Operations PostedOp
@@ -30,4 +30,4 @@ sum_at (Some c) = total c
 
 -- the numbers of those that are due and whose message is for rank d, rising
 abbrev pub due_numbers_to : ℕ → Operations PostedOp → List ℕ
-due_numbers_to d ops = filter (λ t. is_rank d (target_of (posted_at t (posted_all deed_in ops)))) (due_numbers ops)
+due_numbers_to d ops = filter (λ t. is_rank d (target_of (posted_at t (posted_all action_in ops)))) (due_numbers ops)

@@ -8,12 +8,12 @@ use Rattle.ni_model.specs.Counts.{total}
 use Rattle.ni_model.specs.Queues.{Waiting}
 use Rattle.ni_model.specs.Arrive.{Side}
 use Rattle.ni_model.specs.Conditions.{HasPartsIn, MayStart}
-use Rattle.ni_model.specs.Refusals.{deed_fits, deed_passes}
+use Rattle.ni_model.specs.Refusals.{action_fits, action_passes}
 use Rattle.ni_model.specs.State.{State}
 use Rattle.initiator_engine.specs.Initiators.{Initiating, AreBoundIn, room_for}
 use Rattle.triggered_ops.specs.Operations.{Operation, Operations, posted_all}
-use Rattle.portals_ni.specs.declared.armed.PostedOp.{PostedOp}
-use Rattle.portals_ni.specs.Pendings.{deed_in}
+use Rattle.portals_ni.specs.declared.posted_op.PostedOp.{PostedOp}
+use Rattle.portals_ni.specs.Pendings.{action_in}
 use Rattle.portals_ni.specs.Lasting.{HasLimits, SumsFit, NamesLive}
 
 -- the model's state of the parts: of the pending operations, not whether they are due, nor their room
@@ -29,17 +29,17 @@ state_of t memory cts eqs i ops drops violations = record {
   cts = cts;
   eqs = eqs;
   mds = i.mds;
-  pending = posted_all deed_in ops;
+  pending = posted_all action_in ops;
   drops = drops;
   violations = violations;
 }
 
 -- a pending operation may start, what it names lies in its descriptors, its bytes have room, and what it sets fits a counter
 pub record IsArmed (mds : Table Bound) (ranks : ℕ) (limits : Limits) (a : PostedOp) : Type 0 where
-  pub fits : deed_fits a.deed mds ≡ true
-  pub may : MayStart a.deed ranks limits
-  pub room : room_for a.deed ≤ a.room.room
-  pub counts : deed_passes a.deed ≡ false
+  pub fits : action_fits a.action mds ≡ true
+  pub may : MayStart a.action ranks limits
+  pub room : room_for a.action ≤ a.room.room
+  pub counts : action_passes a.action ≡ false
 
 -- its counting event is live, and it is due where that has reached its threshold
 abbrev pub IsTold : Table Count → Operation PostedOp → Type 0
@@ -54,7 +54,7 @@ pub record IsSound (t : Side) (memory : List ℕ) (cts : Table Count) (i : Initi
   pub parts : All (HasPartsIn (length memory)) t.indices
   pub bound : AreBoundIn (length memory) i.mds
   -- every pending operation can be fired, and is due by how far its counting event is
-  pub armed : All (λ w. IsArmed i.mds i.ranks i.limits w.deed) ops.waiting
+  pub armed : All (λ w. IsArmed i.mds i.ranks i.limits w.action) ops.waiting
   pub told : All (IsTold cts) ops.waiting
 
 -- and of its whole state

@@ -6,8 +6,8 @@ ghost use Rattle.ni_model.specs.Arrive.{request};
 ghost use Rattle.ni_model.specs.Answers.{answered};
 ghost use Rattle.ni_model.specs.State.{target, parts_of, home_of, drops_after, violations_after, after_request, after_answer};
 
-use crate::armed::tell;
 use crate::nic::Nic;
+use crate::posted_op::tell;
 use ptl_types::{Delivered, Message, Outcome};
 use target_engine::SpareBuffers;
 
@@ -41,26 +41,26 @@ impl Nic {
         requires { message.header.target ≡ self.old.rank }
         ensures does { record { state = self.new; delivered = result } ≡ target self.old message }
     {
-        let mut spent = SpareBuffers::none();
-        self.deliver_keeping(message, &mut spent)
+        let mut spares = SpareBuffers::none();
+        self.deliver_keeping(message, &mut spares)
     }
 
     /// Handles a message that arrived, as `deliver` does. Where a request asks for no answer the room of its bytes is kept, if there
     /// is place for it.
     #[tactic(auto, unfolding(ni_model::specs::State::target))]
-    pub fn deliver_keeping(&mut self, message: Message, spent: &mut SpareBuffers) -> Delivered
+    pub fn deliver_keeping(&mut self, message: Message, spares: &mut SpareBuffers) -> Delivered
         requires { message.header.target ≡ self.old.rank }
         ensures does { record { state = self.new; delivered = result } ≡ target self.old message }
     {
         if message.header().kind.is_answer() {
             self.take_answer(message)
         } else {
-            self.take_request(message, spent)
+            self.take_request(message, spares)
         }
     }
 
     /// A request at its target: the engine's parts change, and the counting event that rose is told to the pending operations.
-    fn take_request(&mut self, message: Message, spent: &mut SpareBuffers) -> Delivered
+    fn take_request(&mut self, message: Message, spares: &mut SpareBuffers) -> Delivered
         requires { is_answer message.header.kind ≡ false }
         ensures { record { state = self.new; delivered = result } ≡ after_request self.old (request (parts_of self.old) message) }
     {
@@ -69,7 +69,7 @@ impl Nic {
             &mut self.cts,
             &mut self.eqs,
             message,
-            spent,
+            spares,
         );
         tell(&mut self.pending, &self.cts, arrived.counted);
         self.drops = raise_drops(self.drops, arrived.outcome);

@@ -8,8 +8,8 @@ ghost use Rattle.ni_model.specs.Refusals.{ct_set_fault, ct_inc_fault};
 ghost use Rattle.ni_model.specs.Calls.{ends, Makes, ct_alloc, ct_get, ct_set, ct_inc, ct_cancel};
 ghost use Rattle.initiator_engine.specs.Initiators.{by_fault};
 
-use crate::armed::tell;
 use crate::nic::Nic;
+use crate::posted_op::tell;
 use crate::tables::make;
 use ni_objects::counters::Counter;
 use ni_objects::handles::Store;

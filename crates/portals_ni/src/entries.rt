@@ -8,10 +8,11 @@ ghost use Rattle.ni_model.specs.Answers.{is_awaited};
 ghost use Rattle.ni_model.specs.Tables.{has_slot};
 ghost use Rattle.ni_model.specs.Calls.{ends, Makes, entry_slot, pt_alloc, pt_free, me_append, me_unlink, me_search, md_bind, awaits};
 
-use crate::armed::tell;
 use crate::nic::Nic;
+use crate::posted_op::tell;
 use ni_model::IndexedHeader;
 use ptl_types::{Appended, Descriptor, Entry, Handle, List, NiFault, UnexpectedHeader};
+use target_engine::AppendArgs;
 
 impl Nic {
     /// Allocates a portal table index, with an event queue or none. `Stale` where the queue isn't allocated, `NoSpace` where
@@ -40,14 +41,10 @@ impl Nic {
         ensures makes { Makes (entry_slot self.old.indices) (λ slot. me_append slot pt list entry self.old) (ends self.new result) }
         ensures slot { IfOk result (SlotBelow (self.old.limits.entries + self.old.limits.unexpected)) }
     {
-        let (appended, counted) = self.target.append(
-            &self.region,
-            &mut self.cts,
-            &mut self.eqs,
-            pt,
-            list,
-            entry,
-        )?;
+        let args = AppendArgs { pt, list, entry };
+        let (appended, counted) = self
+            .target
+            .append(&self.region, &mut self.cts, &mut self.eqs, args)?;
         tell(&mut self.pending, &self.cts, counted);
         Ok(appended)
     }

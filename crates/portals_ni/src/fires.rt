@@ -3,16 +3,16 @@
 ghost use Rattle.std.specs.Prelude.{◌≡◌, ◌<◌, IsTrue, Some, false, length, slice_get};
 ghost use Rattle.ni_model.specs.Ready.{is_ready, is_rank, fired, fires, posted_at, ready_numbers, ready_numbers_to, target_at};
 ghost use Rattle.ni_model.specs.Ready.{message_target, target_of};
-ghost use Rattle.ni_model.specs.Refusals.{deed_passes};
+ghost use Rattle.ni_model.specs.Refusals.{action_passes};
 ghost use Rattle.ni_model.specs.Calls.{AnswersReady};
 ghost use Rattle.triggered_ops.specs.Operations.{posted_all, IsKept};
-ghost use Rattle.portals_ni.specs.Answers.{deed_counts, deed_counter};
-ghost use Rattle.portals_ni.specs.Pendings.{deed_in, due_numbers_to};
+ghost use Rattle.portals_ni.specs.Answers.{action_counts, action_counter};
+ghost use Rattle.portals_ni.specs.Pendings.{action_in, due_numbers_to};
 
-use crate::armed::{PostedOp, tell};
 use crate::counting::set_counter;
 use crate::nic::Nic;
 use crate::packed::Packed;
+use crate::posted_op::{PostedOp, tell};
 use crate::starts::is_start;
 use ni_objects::counters::Counter;
 use ni_objects::delivery::count;
@@ -22,12 +22,12 @@ use target_engine::SpareBuffers;
 use triggered_ops::Pending;
 
 /// What an increment or a set does: the counting event that it names.
-fn count_deed(cts: &mut Store<Counter>, deed: &TriggeredOp) -> Option<Handle>
-    requires { deed_passes deed.now ≡ false }
-    ensures counts { cts.new ≡ deed_counts deed.now cts.old }
-    ensures counter { result ≡ deed_counter deed.now }
+fn count_action(cts: &mut Store<Counter>, action: &TriggeredOp) -> Option<Handle>
+    requires { action_passes action.now ≡ false }
+    ensures counts { cts.new ≡ action_counts action.now cts.old }
+    ensures counter { result ≡ action_counter action.now }
 {
-    match deed {
+    match action {
         TriggeredOp::Inc(ct, by) => {
             count(cts, Some(*ct), *by);
             Some(*ct)
@@ -40,11 +40,11 @@ fn count_deed(cts: &mut Store<Counter>, deed: &TriggeredOp) -> Option<Handle>
     }
 }
 
-/// The rank that the deed's message is for.
-fn message_target(deed: &TriggeredOp) -> Option<Rank>
-    ensures { result ≡ message_target deed.now }
+/// The rank that the action's message is for.
+fn message_target(action: &TriggeredOp) -> Option<Rank>
+    ensures { result ≡ message_target action.now }
 {
-    match deed {
+    match action {
         TriggeredOp::Put(args) => Some(args.target),
         TriggeredOp::Get(args) => Some(args.target),
         TriggeredOp::Atomic(args, _, _) => Some(args.target),
@@ -56,12 +56,12 @@ fn message_target(deed: &TriggeredOp) -> Option<Rank>
 
 /// The rank that the message of an operation is for, where it waits and has one.
 fn target_of(pending: &Pending<Packed>, number: u32) -> Option<Rank>
-    ensures { result ≡ target_of (posted_at number (posted_all deed_in pending.now)) }
+    ensures { result ≡ target_of (posted_at number (posted_all action_in pending.now)) }
 {
     match pending.get(number) {
         Some((packed, _, _)) => {
-            let deed = packed.deed();
-            message_target(&deed)
+            let action = packed.action();
+            message_target(&action)
         }
         None => None,
     }
@@ -69,7 +69,7 @@ fn target_of(pending: &Pending<Packed>, number: u32) -> Option<Rank>
 
 /// Whether it is for this rank.
 fn goes_to(pending: &Pending<Packed>, number: u32, target: Rank) -> bool
-    ensures { result ≡ is_rank target (target_of (posted_at number (posted_all deed_in pending.now))) }
+    ensures { result ≡ is_rank target (target_of (posted_at number (posted_all action_in pending.now))) }
 {
     match target_of(pending, number) {
         Some(rank) => rank == target,
@@ -140,32 +140,32 @@ impl Nic {
         target_of(self.pending.waiting(), number)
     }
 
-    /// Fires a ready operation: it leaves the pending ones and its deed is done. Its bytes are read now, and the message is the
+    /// Fires a ready operation: it leaves the pending ones and its action is done. Its bytes are read now, and the message is the
     /// caller's to send; `None` exactly for an increment or a set. It takes no memory. Condition: it is ready.
     pub fn fire(&mut self, number: u32) -> Option<Message>
         requires { IsTrue (is_ready self.old number) }
         ensures does { fires self.new result ≡ fired self.old number }
     {
-        let mut spent = SpareBuffers::none();
-        self.fire_using(number, &mut spent)
+        let mut spares = SpareBuffers::none();
+        self.fire_using(number, &mut spares)
     }
 
     /// Fires a ready operation, as `fire` does. Its bytes are read into the room of a message that was delivered, if one is kept that is
     /// large enough, and else into its own.
-    pub fn fire_using(&mut self, number: u32, spent: &mut SpareBuffers) -> Option<Message>
+    pub fn fire_using(&mut self, number: u32, spares: &mut SpareBuffers) -> Option<Message>
         requires { IsTrue (is_ready self.old number) }
         ensures does { fires self.new result ≡ fired self.old number }
     {
-        let PostedOp { deed, room } = self.pending.take(number)?;
-        if !is_start(&deed) {
-            let counted = count_deed(&mut self.cts, &deed);
+        let PostedOp { action, room } = self.pending.take(number)?;
+        if !is_start(&action) {
+            let counted = count_action(&mut self.cts, &action);
             tell(&mut self.pending, &self.cts, counted);
             return None;
         }
-        let room = spent.exchange(room);
+        let room = spares.exchange(room);
         let (message, counted) = self
             .initiator
-            .start(&self.region, &mut self.cts, &mut self.eqs, &deed, room);
+            .start(&self.region, &mut self.cts, &mut self.eqs, &action, room);
         tell(&mut self.pending, &self.cts, counted);
         Some(message)
     }

@@ -57,7 +57,6 @@
 //! ```
 #![tactic(auto)]
 
-mod armed;
 mod arrivals;
 mod counting;
 mod entries;
@@ -65,6 +64,7 @@ mod fires;
 mod named;
 mod nic;
 mod packed;
+mod posted_op;
 mod queues;
 mod starts;
 mod tables;

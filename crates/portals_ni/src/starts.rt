@@ -4,16 +4,16 @@ ghost use Rattle.std.specs.Prelude.{◌≡◌, ◌&&◌, true, false};
 ghost use Rattle.ptl_types.specs.declared.calls.TriggeredOp.TheVariants.{Put, Get, Atomic, FetchAtomic, Swap};
 ghost use Rattle.ni_model.specs.Counts.{passes_end};
 ghost use Rattle.ni_model.specs.Conditions.{MayStart};
-ghost use Rattle.ni_model.specs.Refusals.{counts_on_live, deed_passes, triggered_fault};
+ghost use Rattle.ni_model.specs.Refusals.{counts_on_live, action_passes, triggered_fault};
 ghost use Rattle.ni_model.specs.Calls.{ends, MayLackMemory, start, triggered};
 ghost use Rattle.initiator_engine.specs.Initiators.{by_fault, is_start, room_for};
 ghost use Rattle.triggered_ops.specs.Operations.{posted_all};
-ghost use Rattle.portals_ni.specs.Pendings.{deed_in};
+ghost use Rattle.portals_ni.specs.Pendings.{action_in};
 ghost use Rattle.portals_ni.specs.Answers.{as_started};
 
-use crate::armed::{PostedOp, sum_of, tell};
 use crate::nic::Nic;
 use crate::packed::Packed;
+use crate::posted_op::{PostedOp, sum_of, tell};
 use initiator_engine::Initiator;
 use ni_objects::counters::Counter;
 use ni_objects::handles::Store;
@@ -23,18 +23,18 @@ use ptl_types::{
 };
 use triggered_ops::Pending;
 
-/// Whether the deed starts an operation; the others count.
-pub fn is_start(deed: &TriggeredOp) -> bool
-    ensures { result ≡ is_start deed.now }
+/// Whether the action starts an operation; the others count.
+pub fn is_start(action: &TriggeredOp) -> bool
+    ensures { result ≡ is_start action.now }
 {
-    !matches!(deed, TriggeredOp::Inc(_, _) | TriggeredOp::Set(_, _))
+    !matches!(action, TriggeredOp::Inc(_, _) | TriggeredOp::Set(_, _))
 }
 
 /// The room that a start needs: for the bytes that it sends, and of a get for the reply.
-fn room_for(deed: &TriggeredOp) -> u64
-    ensures { result ≡ room_for deed.now }
+fn room_for(action: &TriggeredOp) -> u64
+    ensures { result ≡ room_for action.now }
 {
-    match deed {
+    match action {
         TriggeredOp::Put(args) => args.length,
         TriggeredOp::Get(args) => args.length,
         TriggeredOp::Atomic(args, _, _) => args.length,
@@ -45,10 +45,10 @@ fn room_for(deed: &TriggeredOp) -> u64
 }
 
 /// Whether the counting event that an increment or a set names is live.
-fn counts_on_live(cts: &Store<Counter>, deed: &TriggeredOp) -> bool
-    ensures { result ≡ counts_on_live deed.now cts.now }
+fn counts_on_live(cts: &Store<Counter>, action: &TriggeredOp) -> bool
+    ensures { result ≡ counts_on_live action.now cts.now }
 {
-    match deed {
+    match action {
         TriggeredOp::Inc(ct, _) => cts.is_live(*ct),
         TriggeredOp::Set(ct, _) => cts.is_live(*ct),
         _ => true,
@@ -63,10 +63,10 @@ fn passes_end(count: &Count) -> bool
 }
 
 /// Whether the numbers of an increment or a set do.
-fn deed_passes(deed: &TriggeredOp) -> bool
-    ensures { result ≡ deed_passes deed.now }
+fn action_passes(action: &TriggeredOp) -> bool
+    ensures { result ≡ action_passes action.now }
 {
-    match deed {
+    match action {
         TriggeredOp::Inc(_, by) => passes_end(by),
         TriggeredOp::Set(_, to) => passes_end(to),
         _ => false,
@@ -78,13 +78,13 @@ fn check_triggered(
     cts: &Store<Counter>,
     initiator: &Initiator,
     pending: &Pending<Packed>,
-    deed: &TriggeredOp,
+    action: &TriggeredOp,
     ct: Handle,
 ) -> Result<(), NiFault>
-    ensures { result ≡ by_fault (triggered_fault deed.now ct cts.now initiator.now.mds (posted_all deed_in pending.now)) }
+    ensures { result ≡ by_fault (triggered_fault action.now ct cts.now initiator.now.mds (posted_all action_in pending.now)) }
 {
-    let checked = initiator.check(deed);
-    if !(cts.is_live(ct) && counts_on_live(cts, deed)) {
+    let checked = initiator.check(action);
+    if !(cts.is_live(ct) && counts_on_live(cts, action)) {
         return Err(NiFault::Stale);
     }
     if let Err(NiFault::Stale) = checked {
@@ -94,7 +94,7 @@ fn check_triggered(
         return Err(NiFault::NoSpace);
     }
     checked?;
-    if deed_passes(deed) {
+    if action_passes(action) {
         return Err(NiFault::CountFull);
     }
     Ok(())
@@ -165,53 +165,53 @@ impl Nic {
         self.start(&TriggeredOp::Swap(back, args, op, ty, operand))
     }
 
-    /// Starts what the deed says, with room for its bytes.
-    fn start(&mut self, deed: &TriggeredOp) -> Result<Message, NiFault>
-        requires start { is_start deed.now ≡ true }
-        requires may { MayStart deed.now self.old.ranks self.old.limits }
-        ensures { MayLackMemory (start deed.now self.old) self.old (ends self.new (as_started result)) }
+    /// Starts what the action says, with room for its bytes.
+    fn start(&mut self, action: &TriggeredOp) -> Result<Message, NiFault>
+        requires start { is_start action.now ≡ true }
+        requires may { MayStart action.now self.old.ranks self.old.limits }
+        ensures { MayLackMemory (start action.now self.old) self.old (ends self.new (as_started result)) }
     {
-        self.initiator.check(deed)?;
-        let room = match Bytes::with_room(self.alloc, room_for(deed)) {
+        self.initiator.check(action)?;
+        let room = match Bytes::with_room(self.alloc, room_for(action)) {
             Ok(room) => room,
             Err(_) => return Err(NiFault::NoMemory),
         };
         let (message, counted) = self
             .initiator
-            .start(&self.region, &mut self.cts, &mut self.eqs, deed, room);
+            .start(&self.region, &mut self.cts, &mut self.eqs, action, room);
         tell(&mut self.pending, &self.cts, counted);
         Ok(message)
     }
 
     /// Posts a triggered operation on a counting event with a threshold, and answers its number, counted up from 0. Its bytes
     /// are read when it fires, into room that is taken here. Where it asks for an answer, its home awaits it from the firing
-    /// on. `Stale` where the counting event or a thing that the deed names isn't live, `NoSpace` where as many as the limit are
+    /// on. `Stale` where the counting event or a thing that the action names isn't live, `NoSpace` where as many as the limit are
     /// pending or all 2^32 - 1 numbers were given, `OutOfRegion` as in a put, `CountFull` where the two numbers of an increment
     /// or a set together pass 2^64 - 1, `NoMemory`. Conditions: those of the plain operation.
     pub fn triggered(
         &mut self,
-        deed: TriggeredOp,
+        action: TriggeredOp,
         ct: Handle,
         threshold: u64,
     ) -> Result<u32, NiFault>
-        requires { MayStart deed self.old.ranks self.old.limits }
-        ensures does { MayLackMemory (triggered deed ct threshold self.old) self.old (ends self.new result) }
+        requires { MayStart action self.old.ranks self.old.limits }
+        ensures does { MayLackMemory (triggered action ct threshold self.old) self.old (ends self.new result) }
     {
         check_triggered(
             &self.cts,
             &self.initiator,
             self.pending.waiting(),
-            &deed,
+            &action,
             ct,
         )?;
-        let room = match Bytes::with_room(self.alloc, room_for(&deed)) {
+        let room = match Bytes::with_room(self.alloc, room_for(&action)) {
             Ok(room) => room,
             Err(_) => return Err(NiFault::NoMemory),
         };
         let sum = sum_of(&self.cts, ct);
         let number = match self
             .pending
-            .post(PostedOp { deed, room }, ct, threshold, sum)
+            .post(PostedOp { action, room }, ct, threshold, sum)
         {
             Ok(number) => number,
             Err(_) => return Err(NiFault::NoMemory),

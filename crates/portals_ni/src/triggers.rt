@@ -2,16 +2,16 @@
 
 ghost use Rattle.std.specs.Prelude.{◌≡◌, ◌<◌, ◌-◌, ◌^◌, ◌||◌, None, IfNone, IfOk, OnOk, OnErr, All, length, option_map};
 ghost use Rattle.ptl_types.specs.Handles.{same_handle};
-ghost use Rattle.ni_model.specs.Refusals.{deed_names_ct, deed_names_md, operation_names_md, operation_names_ct};
-ghost use Rattle.triggered_ops.specs.Operations.{no_operations, operation_at, deed_of, with_posted, told, without_number, waiting_on};
+ghost use Rattle.ni_model.specs.Refusals.{action_names_ct, action_names_md, operation_names_md, operation_names_ct};
+ghost use Rattle.triggered_ops.specs.Operations.{no_operations, operation_at, action_of, with_posted, told, without_number, waiting_on};
 ghost use Rattle.triggered_ops.specs.Operations.{cancelled, posted_all};
-ghost use Rattle.portals_ni.specs.Answers.{deed_counter};
+ghost use Rattle.portals_ni.specs.Answers.{action_counter};
 ghost use Rattle.portals_ni.specs.Fit.{FitLimits};
-ghost use Rattle.portals_ni.specs.Pendings.{deed_in};
+ghost use Rattle.portals_ni.specs.Pendings.{action_in};
 ghost use Rattle.portals_ni.specs.Uses.{put_md, get_md, AreUsed, CtsAlone, MdsAlone};
 
-use crate::armed::PostedOp;
 use crate::packed::Packed;
+use crate::posted_op::PostedOp;
 use ni_objects::users::Users;
 use ptl_types::{Handle, Limits, NoMemory, TriggeredOp};
 use std::alloc::Global;
@@ -29,7 +29,7 @@ pub struct Triggers {
 
 impl Model for Triggers {
     ghost use Rattle.triggered_ops.specs.Operations.{Operations};
-    ghost use Rattle.portals_ni.specs.declared.armed.PostedOp.{PostedOp};
+    ghost use Rattle.portals_ni.specs.declared.posted_op.PostedOp.{PostedOp};
     ghost use Rattle.portals_ni.specs.Uses.{AreUsed};
 
     ghost Value = { Operations PostedOp };
@@ -39,22 +39,22 @@ impl Model for Triggers {
     ghost invariant = { λ t. AreUsed t.pending t.cts t.mds };
 }
 
-/// The counting event that a deed counts on, if it does.
-fn deed_counter(deed: &TriggeredOp) -> Option<Handle>
-    ensures { result ≡ deed_counter deed.now }
+/// The counting event that an action counts on, if it does.
+fn action_counter(action: &TriggeredOp) -> Option<Handle>
+    ensures { result ≡ action_counter action.now }
 {
-    match deed {
+    match action {
         TriggeredOp::Inc(ct, _) => Some(*ct),
         TriggeredOp::Set(ct, _) => Some(*ct),
         _ => None,
     }
 }
 
-/// The descriptor of a deed's put arguments, if it has any.
-fn put_md(deed: &TriggeredOp) -> Option<Handle>
-    ensures { result ≡ put_md deed.now }
+/// The descriptor of an action's put arguments, if it has any.
+fn put_md(action: &TriggeredOp) -> Option<Handle>
+    ensures { result ≡ put_md action.now }
 {
-    match deed {
+    match action {
         TriggeredOp::Put(args) => Some(args.md),
         TriggeredOp::Atomic(args, _, _) => Some(args.md),
         TriggeredOp::FetchAtomic(_, args, _, _) => Some(args.md),
@@ -63,11 +63,11 @@ fn put_md(deed: &TriggeredOp) -> Option<Handle>
     }
 }
 
-/// The descriptor of a deed's get arguments, if it has any.
-fn get_md(deed: &TriggeredOp) -> Option<Handle>
-    ensures { result ≡ get_md deed.now }
+/// The descriptor of an action's get arguments, if it has any.
+fn get_md(action: &TriggeredOp) -> Option<Handle>
+    ensures { result ≡ get_md action.now }
 {
-    match deed {
+    match action {
         TriggeredOp::Get(args) => Some(args.md),
         TriggeredOp::FetchAtomic(args, _, _, _) => Some(args.md),
         TriggeredOp::Swap(args, _, _, _, _) => Some(args.md),
@@ -84,7 +84,7 @@ fn take_out(
 ) -> Option<PostedOp>
     requires { AreUsed pending.old cts.old mds.old }
     ensures used { AreUsed pending.new cts.new mds.new }
-    ensures value { result ≡ option_map deed_of (operation_at number pending.old) }
+    ensures value { result ≡ option_map action_of (operation_at number pending.old) }
     ensures rest { pending.new ≡ without_number number pending.old }
     ensures none { IfNone result (pending.new ≡ pending.old) }
 {
@@ -98,12 +98,12 @@ fn take_out(
         Some(packed) => packed,
         None => unreachable!(),
     };
-    let armed = packed.unpack();
+    let posted = packed.unpack();
     cts.lower(ct.slot);
-    cts.remove(deed_counter(&armed.deed));
-    mds.remove(get_md(&armed.deed));
-    mds.remove(put_md(&armed.deed));
-    Some(armed)
+    cts.remove(action_counter(&posted.action));
+    mds.remove(get_md(&posted.action));
+    mds.remove(put_md(&posted.action));
+    Some(posted)
 }
 
 /// Takes the operations out that wait on a counting event.
@@ -119,11 +119,11 @@ fn drop_on(pending: &mut Pending<Packed>, cts: &mut Users, mds: &mut Users, ct: 
     }
 }
 
-/// Whether the deed names the descriptor.
-fn deed_names_md(deed: &TriggeredOp, md: Handle) -> bool
-    ensures { result ≡ deed_names_md md deed.now }
+/// Whether the action names the descriptor.
+fn action_names_md(action: &TriggeredOp, md: Handle) -> bool
+    ensures { result ≡ action_names_md md action.now }
 {
-    match deed {
+    match action {
         TriggeredOp::Put(args) => args.md.is(md),
         TriggeredOp::Get(args) => args.md.is(md),
         TriggeredOp::Atomic(args, _, _) => args.md.is(md),
@@ -135,12 +135,12 @@ fn deed_names_md(deed: &TriggeredOp, md: Handle) -> bool
 
 /// Whether a pending operation names the descriptor.
 fn some_names_md(pending: &Pending<Packed>, md: Handle) -> bool
-    ensures { result ≡ operation_names_md md (posted_all deed_in pending.now).waiting }
+    ensures { result ≡ operation_names_md md (posted_all action_in pending.now).waiting }
 {
     let mut from = 0;
     while let Some((number, packed, _, _)) = pending.next(from) {
-        let deed = packed.deed();
-        if deed_names_md(&deed, md) {
+        let action = packed.action();
+        if action_names_md(&action, md) {
             return true;
         }
         from = number + 1;
@@ -148,11 +148,11 @@ fn some_names_md(pending: &Pending<Packed>, md: Handle) -> bool
     false
 }
 
-/// Whether the deed counts on the counting event.
-fn deed_names_ct(deed: &TriggeredOp, ct: Handle) -> bool
-    ensures { result ≡ deed_names_ct ct deed.now }
+/// Whether the action counts on the counting event.
+fn action_names_ct(action: &TriggeredOp, ct: Handle) -> bool
+    ensures { result ≡ action_names_ct ct action.now }
 {
-    match deed {
+    match action {
         TriggeredOp::Inc(handle, _) => handle.is(ct),
         TriggeredOp::Set(handle, _) => handle.is(ct),
         _ => false,
@@ -160,20 +160,20 @@ fn deed_names_ct(deed: &TriggeredOp, ct: Handle) -> bool
 }
 
 /// Whether an operation waits on the counting event, or counts on it.
-fn counts_on(deed: &TriggeredOp, waits_on: Handle, ct: Handle) -> bool
-    ensures { result ≡ (same_handle waits_on ct || deed_names_ct ct deed.now) }
+fn counts_on(action: &TriggeredOp, waits_on: Handle, ct: Handle) -> bool
+    ensures { result ≡ (same_handle waits_on ct || action_names_ct ct action.now) }
 {
-    waits_on.is(ct) || deed_names_ct(deed, ct)
+    waits_on.is(ct) || action_names_ct(action, ct)
 }
 
 /// Whether a pending operation waits or counts on the counting event.
 fn some_names_ct(pending: &Pending<Packed>, ct: Handle) -> bool
-    ensures { result ≡ operation_names_ct ct (posted_all deed_in pending.now).waiting }
+    ensures { result ≡ operation_names_ct ct (posted_all action_in pending.now).waiting }
 {
     let mut from = 0;
     while let Some((number, packed, waits_on, _)) = pending.next(from) {
-        let deed = packed.deed();
-        if counts_on(&deed, waits_on, ct) {
+        let action = packed.action();
+        if counts_on(&action, waits_on, ct) {
             return true;
         }
         from = number + 1;
@@ -215,7 +215,7 @@ impl Triggers {
     /// Posts an operation and answers its number; the sum of its counting event is told. At an error nothing has changed.
     pub fn post(
         &mut self,
-        armed: PostedOp,
+        posted: PostedOp,
         ct: Handle,
         threshold: u64,
         sum: u64,
@@ -224,15 +224,15 @@ impl Triggers {
         requires numbers { self.old.given < 2 ^ 32 - 1 }
         ensures number { IfOk result (λ t. t ≡ self.old.given) }
         ensures fresh { IfOk result (λ t. operation_at t self.old ≡ None) }
-        ensures ok { OnOk result (self.new ≡ with_posted armed ct threshold sum (told ct sum self.old)) }
+        ensures ok { OnOk result (self.new ≡ with_posted posted ct threshold sum (told ct sum self.old)) }
         ensures err { OnErr result (self.new ≡ self.old) }
     {
         // Brings the bound of how many wait to the proof.
         let _many = self.pending.len();
-        let counter = deed_counter(&armed.deed);
-        let get = get_md(&armed.deed);
-        let put = put_md(&armed.deed);
-        let packed = Packed::new(self.alloc, armed)?;
+        let counter = action_counter(&posted.action);
+        let get = get_md(&posted.action);
+        let put = put_md(&posted.action);
+        let packed = Packed::new(self.alloc, posted)?;
         let number = self.pending.post(packed, ct, threshold, sum)?;
         self.cts.raise(ct.slot);
         self.cts.add(counter);
@@ -241,9 +241,9 @@ impl Triggers {
         Ok(number)
     }
 
-    /// Takes the deed of the operation of this number out; `None` exactly where it doesn't wait, and then nothing changes.
+    /// Takes the action of the operation of this number out; `None` exactly where it doesn't wait, and then nothing changes.
     pub fn take(&mut self, number: u32) -> Option<PostedOp>
-        ensures value { result ≡ option_map deed_of (operation_at number self.old) }
+        ensures value { result ≡ option_map action_of (operation_at number self.old) }
         ensures rest { self.new ≡ without_number number self.old }
         ensures none { IfNone result (self.new ≡ self.old) }
     {
@@ -264,7 +264,7 @@ impl Triggers {
     /// looked up operation by operation. Condition: none names another counting event of this slot.
     pub fn names_ct(&self, ct: Handle) -> bool
         requires alone { All (CtsAlone ct) self.now.waiting }
-        ensures value { result ≡ operation_names_ct ct (posted_all deed_in self.now).waiting }
+        ensures value { result ≡ operation_names_ct ct (posted_all action_in self.now).waiting }
     {
         match self.cts.at(ct.slot) {
             Some(uses) => uses > 0,
@@ -275,7 +275,7 @@ impl Triggers {
     /// Whether an operation names the descriptor, likewise. Condition: none names another descriptor of this slot.
     pub fn names_md(&self, md: Handle) -> bool
         requires alone { All (MdsAlone md) self.now.waiting }
-        ensures value { result ≡ operation_names_md md (posted_all deed_in self.now).waiting }
+        ensures value { result ≡ operation_names_md md (posted_all action_in self.now).waiting }
     {
         match self.mds.at(md.slot) {
             Some(uses) => uses > 0,

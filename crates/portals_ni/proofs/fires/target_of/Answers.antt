@@ -4,7 +4,7 @@ use Rattle.portals_ni.proofs.Readies.{target-found, target-none}
 use Rattle.portals_ni.proofs.fires.target_of.Goals as goal
 
 pub returns-in-Some : goal.returns-in-Some
-returns-in-Some c = c.message_target.ensures ∙ ap message_target c.deed-deed.ensures
+returns-in-Some c = c.message_target.ensures ∙ ap message_target c.action-action.ensures
     ∙ sym (target-found c.args.number c.args.pending.now c.in-Some.packed.now c.in-Some.field-0-1 c.in-Some.field-0-2
     c.in-Some.ensures.found)
 

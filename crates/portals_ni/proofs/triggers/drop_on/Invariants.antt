@@ -1,7 +1,7 @@
 use Rattle.std.proofs.Common.{◌≡◌, ◌<◌, length}
 use Rattle.std.specs.Prelude.{AllPairs}
 use Rattle.triggered_ops.specs.Operations.{Operation, cancelled}
-use Rattle.portals_ni.specs.declared.armed.PostedOp.{PostedOp}
+use Rattle.portals_ni.specs.declared.posted_op.PostedOp.{PostedOp}
 use Rattle.portals_ni.specs.Uses.{AreUsed}
 use Rattle.portals_ni.proofs.triggers.drop_on.Given as goal
 

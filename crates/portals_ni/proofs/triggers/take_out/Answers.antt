@@ -18,12 +18,12 @@ returns-clause-used c =
       c.take.ensures.rest,
       c.remove.ensures.does,
       c.lower.ensures.does,
-      c.deed_counter.ensures,
+      c.action_counter.ensures,
       c.remove-3.ensures.does,
       c.remove-2.ensures.does,
       c.get_md.ensures,
       c.put_md.ensures,
-      c.unpack-armed.ensures,
+      c.unpack-posted.ensures,
     )
     (used-gone c.args.pending.now c.args.number c.in-Some.field-0-0.now c.in-Some-take.packed c.in-Some.ct c.in-Some.field-0-2
     c.args.cts.now c.args.mds.now c.requires c.len-many.ensures.kept.rising c.in-Some.ensures.found (sym c.take.ensures.value

@@ -1,6 +1,6 @@
 use Rattle.std.proofs.Common.{length, ap, arith}
 use Rattle.triggered_ops.specs.Operations.{Operations}
-use Rattle.portals_ni.specs.declared.armed.PostedOp.{PostedOp}
+use Rattle.portals_ni.specs.declared.posted_op.PostedOp.{PostedOp}
 use Rattle.portals_ni.proofs.Uses.{length-parts}
 use Rattle.portals_ni.proofs.triggers.Triggers.cancel.Goals as goal
 

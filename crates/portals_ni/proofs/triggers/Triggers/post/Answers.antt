@@ -12,7 +12,7 @@ pub add-requires : goal.add-requires
 add-requires c =
     let t = c.self.inside in
     record {
-      room = rw c.raise.ensures.does (room-counter t.pending t.cts t.mds c.args.ct c.deed_counter-counter.result c.self.invariant
+      room = rw c.raise.ensures.does (room-counter t.pending t.cts t.mds c.args.ct c.action_counter-counter.result c.self.invariant
           (omega (arith, c.len-many.ensures.len)));
     }
 
@@ -42,16 +42,16 @@ invariant_of-self-2 c =
       c.in_ok-packed.ensures,
       c.add.ensures.does,
       c.raise.ensures.does,
-      c.deed_counter-counter.ensures,
+      c.action_counter-counter.ensures,
       c.add-3.ensures.does,
       c.add-2.ensures.does,
       c.get_md-get.ensures,
       c.put_md-put.ensures,
     )
-    (used-posted ops (with_posted c.args.armed c.args.ct c.args.threshold c.args.sum ops)
+    (used-posted ops (with_posted c.args.posted c.args.ct c.args.threshold c.args.sum ops)
     (record {
       number = t.pending.given;
-      deed = c.args.armed;
+      action = c.args.posted;
       ct = c.args.ct;
       threshold = c.args.threshold;
       due =

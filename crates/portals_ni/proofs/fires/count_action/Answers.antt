@@ -1,7 +1,7 @@
 use Rattle.std.proofs.Common.{◌≡◌, false}
 use Rattle.ni_model.specs.Counts.{passes_end}
 use Rattle.portals_ni.proofs.Counts.{set-whole}
-use Rattle.portals_ni.proofs.fires.count_deed.Goals as goal
+use Rattle.portals_ni.proofs.fires.count_action.Goals as goal
 
 pub returns-in-Set-clause-counts : goal.returns-in-Set-clause-counts
 returns-in-Set-clause-counts c =

@@ -9,11 +9,11 @@ use ni_objects::counters::Counter;
 use ni_objects::handles::Store;
 use ptl_types::{Bytes, Handle, TriggeredOp};
 
-/// A triggered operation's deed, and the room for its bytes.
+/// A triggered operation's action, and the room for its bytes.
 #[derive(Drop)]
 pub struct PostedOp {
     /// What is done when it fires.
-    pub deed: TriggeredOp,
+    pub action: TriggeredOp,
     /// The room that its message will use.
     pub room: Bytes,
 }
