@@ -75,12 +75,12 @@ fn bad_halves(back: &GetArgs, args: &PutArgs) -> Option<Misuse>
 }
 
 /// The rule that the arguments of a start break, if they break one.
-fn bad_start(nic: &Nic, deed: &TriggeredOp) -> Option<Misuse>
-    ensures { result ≡ start_misuse deed.now nic.now.ranks nic.now.limits }
+fn bad_start(nic: &Nic, action: &TriggeredOp) -> Option<Misuse>
+    ensures { result ≡ start_misuse action.now nic.now.ranks nic.now.limits }
 {
     let ranks = nic.ranks();
     let limits = nic.limits();
-    let (target, length) = match deed {
+    let (target, length) = match action {
         TriggeredOp::Put(args) => (args.target, args.length),
         TriggeredOp::Get(args) => (args.target, args.length),
         TriggeredOp::Atomic(args, _, _) => (args.target, args.length),
@@ -88,7 +88,7 @@ fn bad_start(nic: &Nic, deed: &TriggeredOp) -> Option<Misuse>
         TriggeredOp::Swap(_, args, _, _, _) => (args.target, args.length),
         TriggeredOp::Inc(_, _) | TriggeredOp::Set(_, _) => return None,
     };
-    let rest = match deed {
+    let rest = match action {
         TriggeredOp::Atomic(args, _, ty) => first(
             bad_length(args.length, limits.atomic),
             bad_elements(args.length, *ty),
@@ -203,17 +203,17 @@ pub fn swap(
 /// Posts a triggered operation, as `Nic::triggered` does. `Misused` as for the plain operation.
 pub fn triggered(
     nic: &mut Nic,
-    deed: TriggeredOp,
+    action: TriggeredOp,
     ct: Handle,
     threshold: u64,
 ) -> Result<u32, CallFault>
-    ensures { Guards (start_misuse deed nic.old.ranks nic.old.limits) nic.old nic.new
-        (λ r. MayLackMemory (triggered deed ct threshold nic.old) nic.old (ends nic.new r)) result }
+    ensures { Guards (start_misuse action nic.old.ranks nic.old.limits) nic.old nic.new
+        (λ r. MayLackMemory (triggered action ct threshold nic.old) nic.old (ends nic.new r)) result }
 {
-    if let Some(misuse) = bad_start(nic, &deed) {
+    if let Some(misuse) = bad_start(nic, &action) {
         return Err(CallFault::Misused(misuse));
     }
-    match nic.triggered(deed, ct, threshold) {
+    match nic.triggered(action, ct, threshold) {
         Ok(number) => Ok(number),
         Err(fault) => Err(CallFault::Refused(fault)),
     }
