@@ -30,7 +30,7 @@ use Rattle.cuts.proofs.machine.RankOps.{rank_ops-along, rank_ops-tell}
 use Rattle.cuts.specs.machine.Machine.{all_seen}
 use Rattle.cuts.specs.machine.Seen.{nothing_seen, was_fired}
 use Rattle.cuts.proofs.rest.Due.{got_ack, link_to}
-use Rattle.cuts.specs.view.TriggeredOps.{deed_of, operation, send_deed}
+use Rattle.cuts.specs.view.TriggeredOps.{action_of, operation, send_action}
 use Rattle.cuts.specs.view.Slots.{Slots}
 use Rattle.plan_calls.specs.RankOps.{number_of}
 use Rattle.ptl_types.specs.declared.elements.AtomicOp.{AtomicOp}
@@ -105,7 +105,7 @@ module _ (starts : CombineStarts) (p : Plan) (inputs : Inputs) (sound : SoundPla
   -- ---- what is left sends, and is ready
   left_ready : (v : RankOp) → In v (rank_ops p r) → was_fired (all_seen p (moves_at p w) r).fired v ≡ false
       → (is_ready (state_at (system_of p inputs slots) w r) (number_of p r v) ≡ true)
-      × ((d : ℕ) × (message_target (deed_of p (slots r) v) ≡ Some d))
+      × ((d : ℕ) × (message_target (action_of p (slots r) v) ≡ Some d))
   left_ready (ForDone c) i f =
       absurd (both (In-fired (all_seen p (moves_at p w) r).fired (ForDone c)
       (told starts p inputs sound fit slots w cut r h done c (rank_ops-tell p r c i))) f)
@@ -126,10 +126,10 @@ module _ (starts : CombineStarts) (p : Plan) (inputs : Inputs) (sound : SoundPla
         ],
       )
     where
-      sends : is_bump (link p l).kind ≡ false → message_target (deed_of p (slots r) (ForLink l)) ≡ Some (cell p (link p l).target).rank
+      sends : is_bump (link p l).kind ≡ false → message_target (action_of p (slots r) (ForLink l)) ≡ Some (cell p (link p l).target).rank
       sends b = rw b (at (cell p (link p l).target).op)
         where
-          at : (o : Option AtomicOp) → message_target (send_deed p (slots r) l o) ≡ Some (cell p (link p l).target).rank
+          at : (o : Option AtomicOp) → message_target (send_action p (slots r) l o) ≡ Some (cell p (link p l).target).rank
           at None = refl
           at (Some o) = refl
 
@@ -139,5 +139,5 @@ module _ (starts : CombineStarts) (p : Plan) (inputs : Inputs) (sound : SoundPla
       (subst (λ qs. In q qs) pending_is i) in
       let f = In-filter_cases (λ v. not (was_fired (all_seen p (moves_at p w) r).fired v)) y.0 (rank_ops p r) y.1 in
       subst (λ (x : Posted). (is_ready (state_at (system_of p inputs slots) w r) x.number ≡ true)
-      × ((d : ℕ) × (message_target x.deed ≡ Some d))) y.2
+      × ((d : ℕ) × (message_target x.action ≡ Some d))) y.2
       (left_ready y.0 f.0 (not-true _ f.1))

@@ -4,9 +4,9 @@ use Rattle.std.proofs.Common.{inr, map, find, Option, Some, None, if◌then◌el
 use Rattle.std.specs.Prelude.{slice_set}
 use Rattle.std.proofs.lemmas.Bool.{and_right, cases_Bool}
 use Rattle.ptl_types.specs.declared.calls.TriggeredOp.{TriggeredOp}
-use Rattle.ptl_types.specs.declared.calls.TriggeredOp.TheVariants.{Put as PutDeed, Get as GetDeed, Atomic as AtomicDeed}
-use Rattle.ptl_types.specs.declared.calls.TriggeredOp.TheVariants.{FetchAtomic as FetchAtomicDeed, Swap as SwapDeed, Inc as IncDeed}
-use Rattle.ptl_types.specs.declared.calls.TriggeredOp.TheVariants.{Set as SetDeed}
+use Rattle.ptl_types.specs.declared.calls.TriggeredOp.TheVariants.{Put as PutAction, Get as GetAction, Atomic as AtomicAction}
+use Rattle.ptl_types.specs.declared.calls.TriggeredOp.TheVariants.{FetchAtomic as FetchAtomicAction, Swap as SwapAction, Inc as IncAction}
+use Rattle.ptl_types.specs.declared.calls.TriggeredOp.TheVariants.{Set as SetAction}
 use Rattle.ptl_types.specs.declared.calls.NiFault.{NiFault}
 use Rattle.ptl_types.specs.declared.calls.Outcome.TheVariants.{Dropped, Violation}
 use Rattle.ptl_types.specs.declared.entries.Entry.{Entry}
@@ -25,7 +25,7 @@ use Rattle.ni_model.specs.declared.Linked.{Linked}
 use Rattle.ni_model.specs.Answers.{answered}
 use Rattle.ni_model.specs.Append.{append, append_fault, fresh, linked_at, next_handle}
 use Rattle.ni_model.specs.Arrive.{accepted, ack_header, answer, as_found, chosen, chosen_at, entries_after, is_over, is_overflow, judged}
-use Rattle.ni_model.specs.Arrive.{or_else, received, refused, reply_header, request, running_after, settled_at}
+use Rattle.ni_model.specs.Arrive.{or_else, received, refused, reply_header, request, running_after, updated_at}
 use Rattle.ni_model.specs.Calls.{ends_by}
 use Rattle.ni_model.specs.Counts.{plus, successes}
 use Rattle.ni_model.specs.Tables.{changed}
@@ -104,11 +104,11 @@ entries-no_gets f h xs g = at (is_over f h) f.entry.manage_local
         sym (ap (λ (y : Linked). y.entry.allow_get) q.2) ∙ advance-same f.handle (running_after f h) q.0 ∙ g q.0 q.1
     at false false = g
 
-settled-no_gets : (f : Found) (h : Header) (o : Option Index) → NoGetsAt o → NoGetsAt (settled_at f h o)
-settled-no_gets f h None g = tt
-settled-no_gets f h (Some i) g = at f.list
+updated-no_gets : (f : Found) (h : Header) (o : Option Index) → NoGetsAt o → NoGetsAt (updated_at f h o)
+updated-no_gets f h None g = tt
+updated-no_gets f h (Some i) g = at f.list
   where
-    at : (l : EntryList) → NoGetsAt (settled_at (record { list = l; linked = f.linked }) h (Some i))
+    at : (l : EntryList) → NoGetsAt (updated_at (record { list = l; linked = f.linked }) h (Some i))
     at Priority = (entries-no_gets f.linked h i.priority g.0, g.1)
     at InOverflow = (g.0, entries-no_gets f.linked h i.overflow g.1)
 
@@ -125,8 +125,8 @@ target-no_gets v m g = at (is_answer m.header.kind)
             (cond b (received (parts_of v) (refused Dropped m.header)) (accepted (parts_of v) m f))
             (received (parts_of v) (refused Violation m.header)))).state.indices
         taken true true = g
-        taken true false = set-no_gets v.indices m.header.pt (settled_at f m.header (index_at m.header.pt v.indices)) g
-            (settled-no_gets f m.header (index_at m.header.pt v.indices) (at-no_gets v.indices m.header.pt g))
+        taken true false = set-no_gets v.indices m.header.pt (updated_at f m.header (index_at m.header.pt v.indices)) g
+            (updated-no_gets f m.header (index_at m.header.pt v.indices) (at-no_gets v.indices m.header.pt g))
         taken false b = g
 
     at : (t : Bool) → NoGetsIn (cond t (after_answer v (answered (home_of v) m)) (after_request v (request (parts_of v) m))).state.indices
@@ -134,13 +134,13 @@ target-no_gets v m g = at (is_answer m.header.kind)
     at false = by_choice (chosen m.header v.indices)
 
 done-indices : (v : State) (d : TriggeredOp) → (done v d).state.indices ≡ v.indices
-done-indices v (PutDeed a) = refl
-done-indices v (GetDeed g) = refl
-done-indices v (AtomicDeed a o t) = refl
-done-indices v (FetchAtomicDeed g a o t) = refl
-done-indices v (SwapDeed g a w t n) = refl
-done-indices v (IncDeed c b) = refl
-done-indices v (SetDeed c t) = refl
+done-indices v (PutAction a) = refl
+done-indices v (GetAction g) = refl
+done-indices v (AtomicAction a o t) = refl
+done-indices v (FetchAtomicAction g a o t) = refl
+done-indices v (SwapAction g a w t n) = refl
+done-indices v (IncAction c b) = refl
+done-indices v (SetAction c t) = refl
 
 fired-indices : (v : State) (t : ℕ) → (fired v t).state.indices ≡ v.indices
 unfolding fired
@@ -148,7 +148,7 @@ fired-indices v t = at (posted_at t v.pending)
   where
     at : (o : Option Posted) → (fired_op v o).state.indices ≡ v.indices
     at None = refl
-    at (Some q) = done-indices (without q.number v) q.deed
+    at (Some q) = done-indices (without q.number v) q.action
 
 linked-no_gets : (x : Linked) → x.entry.allow_get ≡ false → (o : Option Index) → NoGetsAt o → NoGetsAt (linked_at Priority x o)
 linked-no_gets x e None g = tt

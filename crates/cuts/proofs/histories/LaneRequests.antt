@@ -10,7 +10,7 @@ use Rattle.ptl_types.specs.Elements.{part}
 use Rattle.ptl_types.specs.Kinds.{is_answer}
 use Rattle.ptl_types.specs.declared.headers.Lane.TheVariants.{Request}
 use Rattle.ptl_types.specs.declared.elements.AtomicOp.{AtomicOp}
-use Rattle.ptl_types.specs.declared.calls.TriggeredOp.TheVariants.{Inc as IncDeed}
+use Rattle.ptl_types.specs.declared.calls.TriggeredOp.TheVariants.{Inc as IncAction}
 use Rattle.ni_model.specs.declared.Bound.{Bound}
 use Rattle.ni_model.specs.Counts.{successes}
 use Rattle.ni_model.specs.Ready.{done, fired, fired_op, is_number, posted_at}
@@ -26,7 +26,7 @@ use Rattle.plan_calls.specs.RankOps.{RankOp, rank_ops}
 use Rattle.plan_calls.specs.RankOps.RankOp.{ForLink, ForDone}
 use Rattle.cuts.proofs.view.Tables.{find-In}
 use Rattle.cuts.specs.view.Slots.{Slots, cell_ct, the_md}
-use Rattle.cuts.specs.view.TriggeredOps.{operation, send_deed}
+use Rattle.cuts.specs.view.TriggeredOps.{operation, send_action}
 use Rattle.cuts.specs.histories.History.{Beginning, Legal, Local, after, and_then, is_for, made, made_by}
 use Rattle.cuts.specs.histories.History.Local.{Fire, Receive, Start}
 use Rattle.cuts.proofs.histories.Origin.{FromLink, IsOf, after_of, made_from, reply-answer, some_one, target_answers, answer_kind, without}
@@ -45,7 +45,7 @@ read-short : (o : Option Bound) (at n : ℕ) (xs : List ℕ) → length (bytes_a
 read-short None at n xs = zero-le
 read-short (Some b) at n xs = part-short (b.md.start + at) n xs
 
-send_short : (p : Plan) (s : Slots) (l : ℕ) (v : State) (m : Sent) (o : Option AtomicOp) → (done v (send_deed p s l o)).message ≡ Some m →
+send_short : (p : Plan) (s : Slots) (l : ℕ) (v : State) (m : Sent) (o : Option AtomicOp) → (done v (send_action p s l o)).message ≡ Some m →
     length m.bytes ≤ (link p l).length
 unfolding started
 send_short p s l v m None i = subst (λ (x : Sent). length x.bytes ≤ (link p l).length) (some_one i)
@@ -54,12 +54,12 @@ send_short p s l v m (Some o) i = subst (λ (x : Sent). length x.bytes ≤ (link
     (read-short (lookup (the_md s) v.mds.live) _ (link p l).length v.memory)
 
 work_short : (p : Plan) (s : Slots) (r : ℕ) (v : State) (m : Sent) → v.rank ≡ r → (w : RankOp) → In w (rank_ops p r) →
-    (done v (operation p s r w).deed).message ≡ Some m → length m.bytes ≤ (link p (number_in m)).length
+    (done v (operation p s r w).action).message ≡ Some m → length m.bytes ≤ (link p (number_in m)).length
 work_short p s r v m e (ForDone c) h i = cc
 work_short p s r v m e (ForLink l) h i = at (is_bump (link p l).kind) i
   where
-    at : (b : Bool) → (done v (cond b (IncDeed (cell_ct p s (link p l).target) (successes 1))
-        (send_deed p s l (cell p (link p l).target).op))).message ≡ Some m → length m.bytes ≤ (link p (number_in m)).length
+    at : (b : Bool) → (done v (cond b (IncAction (cell_ct p s (link p l).target) (successes 1))
+        (send_action p s l (cell p (link p l).target).op))).message ≡ Some m → length m.bytes ≤ (link p (number_in m)).length
     at true i = cc
     at false i =
         let hd = send_link p s r l v m (cell p (link p l).target).op refl (e ∙ sym (out_links-In p r l (rank_ops-along p r l h)).1) i in
@@ -77,7 +77,7 @@ fired_short p s r t v m h e = at (posted_at t v.pending) refl e
         let i = h.pending x (find-In (is_number t) v.pending.waiting x q).0 in
         let k = In-map_cases (operation p s r) x (rank_ops p r) i in
         work_short p s r (without x.number v) m h.rank k.0 k.1
-        (subst (λ (y : Posted). (done (without x.number v) y.deed).message ≡ Some m) (sym k.2) e)
+        (subst (λ (y : Posted). (done (without x.number v) y.action).message ≡ Some m) (sym k.2) e)
 
 made_short : (p : Plan) (s : Slots) (r : ℕ) (go : Beginning) (es : List Local) (v : State) (m : Sent) → IsOf p s r v →
     In m (made go v es) → is_answer m.header.kind ≡ false → length m.bytes ≤ (link p (number_in m)).length

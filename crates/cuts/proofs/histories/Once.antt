@@ -22,7 +22,7 @@ gone_fired t u v h = at (posted_at u v.pending)
     at : (o : Option Posted) → Gone t (fired_op v o).state
     at None = h
     at (Some q) = λ x i. h x (In-filter_cases (λ y. not (is_number q.number y)) x v.pending.waiting
-        (subst (λ (ps : Operations). In x ps.waiting) (done_stays (without q.number v) q.deed).pending i)).0
+        (subst (λ (ps : Operations). In x ps.waiting) (done_stays (without q.number v) q.action).pending i)).0
 
 pub gone_after : (t : ℕ) (go : Beginning) (v : State) (e : Local) → Gone t v → Gone t (after go v e)
 gone_after t go v Start h = λ x i. h x (subst (λ (ps : Operations). In x ps.waiting) (go.pending v) i)
@@ -66,7 +66,7 @@ gone_now t v r = at (posted_at t v.pending) refl r
     at (Some q) e r = λ x i.
         let n : q.number ≡ t = eqb-true _ _ (find-In (is_number t) v.pending.waiting q e).1 in
         let j = In-filter_cases (λ y. not (is_number q.number y)) x v.pending.waiting
-        (subst (λ (ps : Operations). In x ps.waiting) (done_stays (without q.number v) q.deed).pending i) in
+        (subst (λ (ps : Operations). In x ps.waiting) (done_stays (without q.number v) q.action).pending i) in
         subst (λ m. is_number m x ≡ false) n (not-true _ j.1)
 
 pub fired_once : (t : ℕ) (go : Beginning) (es : List Local) (b : Bool) (v : State) → Legal go b v es → count_by (is_fire t) es ≤ 1

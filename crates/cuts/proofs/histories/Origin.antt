@@ -11,8 +11,8 @@ use Rattle.ptl_types.specs.declared.calls.TriggeredOp.{TriggeredOp}
 use Rattle.ptl_types.specs.declared.elements.AtomicOp.{AtomicOp}
 use Rattle.ptl_types.specs.Kinds.{is_answer, is_no_ack, is_put_or_atomic}
 use Rattle.cuts.specs.histories.History.{Beginning, Legal, Local, after, and_then, got, is_lane, made, made_by, same_lane}
-use Rattle.ptl_types.specs.declared.calls.TriggeredOp.TheVariants.{Atomic as AtomicDeed, FetchAtomic as FetchAtomicDeed, Get as GetDeed}
-use Rattle.ptl_types.specs.declared.calls.TriggeredOp.TheVariants.{Inc as IncDeed, Put as PutDeed, Set as SetDeed, Swap as SwapDeed}
+use Rattle.ptl_types.specs.declared.calls.TriggeredOp.TheVariants.{Atomic as AtomicAction, FetchAtomic as FetchAtomicAction, Get as GetAction}
+use Rattle.ptl_types.specs.declared.calls.TriggeredOp.TheVariants.{Inc as IncAction, Put as PutAction, Set as SetAction, Swap as SwapAction}
 use Rattle.ptl_types.specs.declared.headers.Lane.TheVariants.{Answer, Request}
 use Rattle.plan_core.specs.Members.{In, Within}
 use Rattle.ni_model.specs.State.{Posted, State, home_of, target, Operations, after_request, after_answer, parts_of}
@@ -26,7 +26,7 @@ use Rattle.ni_model.specs.Ready.{fired, done, fired_op, is_number, posted_at, wi
 use Rattle.ni_model.specs.Starts.{put_header, started}
 use Rattle.plan_core.specs.Plan.{Plan, cell, is_bump, link, out_links}
 use Rattle.cuts.specs.view.Slots.{Slots, cell_ct}
-use Rattle.cuts.specs.view.TriggeredOps.{deed_of, kind_for, link_header, operation, send_args, send_deed, type_for}
+use Rattle.cuts.specs.view.TriggeredOps.{action_of, kind_for, link_header, operation, send_args, send_action, type_for}
 use Rattle.plan_calls.specs.RankOps.{RankOp, rank_ops}
 use Rattle.plan_calls.specs.RankOps.RankOp.{ForLink, ForDone}
 use Rattle.ni_model.specs.Conditions.{IsKept}
@@ -55,13 +55,13 @@ without t s = record s { pending = without_number t s.pending }
 
 pub done_stays : (s : State) (d : TriggeredOp) → Stays (done s d).state s
 unfolding started
-done_stays s (PutDeed a) = record { rank = refl; pending = refl }
-done_stays s (GetDeed g) = record { rank = refl; pending = refl }
-done_stays s (AtomicDeed a o t) = record { rank = refl; pending = refl }
-done_stays s (FetchAtomicDeed g a o t) = record { rank = refl; pending = refl }
-done_stays s (SwapDeed g a w t n) = record { rank = refl; pending = refl }
-done_stays s (IncDeed c b) = record { rank = refl; pending = refl }
-done_stays s (SetDeed c t) = record { rank = refl; pending = refl }
+done_stays s (PutAction a) = record { rank = refl; pending = refl }
+done_stays s (GetAction g) = record { rank = refl; pending = refl }
+done_stays s (AtomicAction a o t) = record { rank = refl; pending = refl }
+done_stays s (FetchAtomicAction g a o t) = record { rank = refl; pending = refl }
+done_stays s (SwapAction g a w t n) = record { rank = refl; pending = refl }
+done_stays s (IncAction c b) = record { rank = refl; pending = refl }
+done_stays s (SetAction c t) = record { rank = refl; pending = refl }
 
 -- the state is rank r's, and its operations are among those that were installed
 pub record IsOf (p : Plan) (s : Slots) (r : ℕ) (v : State) : Type 0 where
@@ -87,7 +87,7 @@ after_of p s r go v (Fire t) h = at (posted_at t v.pending)
   where
     at : (o : Option Posted) → IsOf p s r (fired_op v o).state
     at None = h
-    at (Some q) = stays_of p s r (done (without q.number v) q.deed).state (without q.number v) (done_stays (without q.number v) q.deed)
+    at (Some q) = stays_of p s r (done (without q.number v) q.action).state (without q.number v) (done_stays (without q.number v) q.action)
         (record { rank = h.rank; pending = λ x i. h.pending x (In-filter_cases (λ y. not (is_number q.number y)) x v.pending.waiting i).0 })
 
 -- an acknowledgement's header, with this request for one
@@ -141,7 +141,7 @@ pub record FromLink (p : Plan) (s : Slots) (r : ℕ) (m : Sent) : Type 0 where
   pub header : m.header ≡ link_header p s l
 
 pub send_link : (p : Plan) (s : Slots) (r l : ℕ) (v : State) (m : Sent) (o : Option AtomicOp) → (cell p (link p l).target).op ≡ o →
-    v.rank ≡ (cell p (link p l).source).rank → (done v (send_deed p s l o)).message ≡ Some m → m.header ≡ link_header p s l
+    v.rank ≡ (cell p (link p l).source).rank → (done v (send_action p s l o)).message ≡ Some m → m.header ≡ link_header p s l
 unfolding started
 send_link p s r l v m None e h i = sym (ap (λ (x : Sent). x.header) (some_one i))
     ∙ ap₂ (λ (n : ℕ) (w : Option AtomicOp). put_header n (kind_for w) (send_args p s l) w (type_for w (cell p (link p l).target).ty)) h
@@ -151,12 +151,12 @@ send_link p s r l v m (Some o) e h i = sym (ap (λ (x : Sent). x.header) (some_o
     (sym e)
 
 work_link : (p : Plan) (s : Slots) (r : ℕ) (v : State) (m : Sent) → v.rank ≡ r → (w : RankOp) → In w (rank_ops p r) →
-    (done v (deed_of p s w)).message ≡ Some m → FromLink p s r m
+    (done v (action_of p s w)).message ≡ Some m → FromLink p s r m
 work_link p s r v m e (ForDone c) h i = cc
 work_link p s r v m e (ForLink l) h i = at (is_bump (link p l).kind) refl i
   where
-    at : (b : Bool) → is_bump (link p l).kind ≡ b → (done v (cond b (IncDeed (cell_ct p s (link p l).target) (successes 1))
-        (send_deed p s l (cell p (link p l).target).op))).message ≡ Some m → FromLink p s r m
+    at : (b : Bool) → is_bump (link p l).kind ≡ b → (done v (cond b (IncAction (cell_ct p s (link p l).target) (successes 1))
+        (send_action p s l (cell p (link p l).target).op))).message ≡ Some m → FromLink p s r m
     at true q i = cc
     at false q i =
         let o = rank_ops-along p r l h in
@@ -177,7 +177,7 @@ fired_link p s r t v m h e = at (posted_at t v.pending) refl e
     at (Some x) q e =
         let i = h.pending x (find-In (is_number t) v.pending.waiting x q).0 in
         let k = In-map_cases (operation p s r) x (rank_ops p r) i in
-        work_link p s r (without x.number v) m h.rank k.0 k.1 (subst (λ (y : Posted). (done (without x.number v) y.deed).message ≡ Some m)
+        work_link p s r (without x.number v) m h.rank k.0 k.1 (subst (λ (y : Posted). (done (without x.number v) y.action).message ≡ Some m)
         (sym k.2) e)
 
 -- ---- what a history makes

@@ -13,14 +13,14 @@ use Rattle.ptl_types.specs.declared.headers.Header.{Header}
 use Rattle.ptl_types.specs.Messages.{Sent}
 use Rattle.ptl_types.specs.Kinds.{is_answer}
 use Rattle.ptl_types.specs.declared.headers.Lane.TheVariants.{Request}
-use Rattle.ptl_types.specs.declared.calls.TriggeredOp.TheVariants.{Inc as IncDeed}
+use Rattle.ptl_types.specs.declared.calls.TriggeredOp.TheVariants.{Inc as IncAction}
 use Rattle.plan_core.specs.Members.{Distinct, In}
 use Rattle.ni_model.specs.State.{Posted, State, Operations}
 use Rattle.ni_model.specs.Counts.{successes}
 use Rattle.ni_model.specs.Ready.{fired, done, fired_op, is_number, posted_at}
 use Rattle.plan_core.specs.Plan.{Plan, cell, is_bump, link}
 use Rattle.cuts.specs.view.Slots.{Slots, cell_ct}
-use Rattle.cuts.specs.view.TriggeredOps.{deed_of, link_header, operation, send_deed}
+use Rattle.cuts.specs.view.TriggeredOps.{action_of, link_header, operation, send_action}
 use Rattle.plan_calls.specs.RankOps.{number_of, RankOp, rank_ops}
 use Rattle.plan_calls.specs.RankOps.RankOp.{ForLink, ForDone}
 use Rattle.cuts.specs.histories.History.{Beginning, Legal, May, Local, after, and_then, is_for, is_start, made, made_by, sent}
@@ -54,8 +54,8 @@ pending_before beginning state (Fire number) x waits = of_firing (posted_at numb
     of_firing : (found : Option Posted) → In x (fired_op state found).state.pending.waiting → In x state.pending.waiting
     of_firing None waits = waits
     of_firing (Some y) waits =
-        let deed_stays = (done_stays (without y.number state) y.deed).pending in
-        let among_others = subst (λ (ops : Operations). In x ops.waiting) deed_stays waits in
+        let action_stays = (done_stays (without y.number state) y.action).pending in
+        let among_others = subst (λ (ops : Operations). In x ops.waiting) action_stays waits in
         (In-filter_cases (λ z. not (is_number y.number z)) x state.pending.waiting among_others).0
 
 -- the numbers in a list stay distinct where a message is put in front that is left out, or whose number isn't in the list
@@ -82,14 +82,14 @@ module _ (plan : Plan) (slots : Slots) (rank : ℕ) where
     pub fires : step ≡ Fire (number_of plan rank (ForLink departs.on_link))
 
   -- ---- 1. what a firing sends
-  -- operation x is pending under a number, and its deed makes the message
+  -- operation x is pending under a number, and its action makes the message
   record IsDoneBy (number : ℕ) (state : State) (m : Sent) (x : Posted) : Type 0 where
     waits : In x state.pending.waiting
     numbered : is_number number x ≡ true
-    makes : (done (without x.number state) x.deed).message ≡ Some m
+    makes : (done (without x.number state) x.action).message ≡ Some m
 
   link_header_of : (l : ℕ) (state : State) (m : Sent) → state.rank ≡ rank → In (ForLink l) (rank_ops plan rank)
-      → (done state (deed_of plan slots (ForLink l))).message ≡ Some m → m.header ≡ link_header plan slots l
+      → (done state (action_of plan slots (ForLink l))).message ≡ Some m → m.header ≡ link_header plan slots l
   link_header_of l state m of_rank listed makes = by_kind (is_bump (link plan l).kind) makes
     where
       leaves_it : state.rank ≡ (cell plan (link plan l).source).rank
@@ -97,8 +97,8 @@ module _ (plan : Plan) (slots : Slots) (rank : ℕ) where
 
       -- a bump makes no message
       by_kind : (bumps : Bool)
-          → (done state (cond bumps (IncDeed (cell_ct plan slots (link plan l).target) (successes 1))
-          (send_deed plan slots l (cell plan (link plan l).target).op))).message ≡ Some m
+          → (done state (cond bumps (IncAction (cell_ct plan slots (link plan l).target) (successes 1))
+          (send_action plan slots l (cell plan (link plan l).target).op))).message ≡ Some m
           → m.header ≡ link_header plan slots l
       by_kind true makes = cc
       by_kind false makes = send_link plan slots rank l state m (cell plan (link plan l).target).op refl leaves_it makes

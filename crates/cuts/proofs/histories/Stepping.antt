@@ -17,9 +17,9 @@ use Rattle.ni_model.specs.Refusals.{ct_inc_fault}
 use Rattle.ptl_types.specs.Messages.{message, Sent}
 use Rattle.ptl_types.specs.declared.calls.Outcome.TheVariants.{Answered, Dropped}
 use Rattle.ptl_types.specs.declared.calls.TriggeredOp.{TriggeredOp}
-use Rattle.ptl_types.specs.declared.calls.TriggeredOp.TheVariants.{Put as PutDeed, Get as GetDeed, Atomic as AtomicDeed}
-use Rattle.ptl_types.specs.declared.calls.TriggeredOp.TheVariants.{FetchAtomic as FetchAtomicDeed, Swap as SwapDeed, Inc as IncDeed}
-use Rattle.ptl_types.specs.declared.calls.TriggeredOp.TheVariants.{Set as SetDeed}
+use Rattle.ptl_types.specs.declared.calls.TriggeredOp.TheVariants.{Put as PutAction, Get as GetAction, Atomic as AtomicAction}
+use Rattle.ptl_types.specs.declared.calls.TriggeredOp.TheVariants.{FetchAtomic as FetchAtomicAction, Swap as SwapAction, Inc as IncAction}
+use Rattle.ptl_types.specs.declared.calls.TriggeredOp.TheVariants.{Set as SetAction}
 use Rattle.plan_core.proofs.Lists.{length-map', Distinct_left, In-append_left, In-append_right, In-map_cases}
 use Rattle.plan_core.specs.Plan.{from_to, own, Plan, link}
 use Rattle.cuts.proofs.start.Starting.{length-from_to, IsEarly, start_is}
@@ -80,13 +80,13 @@ answer_framed v is hs n m e =
 
 done_framed : (v : State) (is : List (Option Index)) (hs : UnexpectedList) (n : ℕ) (d : TriggeredOp) →
     done (framed v is hs n) d ≡ framed_fires (done v d) is hs n
-done_framed v is hs n (PutDeed a) = refl
-done_framed v is hs n (GetDeed g) = refl
-done_framed v is hs n (AtomicDeed a o t) = refl
-done_framed v is hs n (FetchAtomicDeed g a o t) = refl
-done_framed v is hs n (SwapDeed g a w t x) = refl
-done_framed v is hs n (IncDeed c b) = refl
-done_framed v is hs n (SetDeed c t) = refl
+done_framed v is hs n (PutAction a) = refl
+done_framed v is hs n (GetAction g) = refl
+done_framed v is hs n (AtomicAction a o t) = refl
+done_framed v is hs n (FetchAtomicAction g a o t) = refl
+done_framed v is hs n (SwapAction g a w t x) = refl
+done_framed v is hs n (IncAction c b) = refl
+done_framed v is hs n (SetAction c t) = refl
 
 pub fire_framed : (v : State) (is : List (Option Index)) (hs : UnexpectedList) (n : ℕ) (t : ℕ) →
     fired (framed v is hs n) t ≡ framed_fires (fired v t) is hs n
@@ -95,7 +95,7 @@ fire_framed v is hs n t = at (posted_at t v.pending)
   where
     at : (o : Option Posted) → fired_op (framed v is hs n) o ≡ framed_fires (fired_op v o) is hs n
     at None = refl
-    at (Some q) = done_framed (record v { pending = without_number q.number v.pending }) is hs n q.deed
+    at (Some q) = done_framed (record v { pending = without_number q.number v.pending }) is hs n q.action
 
 -- ---- messages that may lie: those in front
 pub lie-front : (p : Plan) (r : ℕ) (front later : List Came) → MayLie p r (front ++ later) → MayLie p r front

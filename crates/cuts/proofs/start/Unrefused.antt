@@ -13,8 +13,8 @@ use Rattle.ni_model.specs.Tables.{Live, lookup, is_live_or_none}
 use Rattle.ni_model.specs.Counts.{successes}
 use Rattle.ni_model.specs.Lists.{entries_in}
 use Rattle.ni_model.specs.Append.{append_fault, need, is_within}
-use Rattle.ni_model.specs.Refusals.{put_fits, holds_part, alloc_fault, bind_fault, triggered_fault, deed_fits, deed_is_live, counts_on_live}
-use Rattle.ni_model.specs.Refusals.{deed_passes}
+use Rattle.ni_model.specs.Refusals.{put_fits, holds_part, alloc_fault, bind_fault, triggered_fault, action_fits, action_is_live, counts_on_live}
+use Rattle.ni_model.specs.Refusals.{action_passes}
 use Rattle.ni_model.specs.State.{State, parts_of}
 use Rattle.ni_model.specs.Calls.{with_counter, with_bound, bound, with_index}
 use Rattle.plan_core.specs.Members.{In}
@@ -35,10 +35,10 @@ use Rattle.cuts.proofs.machine.RankOps.{rank_ops-along}
 use Rattle.cuts.specs.view.Slots.{Slots, cell_ct, done_ct, the_md}
 use Rattle.plan_calls.specs.Bits.{bits_above}
 use Rattle.cuts.specs.view.View.{counter_of, Annex}
-use Rattle.cuts.specs.view.TriggeredOps.{deed_of, send_deed, send_args}
+use Rattle.cuts.specs.view.TriggeredOps.{action_of, send_action, send_args}
 use Rattle.plan_calls.specs.Areas.{region_length, area_length, area_start, areas_length, blank_area, blank_areas, classes, has_class}
 use Rattle.plan_calls.specs.Areas.{links_to, longest}
-use Rattle.cuts.specs.view.Calls.{AllPass, MayMake, area_entry, call_fault, call_made, calls_made, deed_at, fresh}
+use Rattle.cuts.specs.view.Calls.{AllPass, MayMake, area_entry, call_fault, call_made, calls_made, action_at, fresh}
 use Rattle.cuts.proofs.view.Installed.{named, calls-append, placed, new_ct, new_op, cts_with, operations_with, after_counters}
 use Rattle.cuts.proofs.view.Installed.{after_operations, cts_are}
 use Rattle.cuts.proofs.start.Prepared.{bind, whole, areas_are, new_area, with_areas}
@@ -262,15 +262,15 @@ module _ (p : Plan) (inputs : Inputs) (sound : SoundPlan p (length inputs)) (fit
       ∙ part_fits (link p l).source (link p l).source_offset (link p l).length (In-own p r (link p l).source (omega arith) q.1)
       w.within_source
 
-  -- what a deed of this rank needs
+  -- what an action of this rank needs
   record MayPost (w : RankOp) : Type 0 where
-    live : (counts_on_live (deed_of p k w) based.cts && deed_is_live (deed_of p k w) based.mds) ≡ true
-    fits : deed_fits (deed_of p k w) based.mds ≡ true
-    small : not (deed_passes (deed_of p k w)) ≡ true
+    live : (counts_on_live (action_of p k w) based.cts && action_is_live (action_of p k w) based.mds) ≡ true
+    fits : action_fits (action_of p k w) based.mds ≡ true
+    small : not (action_passes (action_of p k w)) ≡ true
 
   may_send : (l : ℕ) → In l (out_links p r) → (o : Option AtomicOp) →
-      ((counts_on_live (send_deed p k l o) based.cts && deed_is_live (send_deed p k l o) based.mds) ≡ true) ×
-      (deed_fits (send_deed p k l o) based.mds ≡ true) × (not (deed_passes (send_deed p k l o)) ≡ true)
+      ((counts_on_live (send_action p k l o) based.cts && action_is_live (send_action p k l o) based.mds) ≡ true) ×
+      (action_fits (send_action p k l o) based.mds ≡ true) × (not (action_passes (send_action p k l o)) ≡ true)
   may_send l i None = (live_md, send_fits l i, refl)
   may_send l i (Some o) = (live_md, send_fits l i, refl)
 
@@ -279,7 +279,7 @@ module _ (p : Plan) (inputs : Inputs) (sound : SoundPlan p (length inputs)) (fit
   may_post (ForLink l) i = at (is_bump (link p l).kind) refl
     where
       along : Bool → TriggeredOp
-      along b = if b then Inc (cell_ct p k (link p l).target) (successes 1) else send_deed p k l (cell p (link p l).target).op
+      along b = if b then Inc (cell_ct p k (link p l).target) (successes 1) else send_action p k l (cell p (link p l).target).op
 
       at : (b : Bool) → is_bump (link p l).kind ≡ b → MayPost (ForLink l)
       at true e =
@@ -288,10 +288,10 @@ module _ (p : Plan) (inputs : Inputs) (sound : SoundPlan p (length inputs)) (fit
           let t : In (link p l).target (own p r) = In-own p r (link p l).target s.cells (sym (s.bump_stays (bump_kind (link p l).kind e))
           ∙ q.1) in
           record {
-            live = ap (λ b. counts_on_live (along b) based.cts && deed_is_live (along b) based.mds) e
+            live = ap (λ b. counts_on_live (along b) based.cts && action_is_live (along b) based.mds) e
                 ∙ ap (λ b. b && true) (live_cell (link p l).target t);
-            fits = ap (λ b. deed_fits (along b) based.mds) e;
-            small = ap (λ b. not (deed_passes (along b))) e;
+            fits = ap (λ b. action_fits (along b) based.mds) e;
+            small = ap (λ b. not (action_passes (along b))) e;
           }
         where
           bump_kind : (a : LinkKind) → is_bump a ≡ true → a ≡ Bump
@@ -301,13 +301,13 @@ module _ (p : Plan) (inputs : Inputs) (sound : SoundPlan p (length inputs)) (fit
       at false e =
           let m = may_send l (rank_ops-along p r l i) (cell p (link p l).target).op in
           record {
-            live = ap (λ b. counts_on_live (along b) based.cts && deed_is_live (along b) based.mds) e ∙ m.0;
-            fits = ap (λ b. deed_fits (along b) based.mds) e ∙ m.1;
-            small = ap (λ b. not (deed_passes (along b))) e ∙ m.2;
+            live = ap (λ b. counts_on_live (along b) based.cts && action_is_live (along b) based.mds) e ∙ m.0;
+            fits = ap (λ b. action_fits (along b) based.mds) e ∙ m.1;
+            small = ap (λ b. not (action_passes (along b))) e ∙ m.2;
           }
 
   pub operation_made : (front : List RankOp) (w : RankOp) (back : List RankOp) → rank_ops p r ≡ front ++ w ∷ back
-      → triggered_fault (deed_of p k w) (cell_ct p k (cell_of p w)) (triggered_for p inputs k r front).cts
+      → triggered_fault (action_of p k w) (cell_ct p k (cell_of p w)) (triggered_for p inputs k r front).cts
       (triggered_for p inputs k r front).mds (triggered_for p inputs k r front).pending ≡ None
   operation_made front w back e =
       let i : In w (rank_ops p r) = subst (λ v. In w v) (sym e) (In-split front w back) in
@@ -317,7 +317,7 @@ module _ (p : Plan) (inputs : Inputs) (sound : SoundPlan p (length inputs)) (fit
       let a = few_own p r in
       let b = few_out p r in
       let at_most = sound.few_together in
-      ap (λ (s : State). triggered_fault (deed_of p k w) (cell_ct p k (cell_of p w)) s.cts s.mds s.pending)
+      ap (λ (s : State). triggered_fault (action_of p k w) (cell_ct p k (cell_of p w)) s.cts s.mds s.pending)
       (triggered_is front (λ v j. subst (λ vs. In v vs) (sym e) (In-append_left v front (w ∷ back) j)))
       ∙ need4 _ _ _ _ Stale NoSpace OutOfRegion CountFull
       (ap₂ (λ x y. x && y) (live_cell (cell_of p w) (cell_of-own p (length inputs) sound r w i)) may.live)
@@ -331,7 +331,7 @@ module _ (p : Plan) (inputs : Inputs) (sound : SoundPlan p (length inputs)) (fit
 
   -- ---- what is sent may be sent
   may-start : (l : ℕ) → In l (out_links p r) → (o : Option AtomicOp) → (cell p (link p l).target).op ≡ o →
-      MayStart (send_deed p k l o) p.ranks (limits_for p r)
+      MayStart (send_action p k l o) p.ranks (limits_for p r)
   may-start l i None e =
       let q = out_links-In p r l i in
       let known = sound.ranks_known (link p l).target (sound.links_sound l q.0).cells in
@@ -351,11 +351,11 @@ module _ (p : Plan) (inputs : Inputs) (sound : SoundPlan p (length inputs)) (fit
         },
       )
 
-  may-make : (w : RankOp) → In w (rank_ops p r) → MayStart (deed_of p k w) p.ranks (limits_for p r)
+  may-make : (w : RankOp) → In w (rank_ops p r) → MayStart (action_of p k w) p.ranks (limits_for p r)
   may-make (ForDone c) i = tt
   may-make (ForLink l) i = at (is_bump (link p l).kind)
     where
-      at : (b : Bool) → MayStart (if b then Inc (cell_ct p k (link p l).target) (successes 1) else send_deed p k l
+      at : (b : Bool) → MayStart (if b then Inc (cell_ct p k (link p l).target) (successes 1) else send_action p k l
           (cell p (link p l).target).op) p.ranks (limits_for p r)
       at true = tt
       at false = may-start l (rank_ops-along p r l i) (cell p (link p l).target).op refl
@@ -397,10 +397,10 @@ module _ (p : Plan) (inputs : Inputs) (sound : SoundPlan p (length inputs)) (fit
           let i : In w (rank_ops p r) = subst (λ v. In w v) (sym e) (In-split before w after) in
           let n = named p (length inputs) sound k r w i in
           let is = triggered_is before (λ v j. subst (λ vs. In v vs) (sym e) (In-append_left v before (w ∷ after) j)) in (
-            subst (λ (v : State). MayStart (deed_at k (own p r) (act_of p w)) v.ranks v.limits) (sym is)
-                (subst (λ d. MayStart d p.ranks (limits_for p r)) (sym n.deed) (may-make w i)),
+            subst (λ (v : State). MayStart (action_at k (own p r) (act_of p w)) v.ranks v.limits) (sym is)
+                (subst (λ d. MayStart d p.ranks (limits_for p r)) (sym n.action) (may-make w i)),
             ap₂ (λ d h. triggered_fault d h (triggered_for p inputs k r before).cts (triggered_for p inputs k r before).mds
-                (triggered_for p inputs k r before).pending) n.deed n.ct ∙ operation_made before w after e,
+                (triggered_for p inputs k r before).pending) n.action n.ct ∙ operation_made before w after e,
           )
 
   pass_bound : AllPass k (own p r) (bind p r ∷ operations) (counted_for p inputs k r (own p r))

@@ -13,12 +13,12 @@ use Rattle.ni_model.specs.Counts.{successes}
 use Rattle.plan_core.specs.Plan.{Plan, cell, out_links, own}
 use Rattle.cuts.specs.view.Slots.{Slots, cell_ct}
 use Rattle.cuts.specs.view.View.{counter_of}
-use Rattle.cuts.specs.view.TriggeredOps.{deed_of, operation}
+use Rattle.cuts.specs.view.TriggeredOps.{action_of, operation}
 use Rattle.plan_calls.specs.RankOps.{RankOp, cell_of, rank_ops}
 use Rattle.cuts.specs.machine.Seen.{nothing_seen, reached_count, was_fired}
 use Rattle.plan_core.specs.Places.{place_in}
 use Rattle.plan_calls.specs.RankOps.RankOp.{ForLink, ForDone}
-use Rattle.cuts.specs.view.Calls.{call_made, calls_made, deed_at, sending_deed}
+use Rattle.cuts.specs.view.Calls.{call_made, calls_made, action_at, sending_action}
 use Rattle.plan_calls.specs.Calls.{act_of, trigger}
 use Rattle.ptl_types.specs.declared.steps.Call.{Call}
 use Rattle.ptl_types.specs.declared.steps.Call.TheVariants.{CtCell}
@@ -32,7 +32,7 @@ use Rattle.plan_core.proofs.Links.{In-own, out_links-In}
 use Rattle.cuts.proofs.machine.RankOps.{rank_ops-along}
 use Rattle.cuts.proofs.view.StepFire.{cell_of-own}
 use Rattle.cuts.specs.view.Slots.{counter_at}
-use Rattle.cuts.specs.view.TriggeredOps.{send_args, send_deed}
+use Rattle.cuts.specs.view.TriggeredOps.{send_args, send_action}
 use Rattle.std.proofs.Common.{Option}
 use Rattle.ni_model.specs.Calls.{with_counter, with_operation}
 use Rattle.std.proofs.Math.Numerals.{add-one}
@@ -96,7 +96,7 @@ abbrev pub new_ct : Slots → ℕ → ℕ → Live Count
 new_ct k i c = record { handle = handle (k.ct i) i; value = successes 0 }
 
 abbrev pub new_op : Plan → Slots → ℕ → RankOp → Posted
-new_op p k i w = record { number = i; deed = deed_of p k w; ct = cell_ct p k (cell_of p w); threshold = (cell p (cell_of p w)).needs }
+new_op p k i w = record { number = i; action = action_of p k w; ct = cell_ct p k (cell_of p w); threshold = (cell p (cell_of p w)).needs }
 
 pub sum_step : (i n : ℕ) → i + 1 + n ≡ i + suc n
 sum_step i n = omega arith
@@ -129,7 +129,7 @@ operations_with s xs n = record s { pending = record s.pending { waiting = xs; g
 -- among these cells an operation's counter and what it does are those of the plan
 pub record IsNamed (p : Plan) (k : Slots) (cells : List ℕ) (w : RankOp) : Type 0 where
   pub ct : counter_at k cells (cell_of p w) ≡ cell_ct p k (cell_of p w)
-  pub deed : deed_at k cells (act_of p w) ≡ deed_of p k w
+  pub action : action_at k cells (act_of p w) ≡ action_of p k w
 
 pub after_operations : (p : Plan) (k : Slots) (cells : List ℕ) (ws : List RankOp) → ((w : RankOp) → In w ws → IsNamed p k cells w) →
     (s : State)
@@ -139,19 +139,19 @@ unfolding call_made
 after_operations p k cells [] named s = ap₂ (operations_with s) (sym (append-nil s.pending.waiting)) (sym (add-zero s.pending.given))
 after_operations p k cells (w ∷ ws) named s =
     let n = named w (inl refl) in
-    ap (calls_made k cells (map (trigger p) ws)) (ap₂ (λ d h. with_operation d h (cell p (cell_of p w)).needs s) n.deed n.ct)
+    ap (calls_made k cells (map (trigger p) ws)) (ap₂ (λ d h. with_operation d h (cell p (cell_of p w)).needs s) n.action n.ct)
     ∙ after_operations p k cells ws (λ v i. named v (inr i))
-    (with_operation (deed_of p k w) (cell_ct p k (cell_of p w)) (cell p (cell_of p w)).needs s)
+    (with_operation (action_of p k w) (cell_ct p k (cell_of p w)) (cell p (cell_of p w)).needs s)
     ∙ ap₂ (operations_with s) (placed_step (new_op p k) s.pending.waiting s.pending.given w ws) (sum_step s.pending.given (length ws))
 
 -- so are those of a rank of a sound plan
 pub named : (p : Plan) (n : ℕ) → SoundPlan p n → (k : Slots) (r : ℕ) (w : RankOp) → In w (rank_ops p r) → IsNamed p k (own p r) w
-named p n sound k r w i = record { ct = counter-is (cell_of p w) (cell_of-own p n sound r w i); deed = deed-is w i }
+named p n sound k r w i = record { ct = counter-is (cell_of p w) (cell_of-own p n sound r w i); action = action-is w i }
   where
     counter-is : (c : ℕ) → In c (own p r) → counter_at k (own p r) c ≡ cell_ct p k c
     counter-is c i = ap (λ q. counter_at k (own p q) c) (sym (own-In p r c i).1)
 
-    send-is : (l : ℕ) (o : Option AtomicOp) → sending_deed (send_args p k l) o (cell p (link p l).target).ty ≡ send_deed p k l o
+    send-is : (l : ℕ) (o : Option AtomicOp) → sending_action (send_args p k l) o (cell p (link p l).target).ty ≡ send_action p k l o
     send-is l None = refl
     send-is l (Some o) = refl
 
@@ -161,7 +161,7 @@ named p n sound k r w i = record { ct = counter-is (cell_of p w) (cell_of-own p 
     bump_kind Atomic e = cc
 
     along : (l : ℕ) → In (ForLink l) (rank_ops p r) → (b : Bool) → is_bump (link p l).kind ≡ b →
-        deed_at k (own p r) (act_of p (ForLink l)) ≡ deed_of p k (ForLink l)
+        action_at k (own p r) (act_of p (ForLink l)) ≡ action_of p k (ForLink l)
     along l i true e =
         let q = out_links-In p r l (rank_ops-along p r l i) in
         let s = sound.links_sound l q.0 in
@@ -170,9 +170,9 @@ named p n sound k r w i = record { ct = counter-is (cell_of p w) (cell_of-own p 
         rw e (ap (λ h. Inc h (successes 1)) (counter-is (link p l).target t))
     along l i false e = rw e (send-is l (cell p (link p l).target).op)
 
-    deed-is : (w : RankOp) → In w (rank_ops p r) → deed_at k (own p r) (act_of p w) ≡ deed_of p k w
-    deed-is (ForDone c) i = refl
-    deed-is (ForLink l) i = along l i (is_bump (link p l).kind) refl
+    action-is : (w : RankOp) → In w (rank_ops p r) → action_at k (own p r) (act_of p w) ≡ action_of p k w
+    action-is (ForDone c) i = refl
+    action-is (ForLink l) i = along l i (is_bump (link p l).kind) refl
 
 -- ---- the lists of the closed form
 pub cts_are : (p : Plan) (k : Slots) (r : ℕ) → placed (new_ct k) 1 (own p r) ≡ map (counter_of p k r nothing_seen) (own p r)

@@ -10,7 +10,7 @@ use Rattle.ptl_types.specs.declared.elements.AtomicOp.{AtomicOp}
 use Rattle.ptl_types.specs.Handles.{same_handle, top, one_more}
 use Rattle.ptl_types.specs.Kinds.{is_no_ack}
 use Rattle.ptl_types.specs.declared.headers.AckRequest.TheVariants.{CtAck, NoAck}
-use Rattle.ptl_types.specs.declared.calls.TriggeredOp.TheVariants.{Inc as IncDeed}
+use Rattle.ptl_types.specs.declared.calls.TriggeredOp.TheVariants.{Inc as IncAction}
 use Rattle.plan_core.specs.Members.{In}
 use Rattle.ptl_types.specs.Elements.{part}
 use Rattle.ni_model.specs.State.{Posted, State}
@@ -30,7 +30,7 @@ use Rattle.plan_core.specs.Sound.{SoundPlan}
 use Rattle.plan_core.specs.Values.{Inputs, initial}
 use Rattle.cuts.specs.view.View.{Annex, counter_of, view, raise_go, md_of, mds_of}
 use Rattle.cuts.specs.view.Slots.{Slots, cell_ct, done_ct, the_md}
-use Rattle.cuts.specs.view.TriggeredOps.{deed_of, kind_for, link_message, operation, send_args, send_deed, type_for}
+use Rattle.cuts.specs.view.TriggeredOps.{action_of, kind_for, link_message, operation, send_args, send_action, type_for}
 use Rattle.plan_calls.specs.RankOps.{number_of, RankOp, cell_of, rank_ops}
 use Rattle.cuts.specs.view.Steps.{sent_message, Sized}
 use Rattle.cuts.specs.machine.Seen.{Seen, bumps, content, is_same_work, reached_count, to_cell, was_fired}
@@ -203,9 +203,9 @@ module _ (annex : Annex) where
   left_view p inputs s r g w h = ap (with_waiting (view annex p inputs s r g)) (left_pending p s r g.fired w h (rank_ops p r) (λ v i. i))
 
   fire_tell : (p : Plan) (inputs : Inputs) (s : Slots) (r : ℕ) (g : Seen) (c : ℕ) → In (ForDone c) (rank_ops p r)
-      → done (left (number_of p r (ForDone c)) (view annex p inputs s r g)) (deed_of p s (ForDone c)) ≡ fires_to p inputs s r g (ForDone c)
+      → done (left (number_of p r (ForDone c)) (view annex p inputs s r g)) (action_of p s (ForDone c)) ≡ fires_to p inputs s r g (ForDone c)
   fire_tell p inputs s r g c h =
-      ap (λ v. done v (deed_of p s (ForDone c))) (left_view p inputs s r g (ForDone c) h)
+      ap (λ v. done v (action_of p s (ForDone c))) (left_view p inputs s r g (ForDone c) h)
       ∙ fired_pair _ _ None None
       (ap (λ v. record (view annex p inputs s r (note_work p g (ForDone c))) { cts = record (view annex p inputs s r g).cts { live = v } })
       (ap₂ (λ a b. a ∷ b)
@@ -217,14 +217,14 @@ module _ (annex : Annex) where
 
   fire_bump : (p : Plan) (inputs : Inputs) → SoundPlan p (length inputs) → (s : Slots) (r : ℕ) (g : Seen) (l : ℕ) →
       In (ForLink l) (rank_ops p r) → is_bump (link p l).kind ≡ true
-      → done (left (number_of p r (ForLink l)) (view annex p inputs s r g)) (deed_of p s (ForLink l)) ≡ fires_to p inputs s r g (ForLink l)
+      → done (left (number_of p r (ForLink l)) (view annex p inputs s r g)) (action_of p s (ForLink l)) ≡ fires_to p inputs s r g (ForLink l)
   fire_bump p inputs sound s r g l h b =
       let q = out_links-In p r l (rank_ops-along p r l h) in
       let w = sound.links_sound l q.0 in
       let own_t : In (link p l).target (own p r) = In-own p r (link p l).target w.cells (sym (w.bump_stays (bump_kind (link p l).kind b))
       ∙ q.1) in
-      ap₂ done (left_view p inputs s r g (ForLink l) h) (ap (λ v. cond v (IncDeed (cell_ct p s (link p l).target) (successes 1))
-      (send_deed p s l (cell p (link p l).target).op)) b)
+      ap₂ done (left_view p inputs s r g (ForLink l) h) (ap (λ v. cond v (IncAction (cell_ct p s (link p l).target) (successes 1))
+      (send_action p s l (cell p (link p l).target).op)) b)
       ∙ fired_pair _ _ None (sent_message p inputs s g (ForLink l))
       (ap₂ (λ v n. record (view annex p inputs s r (record g { fired = ForLink l ∷ g.fired; awaits = n }))
       { cts = record (view annex p inputs s r g).cts { live = v } })
@@ -298,7 +298,7 @@ module _ (annex : Annex) where
   send_header p s l r op = put_header r (kind_for op) (send_args p s l) op (type_for op (cell p (link p l).target).ty)
 
   done_send : (p : Plan) (inputs : Inputs) (s : Slots) (r : ℕ) (g : Seen) (l : ℕ) (op : Option AtomicOp) (vs : List Posted)
-      → done (with_waiting (view annex p inputs s r g) vs) (send_deed p s l op)
+      → done (with_waiting (view annex p inputs s r g) vs) (send_action p s l op)
       ≡ fires
       (sent_state (with_waiting (view annex p inputs s r g) vs) (lookup (the_md s) (view annex p inputs s r g).mds.live)
       (send_header p s l r op) (awaits_more (send_header p s l r op).home (view annex p inputs s r g).mds))
@@ -310,14 +310,14 @@ module _ (annex : Annex) where
 
   fire_send : (p : Plan) (inputs : Inputs) → SoundPlan p (length inputs) → (s : Slots) (r : ℕ) (g : Seen) (l : ℕ) → Sized p inputs g →
       In (ForLink l) (rank_ops p r) → is_bump (link p l).kind ≡ false
-      → done (left (number_of p r (ForLink l)) (view annex p inputs s r g)) (deed_of p s (ForLink l)) ≡ fires_to p inputs s r g (ForLink l)
+      → done (left (number_of p r (ForLink l)) (view annex p inputs s r g)) (action_of p s (ForLink l)) ≡ fires_to p inputs s r g (ForLink l)
   fire_send p inputs sound s r g l sized h b =
       let out = rank_ops-along p r l h in
       let q = out_links-In p r l out in
       let op = (cell p (link p l).target).op in
       let ty = (cell p (link p l).target).ty in
-      ap₂ done (left_view p inputs s r g (ForLink l) h) (ap (λ v. cond v (IncDeed (cell_ct p s (link p l).target) (successes 1))
-      (send_deed p s l op)) b)
+      ap₂ done (left_view p inputs s r g (ForLink l) h) (ap (λ v. cond v (IncAction (cell_ct p s (link p l).target) (successes 1))
+      (send_action p s l op)) b)
       ∙ done_send p inputs s r g l op (map (operation p s r) (filter (λ v. not (was_fired (ForLink l ∷ g.fired) v)) (rank_ops p r)))
       ∙ fired_pair _ _ _ _
       (start_plain p inputs s r g (send_header p s l r op) (map (operation p s r)
@@ -340,12 +340,12 @@ module _ (annex : Annex) where
   step_fire p inputs sound s r g t w sized h = ap (fired_op (view annex p inputs s r g)) h.found ∙ by_kind w h.ours
     where
       along : (l : ℕ) → In (ForLink l) (rank_ops p r) → (b : Bool) → is_bump (link p l).kind ≡ b →
-          done (left (number_of p r (ForLink l)) (view annex p inputs s r g)) (deed_of p s (ForLink l)) ≡ fires_to p inputs s r g
+          done (left (number_of p r (ForLink l)) (view annex p inputs s r g)) (action_of p s (ForLink l)) ≡ fires_to p inputs s r g
           (ForLink l)
       along l i true e = fire_bump p inputs sound s r g l i e
       along l i false e = fire_send p inputs sound s r g l sized i e
 
-      by_kind : (w : RankOp) → In w (rank_ops p r) → done (left (number_of p r w) (view annex p inputs s r g)) (deed_of p s w) ≡ fires_to
+      by_kind : (w : RankOp) → In w (rank_ops p r) → done (left (number_of p r w) (view annex p inputs s r g)) (action_of p s w) ≡ fires_to
           p inputs s r g w
       by_kind (ForLink l) i = along l i (is_bump (link p l).kind) refl
       by_kind (ForDone c) i = fire_tell p inputs s r g c i

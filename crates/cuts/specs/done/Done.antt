@@ -43,7 +43,7 @@ HasGotAll k w r =
 -- each pending operation is ready, and sends
 abbrev pub OnlySendsAreLeft : State → Type 0
 OnlySendsAreLeft s =
-    (q : Posted) → In q s.pending.waiting → (is_ready s q.number ≡ true) × ((d : ℕ) × (message_target q.deed ≡ Some d))
+    (q : Posted) → In q s.pending.waiting → (is_ready s q.number ≡ true) × ((d : ℕ) × (message_target q.action ≡ Some d))
 
 -- each of these steps is the receipt of a stray
 abbrev pub AreStrays : List Local → Type 0

@@ -12,7 +12,7 @@ use Rattle.ptl_types.specs.declared.entries.List.TheVariants.{Priority, Overflow
 use Rattle.ptl_types.specs.declared.calls.NiFault.{NiFault}
 use Rattle.ptl_types.specs.declared.calls.PutArgs.{PutArgs}
 use Rattle.ptl_types.specs.declared.calls.TriggeredOp.{TriggeredOp}
-use Rattle.ptl_types.specs.declared.calls.TriggeredOp.TheVariants.{Put as PutDeed, Atomic as AtomicDeed, Inc as IncDeed}
+use Rattle.ptl_types.specs.declared.calls.TriggeredOp.TheVariants.{Put as PutAction, Atomic as AtomicAction, Inc as IncAction}
 use Rattle.ptl_types.specs.declared.steps.PlannedOp.{PlannedOp}
 use Rattle.ptl_types.specs.declared.steps.PlannedOp.TheVariants.{Send, BumpCell, BumpDone}
 use Rattle.ptl_types.specs.declared.steps.Call.{Call}
@@ -97,15 +97,15 @@ args_at md local n target bits remote hdr ack = record {
 }
 
 -- a put, or an atomic where there is an operation
-abbrev pub sending_deed : PutArgs → Option AtomicOp → ElemType → TriggeredOp
-sending_deed args None ty = PutDeed args
-sending_deed args (Some o) ty = AtomicDeed args o ty
+abbrev pub sending_action : PutArgs → Option AtomicOp → ElemType → TriggeredOp
+sending_action args None ty = PutAction args
+sending_action args (Some o) ty = AtomicAction args o ty
 
 -- what a triggered operation does
-abbrev pub deed_at : Slots → List ℕ → PlannedOp → TriggeredOp
-deed_at k cells (Send local n target bits remote hdr op ty ack) = sending_deed (args_at (the_md k) local n target bits remote hdr ack) op ty
-deed_at k cells (BumpCell c) = IncDeed (counter_at k cells c) (successes 1)
-deed_at k cells BumpDone = IncDeed (done_ct k) (successes 1)
+abbrev pub action_at : Slots → List ℕ → PlannedOp → TriggeredOp
+action_at k cells (Send local n target bits remote hdr op ty ack) = sending_action (args_at (the_md k) local n target bits remote hdr ack) op ty
+action_at k cells (BumpCell c) = IncAction (counter_at k cells c) (successes 1)
+action_at k cells BumpDone = IncAction (done_ct k) (successes 1)
 
 -- ---- the calls
 
@@ -122,7 +122,7 @@ call_made k cells (MdBind n remote) s = with_bound k.md (whole_region (done_ct k
 call_made k cells (Overflow start n bits ignored) s = with_entry (k.me s.entries_given) InOverflow (area_entry start n bits ignored) s
 call_made k cells (MeAppend c start n bits ignored) s =
     with_entry (k.me s.entries_given) Priority (cell_entry (counter_at k cells c) start n bits ignored) s
-call_made k cells (Trigger c threshold act) s = with_operation (deed_at k cells act) (counter_at k cells c) threshold s
+call_made k cells (Trigger c threshold act) s = with_operation (action_at k cells act) (counter_at k cells c) threshold s
 
 -- a list of calls, in order
 abbrev pub calls_made : Slots → List ℕ → List Call → State → State
@@ -140,11 +140,11 @@ call_fault k cells (MdBind n remote) s = bind_fault (whole_region (done_ct k) n 
 call_fault k cells (Overflow start n bits ignored) s = append_fault 0 (area_entry start n bits ignored) (parts_of s)
 call_fault k cells (MeAppend c start n bits ignored) s =
     append_fault 0 (cell_entry (counter_at k cells c) start n bits ignored) (parts_of s)
-call_fault k cells (Trigger c threshold act) s = triggered_fault (deed_at k cells act) (counter_at k cells c) s.cts s.mds s.pending
+call_fault k cells (Trigger c threshold act) s = triggered_fault (action_at k cells act) (counter_at k cells c) s.cts s.mds s.pending
 
 -- what a caller sees to: what a triggered operation sends goes to a rank that there is, and is within the limits
 abbrev pub MayMake : Slots → List ℕ → Call → State → Type 0
-MayMake k cells (Trigger c threshold act) s = MayStart (deed_at k cells act) s.ranks s.limits
+MayMake k cells (Trigger c threshold act) s = MayStart (action_at k cells act) s.ranks s.limits
 MayMake k cells _ s = Unit {0}
 
 -- each call may be made where it stands, and isn't refused

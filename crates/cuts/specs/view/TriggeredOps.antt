@@ -9,7 +9,7 @@ use Rattle.ptl_types.specs.declared.headers.MessageKind.TheVariants.{Put as PutK
 use Rattle.ptl_types.specs.declared.headers.AckRequest.TheVariants.{NoAck, CtAck}
 use Rattle.ptl_types.specs.declared.calls.PutArgs.{PutArgs}
 use Rattle.ptl_types.specs.declared.calls.TriggeredOp.{TriggeredOp}
-use Rattle.ptl_types.specs.declared.calls.TriggeredOp.TheVariants.{Put as PutDeed, Atomic as AtomicDeed, Inc as IncDeed}
+use Rattle.ptl_types.specs.declared.calls.TriggeredOp.TheVariants.{Put as PutAction, Atomic as AtomicAction, Inc as IncAction}
 use Rattle.ptl_types.specs.Messages.{Sent, message}
 use Rattle.ni_model.specs.Counts.{successes}
 use Rattle.ni_model.specs.Arrive.{ack_header}
@@ -37,23 +37,23 @@ send_args p s l = record {
 }
 
 -- a put, or an atomic where the target has an operation
-abbrev pub send_deed : Plan → Slots → ℕ → Option AtomicOp → TriggeredOp
-send_deed p s l None = PutDeed (send_args p s l)
-send_deed p s l (Some o) = AtomicDeed (send_args p s l) o (cell p (link p l).target).ty
+abbrev pub send_action : Plan → Slots → ℕ → Option AtomicOp → TriggeredOp
+send_action p s l None = PutAction (send_args p s l)
+send_action p s l (Some o) = AtomicAction (send_args p s l) o (cell p (link p l).target).ty
 
 -- what an operation of the plan does
-abbrev pub deed_of : Plan → Slots → RankOp → TriggeredOp
-deed_of p s (ForLink l) =
+abbrev pub action_of : Plan → Slots → RankOp → TriggeredOp
+action_of p s (ForLink l) =
     if is_bump (link p l).kind
-    then IncDeed (cell_ct p s (link p l).target) (successes 1)
-    else send_deed p s l (cell p (link p l).target).op
-deed_of p s (ForDone c) = IncDeed (done_ct s) (successes 1)
+    then IncAction (cell_ct p s (link p l).target) (successes 1)
+    else send_action p s l (cell p (link p l).target).op
+action_of p s (ForDone c) = IncAction (done_ct s) (successes 1)
 
--- a triggered operation of the plan: its number, its deed, its counter and its needs
+-- a triggered operation of the plan: its number, its action, its counter and its needs
 abbrev pub operation : Plan → Slots → ℕ → RankOp → Posted
 operation p s r w = record {
   number = number_of p r w;
-  deed = deed_of p s w;
+  action = action_of p s w;
   ct = cell_ct p s (cell_of p w);
   threshold = (cell p (cell_of p w)).needs;
 }
