@@ -17,7 +17,7 @@ use Rattle.coll_lang.specs.declared.choices.ChoiceKind.TheVariants.{Elect, Ticke
 use Rattle.choice_texts.specs.machine.Choices.{choice_at}
 use Rattle.choice_texts.specs.machine.Machine.{Phase, advanced}
 use Rattle.choice_texts.proofs.machine.Places.{put-other}
-use Rattle.choice_texts.specs.view.Install.{ChoiceRank, Slots, RankOp, deed_of, first_deed, get_args, is_told, number_of, operation}
+use Rattle.choice_texts.specs.view.Install.{ChoiceRank, Slots, RankOp, action_of, first_action, get_args, is_told, number_of, operation}
 use Rattle.choice_texts.specs.view.Install.{put_args}
 use Rattle.choice_texts.specs.view.Install.{view, was_fired, was_read, was_sent, rank_ops}
 use Rattle.choice_texts.specs.view.Install.Part.{Old, Result}
@@ -40,13 +40,13 @@ fired_apart seat s p (Send t) n = ap was_sent (put-other s p seat.phase t n)
 fired_apart seat s p (Look t) n = ap was_read (put-other s p seat.phase t n)
 fired_apart seat s p (ForDone t) n = ap is_told (put-other s p seat.phase t n)
 
--- a deed leaves the operations that wait
+-- an action leaves the operations that wait
 waits_first : (k : Slots) (ks : List ChoiceKind) (c : ChoiceKind) (s : ℕ) (v : State)
-    → (done v (first_deed k ks c s)).state.pending ≡ v.pending
+    → (done v (first_action k ks c s)).state.pending ≡ v.pending
 waits_first k ks Elect s v = ap (λ (f : Fires). f.state.pending) (done_swap v (get_args k ks s (Old s)) (put_args k ks s) Cswap U64 top)
 waits_first k ks Tickets s v = ap (λ (f : Fires). f.state.pending) (done_fetch v (get_args k ks s (Result s)) (put_args k ks s) Sum U64)
 
-waits_done : (k : Slots) (ks : List ChoiceKind) (w : RankOp) (v : State) → (done v (deed_of k ks w)).state.pending ≡ v.pending
+waits_done : (k : Slots) (ks : List ChoiceKind) (w : RankOp) (v : State) → (done v (action_of k ks w)).state.pending ≡ v.pending
 waits_done k ks (Send s) v = waits_first k ks (choice_at ks s) s v
 waits_done k ks (Look s) v = ap (λ (f : Fires). f.state.pending) (done_get v (get_args k ks s (Result s)))
 waits_done k ks (ForDone s) v = refl

@@ -10,7 +10,7 @@ use Rattle.plan_core.specs.Plan.{from_to}
 use Rattle.coll_lang.specs.declared.choices.ChoiceKind.{ChoiceKind}
 use Rattle.choice_texts.specs.machine.Choices.{choice_at}
 use Rattle.choice_texts.specs.machine.Machine.{first_word}
-use Rattle.choice_texts.specs.view.Install.{Counter, Part, Slots, RankOp, counters_of, deed_of, descriptor_of, entries_of, four_words}
+use Rattle.choice_texts.specs.view.Install.{Counter, Part, Slots, RankOp, counters_of, action_of, descriptor_of, entries_of, four_words}
 use Rattle.choice_texts.specs.view.Install.{given_word, limits_of, parts_of, step_bytes, steps, view, word_entry, rank_ops}
 use Rattle.choice_texts.specs.view.Calls.{AllPass, Call, MayMake, blank, call_fault, call_made, calls_made, first_bytes, install}
 use Rattle.choice_texts.specs.view.Calls.{install_calls}
@@ -210,16 +210,16 @@ module _ (k : Slots) (ranks : ℕ) (ks : List ChoiceKind) (r : ℕ) where
         (may front w back e, operation_made k ranks ks r at_most front w back e))
       where
         may : (front : List RankOp) (w : RankOp) (back : List RankOp) → front ++ w ∷ back ≡ rank_ops ks
-            → MayStart (deed_of k ks w) (operations_all k ks front (entered k ranks ks r)).ranks
+            → MayStart (action_of k ks w) (operations_all k ks front (entered k ranks ks r)).ranks
             (operations_all k ks front (entered k ranks ks r)).limits
         may front w back e =
-            subst (λ (s : State). MayStart (deed_of k ks w) s.ranks s.limits)
+            subst (λ (s : State). MayStart (action_of k ks w) s.ranks s.limits)
             (ap (operations_all k ks front) (sym (entered_is k ranks ks r)))
             (stays front (bare k ranks ks r (entries_of k ks r) (if r == 0 then length ks else 0))
             ((may_post k ranks ks r at_most w (rank_ops-In ks w (subst (In w) e (In-split front w back)))).may some))
           where
-            stays : (ws : List RankOp) (s : State) → MayStart (deed_of k ks w) s.ranks s.limits
-                → MayStart (deed_of k ks w) (operations_all k ks ws s).ranks (operations_all k ks ws s).limits
+            stays : (ws : List RankOp) (s : State) → MayStart (action_of k ks w) s.ranks s.limits
+                → MayStart (action_of k ks w) (operations_all k ks ws s).ranks (operations_all k ks ws s).limits
             stays [] s h = h
             stays (v ∷ ws) s h = stays ws (call_made k ks (Trigger v) s) h
 

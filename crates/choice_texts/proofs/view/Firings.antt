@@ -25,7 +25,7 @@ use Rattle.choice_texts.specs.machine.Machine.Phase.{Answered, Asked, Idle, Lear
 use Rattle.choice_texts.proofs.machine.Places.{count_as, count_put, put-other, put-same}
 use Rattle.choice_texts.proofs.machine.Words.{put_as}
 use Rattle.choice_texts.specs.view.Install.{Counter, Part, ChoiceRank, Slots, RankOp, awaits_of, awaits_result, count_of, counters, ct_of}
-use Rattle.choice_texts.specs.view.Install.{ct_stamp, deed_of, first_deed, first_header, get_args, given_word, has_first, has_result}
+use Rattle.choice_texts.specs.view.Install.{ct_stamp, action_of, first_action, first_header, get_args, given_word, has_first, has_result}
 use Rattle.choice_texts.specs.view.Install.{is_out}
 use Rattle.choice_texts.specs.view.Install.{is_reading, is_told, live_counter, live_part, md_of, md_stamp, none_or_one, number_of, old_of}
 use Rattle.choice_texts.specs.view.Install.{operation, parts, put_args, result_counter, step_bytes, steps, view, was_fired, was_read}
@@ -145,9 +145,9 @@ module _ (k : Slots) (ranks : ℕ) (ks : List ChoiceKind) (r : ℕ) (seat : Choi
     others_sent (Look t) n = look_next was_read (ap (λ p. was_read (advanced p)) idle ∙ sym (ap was_read idle)) t
     others_sent (ForDone t) n = look_next is_told (ap (λ p. is_told (advanced p)) idle ∙ sym (ap is_told idle)) t
 
-    -- the deed, by the step
+    -- the action, by the step
     send_done : (c : ChoiceKind) (v : State)
-        → done v (first_deed k ks c s)
+        → done v (first_action k ks c s)
         ≡ fires (sent_state v (lookup (md_of k ks (Given s)) v.mds.live) (first_header k ks c v.rank s)
         (changed (md_of k ks (home_part c s)) one_awaited v.mds))
         (Some (message (first_header k ks c v.rank s) (bytes_at (lookup (md_of k ks (Given s)) v.mds.live) 0 8 v.memory)))
@@ -163,7 +163,7 @@ module _ (k : Slots) (ranks : ℕ) (ks : List ChoiceKind) (r : ℕ) (seat : Choi
         ∙ read_given (seat.word s) (given_word (choice_at ks s) r) (old_of (seat.phase s)) (value_of (seat.phase s))
 
     pub fire_send : (waits : List Posted) → waits ≡ map (operation k ks) (filter (λ v. not (was_fired next v)) (rank_ops ks))
-        → done (waiting_view waits) (deed_of k ks (Send s)) ≡ fires (view k ranks ks r next) (sent_message k ks r s (seat.phase s))
+        → done (waiting_view waits) (action_of k ks (Send s)) ≡ fires (view k ranks ks r next) (sent_message k ks r s (seat.phase s))
     fire_send waits e =
         send_done (choice_at ks s) (waiting_view waits)
         ∙ fired_pair _ _ _ _
@@ -197,7 +197,7 @@ module _ (k : Slots) (ranks : ℕ) (ks : List ChoiceKind) (r : ℕ) (seat : Choi
     others_read (ForDone t) n = look_next is_told (ap (λ p. is_told (advanced p)) answered.is ∙ sym (ap is_told answered.is)) t
 
     pub fire_look : (waits : List Posted) → waits ≡ map (operation k ks) (filter (λ v. not (was_fired next v)) (rank_ops ks))
-        → done (waiting_view waits) (deed_of k ks (Look s)) ≡ fires (view k ranks ks r next) (sent_message k ks r s (seat.phase s))
+        → done (waiting_view waits) (action_of k ks (Look s)) ≡ fires (view k ranks ks r next) (sent_message k ks r s (seat.phase s))
     fire_look waits e =
         done_get (waiting_view waits) (get_args k ks s (Result s))
         ∙ fired_pair _ _ _ _
@@ -244,7 +244,7 @@ module _ (k : Slots) (ranks : ℕ) (ks : List ChoiceKind) (r : ℕ) (seat : Choi
     others_told (ForDone t) n = ap is_told (put-other s (advanced (seat.phase s)) seat.phase t (λ e. n (ap ForDone e)))
 
     pub fire_tell : (waits : List Posted) → waits ≡ map (operation k ks) (filter (λ v. not (was_fired next v)) (rank_ops ks))
-        → done (waiting_view waits) (deed_of k ks (ForDone s)) ≡ fires (view k ranks ks r next) (sent_message k ks r s (seat.phase s))
+        → done (waiting_view waits) (action_of k ks (ForDone s)) ≡ fires (view k ranks ks r next) (sent_message k ks r s (seat.phase s))
     fire_tell waits e =
         fired_pair _ _ None _
         (λ d. view_with k ranks ks r seat (memory_next d) (done_rises d) (parts_as k ks seat next (λ y j. await_stays y) d) (e d))

@@ -7,7 +7,7 @@ use Rattle.plan_core.specs.Plan.{from_to}
 use Rattle.cuts.specs.view.Calls.{with_entry}
 use Rattle.coll_lang.specs.declared.choices.ChoiceKind.{ChoiceKind}
 use Rattle.choice_texts.specs.machine.Choices.{choice_at}
-use Rattle.choice_texts.specs.view.Install.{Counter, Part, Slots, RankOp, counters_of, ct_of, deed_of, descriptor_of, limits_of, parts_of}
+use Rattle.choice_texts.specs.view.Install.{Counter, Part, Slots, RankOp, counters_of, ct_of, action_of, descriptor_of, limits_of, parts_of}
 use Rattle.choice_texts.specs.view.Install.{step_bytes, steps, word_entry, work_counter, rank_ops}
 use Rattle.choice_texts.specs.view.Calls.{no_seat}
 
@@ -29,7 +29,7 @@ entries_all k (t ∷ ts) s = entries_all k ts (with_entry (k.me s.entries_given)
 -- these triggered operations, each at threshold 1
 abbrev pub operations_all : Slots → List ChoiceKind → List RankOp → State → State
 operations_all k ks [] s = s
-operations_all k ks (w ∷ ws) s = operations_all k ks ws (with_operation (deed_of k ks w) (ct_of k ks (work_counter ks w)) 1 s)
+operations_all k ks (w ∷ ws) s = operations_all k ks ws (with_operation (action_of k ks w) (ct_of k ks (work_counter ks w)) 1 s)
 
 -- the counters and descriptors of these steps, step by step
 abbrev pub made_all : Slots → List ChoiceKind → List ℕ → State → State

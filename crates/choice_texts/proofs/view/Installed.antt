@@ -20,7 +20,7 @@ use Rattle.choice_texts.specs.machine.Machine.Phase.{Idle}
 use Rattle.choice_texts.proofs.machine.Places.{count_none}
 use Rattle.choice_texts.proofs.machine.Words.{length-from_to}
 use Rattle.choice_texts.specs.view.Install.{Counter, Part, Slots, RankOp, awaits_of, awaits_result, before, count_of, counters, counters_in}
-use Rattle.choice_texts.specs.view.Install.{counters_of, ct_of, ct_stamp, deed_of, descriptor_of, entries_of, entry_of, has_first, last_in}
+use Rattle.choice_texts.specs.view.Install.{counters_of, ct_of, ct_stamp, action_of, descriptor_of, entries_of, entry_of, has_first, last_in}
 use Rattle.choice_texts.specs.view.Install.{live_counter, live_part, md_of, md_stamp, none_or_one, number_of, operation, parts, parts_of}
 use Rattle.choice_texts.specs.view.Install.{steps}
 use Rattle.choice_texts.specs.view.Install.{things_in, view, was_fired, word_entry, work_counter, rank_ops, works_of}
@@ -160,12 +160,12 @@ pub after_operations : (k : Slots) (ks : List ChoiceKind) (ws : List RankOp) (s 
     → operations_all k ks ws s ≡ operations_with s (s.pending.waiting ++ map (operation k ks) ws) (s.pending.given + length ws)
 after_operations k ks [] s h = ap₂ (operations_with s) (sym (append-nil s.pending.waiting)) (sym (add-zero s.pending.given))
 after_operations k ks (w ∷ ws) s h =
-    after_operations k ks ws (with_operation (deed_of k ks w) (ct_of k ks (work_counter ks w)) 1 s) h.1
+    after_operations k ks ws (with_operation (action_of k ks w) (ct_of k ks (work_counter ks w)) 1 s) h.1
     ∙ ap₂ (operations_with s)
     (one_more_of s.pending.waiting
-    (record { number = s.pending.given; deed = deed_of k ks w; ct = ct_of k ks (work_counter ks w); threshold = 1 })
+    (record { number = s.pending.given; action = action_of k ks w; ct = ct_of k ks (work_counter ks w); threshold = 1 })
     (map (operation k ks) ws)
-    ∙ ap (λ n. s.pending.waiting ++ record { number = n; deed = deed_of k ks w; ct = ct_of k ks (work_counter ks w); threshold = 1 } ∷ map
+    ∙ ap (λ n. s.pending.waiting ++ record { number = n; action = action_of k ks w; ct = ct_of k ks (work_counter ks w); threshold = 1 } ∷ map
     (operation k ks) ws) (sym h.0))
     (sum_step s.pending.given (length ws))
 

@@ -10,7 +10,7 @@ use Rattle.ptl_types.specs.declared.headers.Header.{Header}
 use Rattle.ptl_types.specs.declared.headers.MessageKind.TheVariants.{FetchAtomic as FetchAtomicKind, Swap as SwapKind}
 use Rattle.ptl_types.specs.declared.calls.PutArgs.{PutArgs}
 use Rattle.ptl_types.specs.declared.calls.GetArgs.{GetArgs}
-use Rattle.ptl_types.specs.declared.calls.TriggeredOp.TheVariants.{FetchAtomic as FetchAtomicDeed, Get as GetDeed, Swap as SwapDeed}
+use Rattle.ptl_types.specs.declared.calls.TriggeredOp.TheVariants.{FetchAtomic as FetchAtomicAction, Get as GetAction, Swap as SwapAction}
 use Rattle.ptl_types.specs.Messages.{message}
 use Rattle.ni_model.specs.declared.Bound.{Bound}
 use Rattle.ni_model.specs.State.{Posted, State}
@@ -228,7 +228,7 @@ sent_state v b h mds = record v {
 }
 
 pub done_swap : (v : State) (g : GetArgs) (a : PutArgs) (sw : SwapOp) (ty : ElemType) (operand : ℕ)
-    → done v (SwapDeed g a sw ty operand)
+    → done v (SwapAction g a sw ty operand)
     ≡ fires (sent_state v (lookup a.md v.mds.live) (fetch_header v.rank SwapKind g a None (Some sw) ty operand)
     (changed g.md one_awaited v.mds))
     (Some (message (fetch_header v.rank SwapKind g a None (Some sw) ty operand)
@@ -237,7 +237,7 @@ unfolding started
 done_swap v g a sw ty operand = refl
 
 pub done_fetch : (v : State) (g : GetArgs) (a : PutArgs) (op : AtomicOp) (ty : ElemType)
-    → done v (FetchAtomicDeed g a op ty)
+    → done v (FetchAtomicAction g a op ty)
     ≡ fires (sent_state v (lookup a.md v.mds.live) (fetch_header v.rank FetchAtomicKind g a (Some op) None ty 0)
     (changed g.md one_awaited v.mds))
     (Some (message (fetch_header v.rank FetchAtomicKind g a (Some op) None ty 0)
@@ -246,7 +246,7 @@ unfolding started
 done_fetch v g a op ty = refl
 
 pub done_get : (v : State) (g : GetArgs)
-    → done v (GetDeed g) ≡ fires (sent_state v (lookup g.md v.mds.live) (get_header v.rank g) (changed g.md one_awaited v.mds))
+    → done v (GetAction g) ≡ fires (sent_state v (lookup g.md v.mds.live) (get_header v.rank g) (changed g.md one_awaited v.mds))
     (Some (message (get_header v.rank g) []))
 unfolding started
 done_get v g = refl

@@ -17,7 +17,7 @@ use Rattle.ni_model.specs.Counts.{successes}
 use Rattle.ni_model.specs.Lists.{entries_in}
 use Rattle.ni_model.specs.Calls.{with_counter}
 use Rattle.ni_model.specs.Conditions.{MayStart}
-use Rattle.ni_model.specs.Refusals.{alloc_fault, bind_fault, counts_on_live, deed_fits, deed_is_live, deed_passes, holds_part}
+use Rattle.ni_model.specs.Refusals.{alloc_fault, bind_fault, counts_on_live, action_fits, action_is_live, action_passes, holds_part}
 use Rattle.ni_model.specs.Refusals.{pt_alloc_fault, triggered_fault}
 use Rattle.ni_model.specs.State.{State, opened, parts_of as target_parts, side_of}
 use Rattle.plan_core.specs.Members.{In}
@@ -28,8 +28,8 @@ use Rattle.choice_texts.specs.machine.Choices.{choice_at}
 use Rattle.coll_lang.specs.declared.choices.ChoiceKind.TheVariants.{Elect, Tickets}
 use Rattle.choice_texts.proofs.machine.Words.{length-from_to}
 use Rattle.choice_texts.specs.view.Install.{Counter, Part, Slots, RankOp, before, counters, counters_in, counters_of, ct_of, ct_stamp}
-use Rattle.choice_texts.specs.view.Install.{deed_of}
-use Rattle.choice_texts.specs.view.Install.{descriptor_of, entries_of, entry_of, first_deed, limits_of, md_of, md_stamp, number_of}
+use Rattle.choice_texts.specs.view.Install.{action_of}
+use Rattle.choice_texts.specs.view.Install.{descriptor_of, entries_of, entry_of, first_action, limits_of, md_of, md_stamp, number_of}
 use Rattle.choice_texts.specs.view.Install.{operation}
 use Rattle.choice_texts.specs.view.Install.{part_start, parts, parts_of, result_counter, step_bytes, steps, things_in, word_entry}
 use Rattle.choice_texts.specs.view.Install.{work_counter}
@@ -321,14 +321,14 @@ module _ (k : Slots) (ranks : ℕ) (ks : List ChoiceKind) (r : ℕ) (at_most : 3
         (lookup_md k ranks ks r (no_seat ks r) x i),
   )
 
-  -- what a deed of this rank needs
+  -- what an action of this rank needs
   pub record MayPost (d : TriggeredOp) : Type 0 where
-    pub live : (counts_on_live d (view k ranks ks r (no_seat ks r)).cts && deed_is_live d (view k ranks ks r (no_seat ks r)).mds) ≡ true
-    pub fits : deed_fits d (view k ranks ks r (no_seat ks r)).mds ≡ true
-    pub small : not (deed_passes d) ≡ true
+    pub live : (counts_on_live d (view k ranks ks r (no_seat ks r)).cts && action_is_live d (view k ranks ks r (no_seat ks r)).mds) ≡ true
+    pub fits : action_fits d (view k ranks ks r (no_seat ks r)).mds ≡ true
+    pub small : not (action_passes d) ≡ true
     pub may : 0 < ranks → MayStart d ranks (limits_of ks)
 
-  may_send : (s : ℕ) → s < length ks → (c : ChoiceKind) → choice_at ks s ≡ c → MayPost (first_deed k ks c s)
+  may_send : (s : ℕ) → s < length ks → (c : ChoiceKind) → choice_at ks s ≡ c → MayPost (first_action k ks c s)
   may_send s h Elect e =
       let a = live_md (Old s) (In-old ks s h e) in
       let b = live_md (Given s) (In-given ks s h) in
@@ -360,7 +360,7 @@ module _ (k : Slots) (ranks : ℕ) (ks : List ChoiceKind) (r : ℕ) (at_most : 3
             );
       }
 
-  pub may_post : (w : RankOp) → IsWork ks w → MayPost (deed_of k ks w)
+  pub may_post : (w : RankOp) → IsWork ks w → MayPost (action_of k ks w)
   may_post (Send s) h = may_send s h (choice_at ks s) refl
   may_post (Look s) h = let a = live_md (Result s) (In-result ks s h.0) in
       record { live = a.0; fits = a.1; small = refl; may = λ some. record { target_known = some; short = lit≤ tt } }
@@ -368,12 +368,12 @@ module _ (k : Slots) (ranks : ℕ) (ks : List ChoiceKind) (r : ℕ) (at_most : 3
 
   pub operation_made : (front : List RankOp) (w : RankOp) (back : List RankOp) → front ++ w ∷ back ≡ rank_ops ks
       → (let s = operations_all k ks front (entered k ranks ks r) in
-      triggered_fault (deed_of k ks w) (ct_of k ks (work_counter ks w)) s.cts s.mds s.pending) ≡ None
+      triggered_fault (action_of k ks w) (ct_of k ks (work_counter ks w)) s.cts s.mds s.pending) ≡ None
   operation_made front w back e =
       let i : In w (rank_ops ks) = subst (In w) e (In-split front w back) in
       let ours = rank_ops-In ks w i in
       let may = may_post w ours in
-      ap (λ (s : State). triggered_fault (deed_of k ks w) (ct_of k ks (work_counter ks w)) s.cts s.mds s.pending)
+      ap (λ (s : State). triggered_fault (action_of k ks w) (ct_of k ks (work_counter ks w)) s.cts s.mds s.pending)
       (ap (operations_all k ks front) (entered_is k ranks ks r)
       ∙ after_operations k ks front (bare k ranks ks r (entries_of k ks r) (if r == 0 then length ks else 0))
       (Runs-left (number_of ks) 0 front (w ∷ back) (subst (Runs (number_of ks) 0) (sym e) (all_works_run ks 0 (length ks)))))

@@ -11,7 +11,7 @@ use Rattle.cuts.specs.view.Calls.{with_entry}
 use Rattle.coll_lang.specs.declared.choices.ChoiceKind.{ChoiceKind}
 use Rattle.choice_texts.specs.machine.Choices.{choice_at}
 use Rattle.choice_texts.specs.machine.Machine.{first_word, opened as nothing_done}
-use Rattle.choice_texts.specs.view.Install.{Counter, Part, ChoiceRank, Slots, RankOp, counters_of, ct_of, deed_of, descriptor_of}
+use Rattle.choice_texts.specs.view.Install.{Counter, Part, ChoiceRank, Slots, RankOp, counters_of, ct_of, action_of, descriptor_of}
 use Rattle.choice_texts.specs.view.Install.{four_words}
 use Rattle.choice_texts.specs.view.Install.{given_word, limits_of, parts_of, seat_of, steps, word_entry, work_counter, rank_ops}
 use Rattle.choice_texts.specs.view.Install.Counter.{Done, Go}
@@ -48,7 +48,7 @@ call_made k ks PtAlloc s = with_index 0 None s
 call_made k ks (CtAlloc c) s = with_counter (k.ct s.cts.given) s
 call_made k ks (MdBind x) s = with_bound (k.md s.mds.given) (descriptor_of k ks x) s
 call_made k ks (MeAppend t) s = with_entry (k.me s.entries_given) Priority (word_entry t) s
-call_made k ks (Trigger w) s = with_operation (deed_of k ks w) (ct_of k ks (work_counter ks w)) 1 s
+call_made k ks (Trigger w) s = with_operation (action_of k ks w) (ct_of k ks (work_counter ks w)) 1 s
 
 -- a list of calls, in order
 abbrev pub calls_made : Slots → List ChoiceKind → List Call → State → State
@@ -63,11 +63,11 @@ call_fault k ks PtAlloc s = pt_alloc_fault 0 None (side_of s) s.eqs
 call_fault k ks (CtAlloc c) s = alloc_fault s.cts
 call_fault k ks (MdBind x) s = bind_fault (descriptor_of k ks x) (length s.memory) s.cts s.eqs s.mds
 call_fault k ks (MeAppend t) s = append_fault 0 (word_entry t) (target_parts s)
-call_fault k ks (Trigger w) s = triggered_fault (deed_of k ks w) (ct_of k ks (work_counter ks w)) s.cts s.mds s.pending
+call_fault k ks (Trigger w) s = triggered_fault (action_of k ks w) (ct_of k ks (work_counter ks w)) s.cts s.mds s.pending
 
 -- what a caller sees to: what a triggered operation sends goes to a rank that there is, and is within the limits
 abbrev pub MayMake : Slots → List ChoiceKind → Call → State → Type 0
-MayMake k ks (Trigger w) s = MayStart (deed_of k ks w) s.ranks s.limits
+MayMake k ks (Trigger w) s = MayStart (action_of k ks w) s.ranks s.limits
 MayMake k ks _ s = Unit {0}
 
 -- each call may be made where it stands, and isn't refused

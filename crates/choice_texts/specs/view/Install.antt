@@ -15,8 +15,8 @@ use Rattle.ptl_types.specs.declared.calls.Limits.{Limits}
 use Rattle.ptl_types.specs.declared.calls.PutArgs.{PutArgs}
 use Rattle.ptl_types.specs.declared.calls.GetArgs.{GetArgs}
 use Rattle.ptl_types.specs.declared.calls.TriggeredOp.{TriggeredOp}
-use Rattle.ptl_types.specs.declared.calls.TriggeredOp.TheVariants.{FetchAtomic as FetchAtomicDeed, Get as GetDeed, Inc as IncDeed}
-use Rattle.ptl_types.specs.declared.calls.TriggeredOp.TheVariants.{Swap as SwapDeed}
+use Rattle.ptl_types.specs.declared.calls.TriggeredOp.TheVariants.{FetchAtomic as FetchAtomicAction, Get as GetAction, Inc as IncAction}
+use Rattle.ptl_types.specs.declared.calls.TriggeredOp.TheVariants.{Swap as SwapAction}
 use Rattle.ptl_types.specs.Handles.{top}
 use Rattle.ptl_types.specs.Elements.{little_endian}
 use Rattle.ptl_types.specs.Messages.{Sent, message}
@@ -224,19 +224,19 @@ put_args k ks s = record {
 }
 
 -- an elect swaps its rank in where nobody was before; tickets add one
-abbrev pub first_deed : Slots → List ChoiceKind → ChoiceKind → ℕ → TriggeredOp
-first_deed k ks Elect s = SwapDeed (get_args k ks s (Old s)) (put_args k ks s) Cswap U64 top
-first_deed k ks Tickets s = FetchAtomicDeed (get_args k ks s (Result s)) (put_args k ks s) Sum U64
+abbrev pub first_action : Slots → List ChoiceKind → ChoiceKind → ℕ → TriggeredOp
+first_action k ks Elect s = SwapAction (get_args k ks s (Old s)) (put_args k ks s) Cswap U64 top
+first_action k ks Tickets s = FetchAtomicAction (get_args k ks s (Result s)) (put_args k ks s) Sum U64
 
 -- what an operation does
-abbrev pub deed_of : Slots → List ChoiceKind → RankOp → TriggeredOp
-deed_of k ks (Send s) = first_deed k ks (choice_at ks s) s
-deed_of k ks (Look s) = GetDeed (get_args k ks s (Result s))
-deed_of k ks (ForDone s) = IncDeed (ct_of k ks Done) (successes 1)
+abbrev pub action_of : Slots → List ChoiceKind → RankOp → TriggeredOp
+action_of k ks (Send s) = first_action k ks (choice_at ks s) s
+action_of k ks (Look s) = GetAction (get_args k ks s (Result s))
+action_of k ks (ForDone s) = IncAction (ct_of k ks Done) (successes 1)
 
 -- as it waits
 abbrev pub operation : Slots → List ChoiceKind → RankOp → Posted
-operation k ks w = record { number = number_of ks w; deed = deed_of k ks w; ct = ct_of k ks (work_counter ks w); threshold = 1 }
+operation k ks w = record { number = number_of ks w; action = action_of k ks w; ct = ct_of k ks (work_counter ks w); threshold = 1 }
 
 -- ---- messages
 
