@@ -7,7 +7,7 @@ use Rattle.ptl_types.specs.declared.elements.ElemType.TheVariants.{U8}
 use Rattle.ptl_types.specs.declared.entries.Descriptor.{Descriptor}
 use Rattle.ptl_types.specs.declared.events.Event.{Event}
 use Rattle.ptl_types.specs.declared.events.EventKind.TheVariants.{Send, Ack as AckEvent, Reply as ReplyEvent}
-use Rattle.ptl_types.specs.declared.calls.TriggeredOp.TheVariants.{Put as PutDeed, Get as GetDeed}
+use Rattle.ptl_types.specs.declared.calls.TriggeredOp.TheVariants.{Put as PutAction, Get as GetAction}
 use Rattle.ptl_types.specs.declared.calls.NiFault.TheVariants.{InUse}
 use Rattle.ptl_types.specs.declared.calls.Outcome.TheVariants.{Answered, Dropped}
 use Rattle.ptl_types.specs.Messages.{Sent, message}
@@ -28,7 +28,7 @@ abbrev ready : State
 ready = (md_bind 0 telling (eq_alloc 0 4 (ct_alloc 0 new).state).state).state
 
 abbrev asked : AckRequest → State
-asked ack = (start (PutDeed (record (args 0 0 2) { ack = ack; target = 1 })) ready).state
+asked ack = (start (PutAction (record (args 0 0 2) { ack = ack; target = 1 })) ready).state
 
 -- the answer of rank 1 to it
 abbrev ack : AckRequest → Bool → ℕ → Sent
@@ -129,7 +129,7 @@ reading = (md_bind 0 (record telling { length = 8; count_reply = true; count_ack
     (eq_alloc 0 4 (ct_alloc 0 new).state).state).state
 
 abbrev got : State
-got = (start (GetDeed (record (back 2) { target = 1 })) reading).state
+got = (start (GetAction (record (back 2) { target = 1 })) reading).state
 
 abbrev reply : ℕ → Bool → List ℕ → ℕ → Sent
 reply at ok bytes length = message (record {
@@ -198,12 +198,12 @@ home_offset None = []
 home_offset (Some m) = m.header.home_offset ∷ m.header.hdr_data ∷ m.header.length ∷ []
 
 get_header_says : home_offset (started 0 (record { mds = reading.mds; region = reading.memory; cts = reading.cts; eqs = reading.eqs })
-    (GetDeed (back 2))).message ≡ 3 ∷ 0 ∷ 2 ∷ []
+    (GetAction (back 2))).message ≡ 3 ∷ 0 ∷ 2 ∷ []
 unfolding started
 get_header_says = refl
 
 put_header_says : home_offset (started 0 (record { mds = reading.mds; region = reading.memory; cts = reading.cts; eqs = reading.eqs })
-    (PutDeed (args 0 4 2))).message ≡ 0 ∷ 77 ∷ 2 ∷ []
+    (PutAction (args 0 4 2))).message ≡ 0 ∷ 77 ∷ 2 ∷ []
 unfolding started
 put_header_says = refl
 
@@ -211,10 +211,10 @@ put_header_says = refl
 abbrev sending : State
 sending = (md_bind 0 (record telling { count_send = true; count_ack = false }) (eq_alloc 0 4 (ct_alloc 0 new).state).state).state
 
-put_counts : ct_get first (start (PutDeed (args 0 0 2)) sending).state ≡ Ok (successes 1)
+put_counts : ct_get first (start (PutAction (args 0 0 2)) sending).state ≡ Ok (successes 1)
 unfolding started
 put_counts = refl
 
-get_counts : ct_get first (start (GetDeed (back 2)) sending).state ≡ Ok (successes 1)
+get_counts : ct_get first (start (GetAction (back 2)) sending).state ≡ Ok (successes 1)
 unfolding started
 get_counts = refl

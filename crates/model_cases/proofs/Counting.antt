@@ -1,6 +1,6 @@
 -- Counting events, triggered operations and refusals (Portals 4.3, counting events and triggered operations).
 use Rattle.std.specs.Prelude.{ℕ, true, false, ◌≡◌, ◌-◌, ◌^◌, Some, None, Ok, Err, is_ok, refl}
-use Rattle.ptl_types.specs.declared.calls.TriggeredOp.TheVariants.{Inc, Set, Put as PutDeed}
+use Rattle.ptl_types.specs.declared.calls.TriggeredOp.TheVariants.{Inc, Set, Put as PutAction}
 use Rattle.ptl_types.specs.declared.calls.NiFault.TheVariants.{Stale, NoSpace, OutOfRegion, InUse, CountFull}
 use Rattle.ni_model.specs.Starts.{started}
 use Rattle.ni_model.specs.Counts.{successes, failures, bump}
@@ -63,9 +63,9 @@ still_named : (ct_free first two_more).answer ≡ Err InUse
 unfolding fired
 still_named = refl
 
-named_by_the_deed : (ct_free second two_more).answer ≡ Err InUse
+named_by_the_action : (ct_free second two_more).answer ≡ Err InUse
 unfolding fired
-named_by_the_deed = refl
+named_by_the_action = refl
 
 two_cancelled : (ct_cancel first two_more).answer ≡ Ok 2
 unfolding fired
@@ -123,11 +123,11 @@ bound_one = (md_bind 0 (part_of 10 6) two_counters).state
 to_the_end : (md_bind 0 (part_of 10 6) two_counters).answer ≡ Ok first
 to_the_end = refl
 
-past_the_descriptor : (start (PutDeed (record (args 0 0 2) { local_offset = 5 })) bound_one).answer ≡ Err OutOfRegion
+past_the_descriptor : (start (PutAction (record (args 0 0 2) { local_offset = 5 })) bound_one).answer ≡ Err OutOfRegion
 unfolding started
 past_the_descriptor = refl
 
-within_the_descriptor : is_ok (start (PutDeed (record (args 0 0 2) { local_offset = 4 })) bound_one).answer ≡ true
+within_the_descriptor : is_ok (start (PutAction (record (args 0 0 2) { local_offset = 4 })) bound_one).answer ≡ true
 unfolding started
 within_the_descriptor = refl
 
@@ -141,11 +141,11 @@ stamp_goes_on = refl
 old_is_stale : ct_get second (ct_alloc 1 (ct_free second bound_one).state).state ≡ Err Stale
 old_is_stale = refl
 
-released : (start (PutDeed (record (args 0 0 2) { local_offset = 4 })) (md_release first bound_one).state).answer ≡ Err Stale
+released : (start (PutAction (record (args 0 0 2) { local_offset = 4 })) (md_release first bound_one).state).answer ≡ Err Stale
 unfolding started
 released = refl
 
-operation_names_it : (md_release first (triggered (PutDeed (args 0 0 2)) first 1 bound_one).state).answer ≡ Err InUse
+operation_names_it : (md_release first (triggered (PutAction (args 0 0 2)) first 1 bound_one).state).answer ≡ Err InUse
 operation_names_it = refl
 
 -- the lowest number first

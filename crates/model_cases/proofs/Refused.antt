@@ -271,9 +271,9 @@ swap_names_source = refl
 swap_names_goal : released second (Swap fetching put Cswap U16 1) ≡ Err InUse
 swap_names_goal = refl
 
-younger_deed_names : (md_release second (triggered (Get fetching) first 1 (triggered (Put put) first 1 bound).state).state).answer ≡ Err
+younger_action_names : (md_release second (triggered (Get fetching) first 1 (triggered (Put put) first 1 bound).state).state).answer ≡ Err
     InUse
-younger_deed_names = refl
+younger_action_names = refl
 
 increment_names_none : released first (Inc second (successes 1)) ≡ Ok tt
 increment_names_none = refl

@@ -30,7 +30,7 @@ ready = bound_both source goal
 abbrev after : TriggeredOp → State
 after d = (start d ready).state
 
--- the deeds: 2 bytes of the first descriptor, from its second byte on; replies go to the second one
+-- the actions: 2 bytes of the first descriptor, from its second byte on; replies go to the second one
 abbrev fetch : TriggeredOp
 fetch = FetchAtomic fetching (sending NoAck) Max U16
 
