@@ -54,7 +54,7 @@ lowest n = 0
 -- ---- the swap compares with 0: nobody finds it, and the word stays as it was
 abbrev with_zero : System
 with_zero = electing (record (operation slots elect (Send 0))
-    { deed = Swap (get_args slots elect 0 (Old 0)) (put_args slots elect 0) Cswap U64 0 } ∷ operation slots elect
+    { action = Swap (get_args slots elect 0 (Old 0)) (put_args slots elect 0) Cswap U64 0 } ∷ operation slots elect
     (Look 0) ∷ operation slots elect (ForDone 0) ∷ [])
 
 zero_ends : enabled_steps with_zero (chosen with_zero lowest 16) ≡ []
