@@ -17,7 +17,7 @@ use Rattle.rank_node.proofs.Made.{made-done}
 use Rattle.rank_node.proofs.Steady.{linked-counters, linked-given}
 use Rattle.choice_texts.specs.view.Calls.{Call, calls_made}
 use Rattle.choice_texts.specs.view.Calls.Call.{CtAlloc, MdBind, MeAppend, Trigger}
-use Rattle.choice_texts.specs.view.Install.{Counter, Part, Slots, RankOp, ct_of, deed_of, descriptor_of, work_counter, word_entry}
+use Rattle.choice_texts.specs.view.Install.{Counter, Part, Slots, RankOp, ct_of, action_of, descriptor_of, work_counter, word_entry}
 use Rattle.choice_texts.proofs.view.Called.{made-append}
 use Rattle.plan_choice.specs.ranks.Given.{Agrees, AreMade, counters_by, descriptors_by, entries_by}
 
@@ -112,10 +112,10 @@ made-descriptor ks x md s t hs left new all is =
     }
 
 -- ---- a triggered operation
-pub made-operation : (ks : List ChoiceKind) (w : RankOp) (deed : TriggeredOp) (ct : Handle) (s t : State) (hs : Handles)
-    → t ≡ with_operation deed ct 1 s → AreAllOf s hs → ((k : Slots) → Agrees k hs → deed ≡ deed_of k ks w)
+pub made-operation : (ks : List ChoiceKind) (w : RankOp) (action : TriggeredOp) (ct : Handle) (s t : State) (hs : Handles)
+    → t ≡ with_operation action ct 1 s → AreAllOf s hs → ((k : Slots) → Agrees k hs → action ≡ action_of k ks w)
     → ((k : Slots) → Agrees k hs → ct ≡ ct_of k ks (work_counter ks w)) → AreMade ks (Trigger w ∷ []) s t hs hs
-made-operation ks w deed ct s t hs e all does waits = record {
+made-operation ks w action ct s t hs e all does waits = record {
   state = λ k g. e ∙ ap₂ (λ d h. with_operation d h 1 s) (does k g) (waits k g);
   kept = λ k g. g;
   all = subst (λ (v : State). AreAllOf v hs) (sym e)
