@@ -10,7 +10,7 @@ use ptl_types::{
 };
 use std::alloc::Global;
 use std::test::Fail;
-use target_engine::{SpareBuffers, Target};
+use target_engine::{AppendArgs, SpareBuffers, Target};
 
 const LIMITS: Limits = Limits {
     entries: 2,
@@ -83,8 +83,9 @@ impl Host {
     }
 
     fn append(&mut self, list: List, entry: Entry) -> Result<(Appended, Option<Handle>), NiFault> {
+        let args = AppendArgs { pt: 0, list, entry };
         self.target
-            .append(&self.region, &mut self.cts, &mut self.eqs, 0, list, entry)
+            .append(&self.region, &mut self.cts, &mut self.eqs, args)
     }
 }
 
@@ -162,7 +163,7 @@ fn the_room_of_a_message_is_used_once_more(rt: HostRuntime) -> Result<(), Fail> 
     let mut cts: Store<Counter> = Store::open(rt.alloc(), 0)?;
     let mut eqs: Store<Queue> = Store::open(rt.alloc(), 0)?;
     let mut target = Target::open(rt.alloc(), 0, &LIMITS)?;
-    let mut spent = SpareBuffers::with_places(rt.alloc(), 2)?;
+    let mut spent = SpareBuffers::with_capacity(rt.alloc(), 2)?;
     let header = Header { length: 3, ..PUT };
     let message = Message::new(header, Bytes::of(rt.alloc(), &[1, 2, 3])?);
     let _ = target.request(&mut region, &mut cts, &mut eqs, message, &mut spent);
