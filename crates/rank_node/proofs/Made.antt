@@ -16,7 +16,7 @@ use Rattle.ptl_types.specs.declared.steps.Call.{Call}
 use Rattle.ptl_types.specs.declared.steps.Call.TheVariants.{PtAlloc, CtDone, CtCell, MdBind, Overflow, MeAppend, Trigger}
 use Rattle.rank_node.specs.Handles.{Handles, Agrees, AreAllOf, Counted, Fits, Tells, counted_in, handle_of, with_counter_handle}
 use Rattle.rank_node.specs.Handles.{with_entry_handle, with_descriptor_handle}
-use Rattle.cuts.specs.view.Calls.{whole_region, deed_at, call_made, calls_made, area_entry, with_entry, cell_entry}
+use Rattle.cuts.specs.view.Calls.{whole_region, action_at, call_made, calls_made, area_entry, with_entry, cell_entry}
 use Rattle.ptl_types.specs.declared.steps.PlannedOp.{PlannedOp}
 use Rattle.rank_node.specs.Calls.{AreMade, count_call, count_calls, MayCallAll, NewCounter, NewDescriptor, NewEntry}
 use Rattle.rank_node.proofs.Steady.{linked-counters, linked-given}
@@ -210,13 +210,13 @@ made-entry cells c start n bits ignored ct s t hs left new is all =
     (λ k g. ap (λ h. with_entry (k.me s.entries_given) Priority (cell_entry h start n bits ignored) s) (sym (is k g))) refl
 
 -- ---- a triggered operation
-pub made-operation : (cells : List ℕ) (c threshold : ℕ) (act : PlannedOp) (deed : TriggeredOp) (ct : Handle) (s t : State) (hs : Handles)
-    → t ≡ with_operation deed ct threshold s
-    → ((k : Slots) → Agrees k hs → ct ≡ counter_at k cells c) → ((k : Slots) → Agrees k hs → deed ≡ deed_at k cells act) → AreAllOf s hs →
+pub made-operation : (cells : List ℕ) (c threshold : ℕ) (act : PlannedOp) (action : TriggeredOp) (ct : Handle) (s t : State) (hs : Handles)
+    → t ≡ with_operation action ct threshold s
+    → ((k : Slots) → Agrees k hs → ct ≡ counter_at k cells c) → ((k : Slots) → Agrees k hs → action ≡ action_at k cells act) → AreAllOf s hs →
     AreMade cells (Trigger c threshold act ∷ []) s t hs hs
 unfolding call_made
-made-operation cells c threshold act deed ct s t hs e is does all =
-    made-plain cells (Trigger c threshold act) s t hs (with_operation deed ct threshold) e
+made-operation cells c threshold act action ct s t hs e is does all =
+    made-plain cells (Trigger c threshold act) s t hs (with_operation action ct threshold) e
     (λ k g. ap₂ (λ d h. with_operation d h threshold s) (sym (does k g)) (sym (is k g))) refl
     (record { counters = all.counters; entries = all.entries; descriptors = all.descriptors; live = all.live }) refl refl
 

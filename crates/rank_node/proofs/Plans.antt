@@ -32,7 +32,7 @@ use Rattle.plan_calls.specs.declared.OwnCell.{OwnCell}
 use Rattle.cuts.proofs.machine.RankOps.{rank_ops-along}
 use Rattle.cuts.proofs.view.StepFire.{cell_of-own}
 use Rattle.cuts.proofs.view.Tables.{place_in-lt}
-use Rattle.cuts.specs.view.Calls.{prepare, sending_deed}
+use Rattle.cuts.specs.view.Calls.{prepare, sending_action}
 use Rattle.cuts.specs.view.Slots.{Slots}
 use Rattle.cuts.proofs.start.Starting.{length-from_to}
 use Rattle.cuts.proofs.histories.Told.{count-out-le}
@@ -139,7 +139,7 @@ module _ (p : Plan) (inputs : Inputs) (sound : SoundPlan p (length inputs)) (r :
 
   may-start : (l : ℕ) → In l (out_links p r) → (o : Option AtomicOp) → (cell p (link p l).target).op ≡ o → (a : PutArgs) →
       a.target ≡ (cell p (link p l).target).rank → a.length ≡ (link p l).length
-      → MayStart (sending_deed a o (cell p (link p l).target).ty) p.ranks (limits_for p r)
+      → MayStart (sending_action a o (cell p (link p l).target).ty) p.ranks (limits_for p r)
   may-start l i None e a target size =
       let q = out_links-In p r l i in
       let known = sound.ranks_known (link p l).target (sound.links_sound l q.0).cells in

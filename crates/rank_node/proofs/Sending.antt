@@ -12,7 +12,7 @@ abbrev pub rank_of : Option Sent → Option ℕ
 rank_of None = None
 rank_of (Some m) = Some m.header.target
 
--- the message of a deed is for the rank that the deed names
+-- the message of an action is for the rank that the action names
 done-target : (s : State) (d : TriggeredOp) → rank_of (done s d).message ≡ message_target d
 unfolding started
 done-target s (Put a) = refl
@@ -25,7 +25,7 @@ done-target s (Set ct to) = refl
 
 fired_op-target : (s : State) (o : Option Posted) → rank_of (fired_op s o).message ≡ target_of o
 fired_op-target s None = refl
-fired_op-target s (Some p) = done-target (record s { pending = without_number p.number s.pending }) p.deed
+fired_op-target s (Some p) = done-target (record s { pending = without_number p.number s.pending }) p.action
 
 pub fired-target : (s : State) (t : ℕ) → rank_of (fired s t).message ≡ target_at s t
 unfolding fired

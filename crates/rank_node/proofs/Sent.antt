@@ -10,7 +10,7 @@ use Rattle.rank_node.proofs.compiled.Compiled.TheSendSync as compiled
 use Rattle.rank_node.proofs.gates.Gates.TheSendSync as gates
 use Rattle.rank_node.proofs.history.History.TheSendSync as history
 use Rattle.rank_node.proofs.kept.NodeHandles.TheSendSync as kept
-use Rattle.target_engine.proofs.spent.SpareBuffers.TheSendSync as spent
+use Rattle.target_engine.proofs.spare_buffers.SpareBuffers.TheSendSync as spares
 
 pub node-send : IsSend the_row
 node-send =
@@ -26,7 +26,7 @@ node-send =
               kept.the_send,
               (
                 history.the_send,
-                (search (crosses, sendable) depth 20, (search sendable, (gates.the_send, (spent.the_field_send, tt)))),
+                (search (crosses, sendable) depth 20, (search sendable, (gates.the_send, (spares.the_field_send, tt)))),
               ),
             ),
           ),
@@ -48,7 +48,7 @@ node-sync =
               kept.the_sync,
               (
                 history.the_sync,
-                (search (crosses, sendable) depth 20, (search sendable, (gates.the_sync, (spent.the_field_sync, tt)))),
+                (search (crosses, sendable) depth 20, (search sendable, (gates.the_sync, (spares.the_field_sync, tt)))),
               ),
             ),
           ),

@@ -194,7 +194,7 @@ done-pending s (Set ct to) = refl
 fired_op-steady : (s : State) (o : Option Posted) → IsSteady s (fired_op s o).state
 fired_op-steady s None = record { entries = refl; counters = same-things s.cts; descriptors = same-things s.mds; rank = refl }
 fired_op-steady s (Some p) =
-    let k = done-steady (record s { pending = without_number p.number s.pending }) p.deed in
+    let k = done-steady (record s { pending = without_number p.number s.pending }) p.action in
     record { entries = k.entries; counters = k.counters; descriptors = k.descriptors; rank = k.rank }
 
 pub fired-steady : (s : State) (t : ℕ) → IsSteady s (fired s t).state
@@ -251,7 +251,7 @@ fired_op-fewer : (s : State) (t : ℕ) (o : Option Posted) (p : Posted) → post
 fired_op-fewer s t None p e is = cc
 fired_op-fewer s t (Some q) p e is =
     subst (λ (ops : Operations). length ops.waiting < length s.pending.waiting)
-    (sym (done-pending (record s { pending = without_number q.number s.pending }) q.deed)) (fewer t s.pending.waiting q e)
+    (sym (done-pending (record s { pending = without_number q.number s.pending }) q.action)) (fewer t s.pending.waiting q e)
 
 pub fired-fewer : (s : State) (t : ℕ) (p : Posted) → posted_at t s.pending ≡ Some p → length (fired s t).state.pending.waiting < length
     s.pending.waiting

@@ -15,7 +15,7 @@ use Rattle.ni_model.specs.State.{State}
 use Rattle.ni_model.specs.Calls.{with_counter, with_bound}
 use Rattle.plan_core.specs.Places.{place_in}
 use Rattle.cuts.specs.view.Slots.{Slots}
-use Rattle.cuts.specs.view.Calls.{args_at, calls_made, sending_deed, with_entry}
+use Rattle.cuts.specs.view.Calls.{args_at, calls_made, sending_action, with_entry}
 use Rattle.rank_node.specs.Handles.{Handles, Agrees, AreAllOf, Counted, counted_in, with_counter_handle, with_descriptor_handle}
 use Rattle.rank_node.specs.Handles.{with_entry_handle}
 
@@ -38,7 +38,7 @@ IsWired cells n BumpDone = 0 < n.counters
 -- a message may be sent: its target is a rank, and its length within the limits
 abbrev pub MaySend : ℕ → Limits → PlannedOp → Type 0
 MaySend ranks limits (Send local size target bits remote hdr op ty ack) =
-    MayStart (sending_deed (args_at (handle 0 0) local size target bits remote hdr ack) op ty) ranks limits
+    MayStart (sending_action (args_at (handle 0 0) local size target bits remote hdr ack) op ty) ranks limits
 MaySend ranks limits _ = Unit {0}
 
 -- the call may be made

@@ -10,7 +10,7 @@ ghost use Rattle.cuts.specs.view.Slots.{Slots, counter_at};
 ghost use Rattle.rank_node.specs.Handles.{Agrees, AreAllOf, Fits, IsRising, counted_in};
 ghost use Rattle.rank_node.specs.Calls.{HasCounter, MayCall, MayCallAll, AreMade, NewCounter, NewDescriptor, NewEntry, IsWired, MaySend};
 ghost use Rattle.rank_node.specs.Calls.{count_call, count_calls};
-ghost use Rattle.cuts.specs.view.Calls.{whole_region, deed_at, with_entry, area_entry, cell_entry};
+ghost use Rattle.cuts.specs.view.Calls.{whole_region, action_at, with_entry, area_entry, cell_entry};
 
 use crate::kept::NodeHandles;
 use portals_ni::Nic;
@@ -64,11 +64,11 @@ fn link(nic: &mut Nic, list: List, entry: Entry) -> Result<Handle, NoMemory>
 }
 
 /// Posts a triggered operation.
-pub fn post(nic: &mut Nic, deed: TriggeredOp, ct: Handle, threshold: u64) -> Result<(), NoMemory>
-    requires { MayStart deed nic.old.ranks nic.old.limits }
-    ensures { OnOk result (nic.new ≡ with_operation deed ct threshold nic.old) }
+pub fn post(nic: &mut Nic, action: TriggeredOp, ct: Handle, threshold: u64) -> Result<(), NoMemory>
+    requires { MayStart action nic.old.ranks nic.old.limits }
+    ensures { OnOk result (nic.new ≡ with_operation action ct threshold nic.old) }
 {
-    match nic.triggered(deed, ct, threshold) {
+    match nic.triggered(action, ct, threshold) {
         Ok(_) => Ok(()),
         Err(_) => Err(NoMemory),
     }
@@ -221,10 +221,10 @@ pub fn one() -> Count
 }
 
 /// What a triggered operation does, by the handles that were made before it.
-fn deed_of(kept: &NodeHandles, cells: &[u32], act: &PlannedOp) -> TriggeredOp
+fn action_of(kept: &NodeHandles, cells: &[u32], act: &PlannedOp) -> TriggeredOp
     requires rising { IsRising cells.now }
     requires wired { IsWired cells.now (counted_in kept.now) act.now }
-    ensures does { (k : Slots) → Agrees k kept.now → result ≡ deed_at k cells.now act.now }
+    ensures does { (k : Slots) → Agrees k kept.now → result ≡ action_at k cells.now act.now }
     ensures may { (ranks : ℕ) (limits : Limits) → MaySend ranks limits act.now →
         MayStart result ranks limits }
 {
@@ -308,8 +308,8 @@ fn make_call(
             act,
         } => {
             let ct = counter_of(kept, cells, cell);
-            let deed = deed_of(kept, cells, &act);
-            post(nic, deed, ct, threshold)
+            let action = action_of(kept, cells, &act);
+            post(nic, action, ct, threshold)
         }
     }
 }

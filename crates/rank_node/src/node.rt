@@ -47,7 +47,7 @@ pub struct Node {
     strays: u32,
     gates: Gates,
     // The rooms of the messages that it received.
-    spent: SpareBuffers,
+    spares: SpareBuffers,
 }
 
 impl Model for Node {
@@ -90,7 +90,7 @@ impl Drop for Node {
             buffer: _,
             strays: _,
             gates: _,
-            spent: _,
+            spares: _,
         } = self;
     }
 }
@@ -155,7 +155,7 @@ impl Node {
         let history = diary(alloc, &compiled, nic.pending(), strays)?;
         let buffer = Vec::with_capacity(alloc, compiled.longest as usize)?;
         let gates = Gates::all_open(alloc, compiled.ranks)?;
-        let spent = SpareBuffers::with_places(alloc, compiled.receipts)?;
+        let spares = SpareBuffers::with_capacity(alloc, compiled.receipts)?;
         Ok(Node {
             compiled,
             began,
@@ -166,7 +166,7 @@ impl Node {
             buffer,
             strays,
             gates,
-            spent,
+            spares,
         })
     }
 
@@ -177,6 +177,14 @@ impl Node {
         ensures kept { IsNode self.now }
     {
         self.history.steps()
+    }
+
+    /// Tells what holds of a node whatever was done with it. The call does nothing.
+    pub fn recall_history(&self)
+        ensures listed { map listed self.now.diary.locals ≡ self.now.diary.steps }
+        ensures kept { IsNode self.now }
+    {
+        let _ = self.history();
     }
 
     /// Whether the rank has started.
@@ -261,7 +269,7 @@ impl Node {
         ensures step { self.new ≡ fired_node number self.old }
     {
         self.history.note_fire(number);
-        self.nic.fire_using(number, &mut self.spent)
+        self.nic.fire_using(number, &mut self.spares)
     }
 
     /// Handles a message that arrived, and gives the answer to send back, if any. It takes no memory. Conditions: the message is
@@ -278,7 +286,7 @@ impl Node {
         ensures step { self.new ≡ received_node source lane message self.old }
     {
         self.history.note_receipt(source, lane, &message);
-        self.nic.deliver_keeping(message, &mut self.spent).answer
+        self.nic.deliver_keeping(message, &mut self.spares).answer
     }
 
     /// Starts the rank: what came early is brought into its cells, their entries are appended, and the host raises the counting

@@ -1,7 +1,6 @@
 //! The start of a rank: what came early is brought into its cells, and their entries are appended.
 
 ghost use Rattle.std.specs.Prelude.{◌≡◌, ◌<◌, ◌≤◌, ◌+◌, List, All, nat_le, [], ◌∷◌, true, false, length, vec_capacity};
-ghost use Rattle.ptl_types.specs.Elements.{part};
 ghost use Rattle.ni_model.specs.Headers.{found_in};
 ghost use Rattle.plan_calls.specs.declared.OwnCell.{OwnCell};
 ghost use Rattle.rank_node.specs.Handles.{AreAllOf, IsRising};
@@ -53,32 +52,23 @@ fn lies_in(cell: &OwnCell, header: &UnexpectedHeader, size: u64) -> bool
     is_within(cell.start, cell.length, size) && is_within(header.place, header.delivered, size)
 }
 
-/// Fills the buffer, which has room for them, with the bytes that the cell holds once those that came are written or combined.
-fn fill_brought(
-    buffer: &mut Vec<u8>,
-    memory: &[u8],
-    op: Option<AtomicOp>,
-    ty: ElemType,
-    count: usize,
-    at: usize,
-    place: usize,
-)
-    requires room { count ≤ vec_capacity buffer.old }
-    requires old { at + count ≤ length memory.now }
-    requires new { place + count ≤ length memory.now }
-    requires whole { fits_elements op ty count ≡ true }
-    ensures filled { buffer.new.items ≡ brought_by op ty (part at count memory.now) (part place count memory.now) }
-    ensures count { length buffer.new.items ≡ count }
+/// Fills the buffer, which has room for them, with the bytes that a part of a cell holds once those that came are written or combined.
+fn fill_brought(buffer: &mut Vec<u8>, op: Option<AtomicOp>, ty: ElemType, held: &[u8], came: &[u8])
+    requires room { length came.now ≤ vec_capacity buffer.old }
+    requires same { length held.now ≡ length came.now }
+    requires whole { fits_elements op ty (length came.now) ≡ true }
+    ensures filled { buffer.new.items ≡ brought_by op ty held.now came.now }
+    ensures count { length buffer.new.items ≡ length came.now }
     ensures room { vec_capacity buffer.old ≤ vec_capacity buffer.new }
 {
     buffer.clear();
     match op {
         None => {
-            let _ = buffer.extend_from_slice(&memory[place..place + count]);
+            let _ = buffer.extend_from_slice(came);
         }
         Some(op) => {
-            let _ = buffer.extend_from_slice(&memory[at..at + count]);
-            combine(op, ty, buffer, &memory[place..place + count]);
+            let _ = buffer.extend_from_slice(held);
+            combine(op, ty, buffer, came);
         }
     }
 }
@@ -98,17 +88,19 @@ fn bring_one(
 {
     let size = nic.memory().len() as u64;
     if is_used(longest, cell, header) && lies_in(cell, header, size) {
-        let at = cell.start + header.header.offset;
+        let start = cell.start + header.header.offset;
+        let at = start as usize;
+        let from = header.place as usize;
+        let count = header.delivered as usize;
+        let memory = nic.memory();
         fill_brought(
             buffer,
-            nic.memory(),
             cell.op,
             cell.ty,
-            header.delivered as usize,
-            at as usize,
-            header.place as usize,
+            &memory[at..at + count],
+            &memory[from..from + count],
         );
-        nic.write_memory(at, buffer);
+        nic.write_memory(start, buffer);
     }
 }
 

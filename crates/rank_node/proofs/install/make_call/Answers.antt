@@ -41,5 +41,5 @@ returns-in-MeAppend c =
 pub returns-in-Trigger : goal.returns-in-Trigger
 returns-in-Trigger c =
     rw c.in-Trigger.is (on_ok_weaker c.post.result (λ made. made-operation c.args.cells.now c.in-Trigger.cell c.in-Trigger.threshold
-    c.in-Trigger.act c.deed_of-deed.result c.counter_of-ct-in-Trigger.result c.args.nic.now c.post.new.nic c.args.kept.now made
-    c.counter_of-ct-in-Trigger.ensures c.deed_of-deed.ensures.does c.requires.all) c.post.ensures)
+    c.in-Trigger.act c.action_of-action.result c.counter_of-ct-in-Trigger.result c.args.nic.now c.post.new.nic c.args.kept.now made
+    c.counter_of-ct-in-Trigger.ensures c.action_of-action.ensures.does c.requires.all) c.post.ensures)
