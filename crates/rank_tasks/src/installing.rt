@@ -35,6 +35,6 @@ pub fn install(alloc: Global, job: &Job, r: Rank, strays: u32) -> Result<Node, N
     let _ = job.inputs();
     let compiled = task_of(alloc, job, r)?;
     let node = Node::install(alloc, compiled, strays)?;
-    let _ = node.history();
+    node.recall_history();
     Ok(node)
 }

@@ -24,7 +24,7 @@ returns c =
     let node = c.in_ok-node.node in
     let for_rank : IsCompiledFor p inputs r node.task = subst (IsCompiledFor p inputs r) (sym c.in_ok-node.ensures.task)
     c.in_ok-compiled.ensures in
-    let is : IsNode node = c.history.ensures.kept in
+    let is : IsNode node = c.recall_history.ensures.kept in
     let none = c.in_ok-node.ensures.history in
     record {
       compiled = for_rank;
