@@ -75,7 +75,7 @@ fn kept(nodes: &[Node])
 {
     for r in 0..nodes.len() {
         let node = &nodes[r];
-        let _ = node.history();
+        node.recall_history();
     }
 }
 

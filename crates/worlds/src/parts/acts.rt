@@ -45,7 +45,7 @@ fn start_node(node: &mut Node)
     ensures kept { IsNode node.new }
 {
     node.start();
-    let _ = node.history();
+    node.recall_history();
 }
 
 /// The host of a rank starts it. Condition: it hasn't started.

@@ -10,4 +10,4 @@ loop-r-preserved c =
     let nodes = c.args.nodes.now in
     let r = c.loop-r.r in
     below_more (λ k. IsNode (node_at nodes k)) r c.loop-r.invariant
-    (subst IsNode (get_or_read nodes r c.index-nodes-r.result c.loop-r-test.true c.index-nodes-r.is no_node) c.history.ensures.kept)
+    (subst IsNode (get_or_read nodes r c.index-nodes-r.result c.loop-r-test.true c.index-nodes-r.is no_node) c.recall_history.ensures.kept)
