@@ -119,13 +119,13 @@ impl Wave {
         ensures empty { IfOk result (λ w. (r : _) (x : RankNote) → get_elem? w r ≡ some x → x.there ≡ false) }
     {
         let ranks = schedule.ranks();
-        let mut places = Vec::with_capacity(alloc, ranks as usize)?;
+        let mut notes = Vec::with_capacity(alloc, ranks as usize)?;
         for r in 0..ranks {
-            places.push(bare(alloc, schedule, r)?)?;
+            notes.push(bare(alloc, schedule, r)?)?;
         }
-        let partners = Partners::of(alloc, &places)?;
+        let partners = Partners::of(alloc, &notes)?;
         Ok(Wave {
-            ranks: places,
+            ranks: notes,
             partners,
         })
     }

@@ -50,12 +50,12 @@ impl Wave {
         requires empty { (x : NoteAt) → get_elem? self.old r ≡ some x → x.there ≡ false }
         ensures { (x : NoteAt) → get_elem? self.old r ≡ some x → self.new ≡ slice_set self.old r (begun started ready x) }
     {
-        let place = &mut self.ranks[r as usize];
-        place.there = true;
-        place.note.started = started;
-        place.note.ready = ready;
-        place.note.sent.clear();
-        place.note.got.clear();
+        let noted = &mut self.ranks[r as usize];
+        noted.there = true;
+        noted.note.started = started;
+        noted.note.ready = ready;
+        noted.note.sent.clear();
+        noted.note.got.clear();
     }
 
     /// Notes how many messages a rank sent on a lane, which is given by its place among the rank's lanes.
@@ -66,8 +66,8 @@ impl Wave {
         ensures { (x : NoteAt) (c : LaneCount) → get_elem? self.old r ≡ some x → get_elem? x.note.sent i ≡ some c →
             self.new ≡ slice_set self.old r (with_sent x (slice_set x.note.sent i (counted c number))) }
     {
-        let place = &mut self.ranks[r as usize];
-        place.note.sent.set(i, number);
+        let noted = &mut self.ranks[r as usize];
+        noted.note.sent.set(i, number);
     }
 
     /// Notes how many messages a rank received on a lane, which is given by its place among the rank's lanes.
@@ -78,8 +78,8 @@ impl Wave {
         ensures { (x : NoteAt) (c : LaneCount) → get_elem? self.old r ≡ some x → get_elem? x.note.got i ≡ some c →
             self.new ≡ slice_set self.old r (with_got x (slice_set x.note.got i (counted c number))) }
     {
-        let place = &mut self.ranks[r as usize];
-        place.note.got.set(i, number);
+        let noted = &mut self.ranks[r as usize];
+        noted.note.got.set(i, number);
     }
 
     /// Takes all notes out. Their room stays.

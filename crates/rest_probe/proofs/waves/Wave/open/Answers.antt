@@ -9,7 +9,7 @@ use Rattle.rest_probe.proofs.waves.Wave.open.Goals as goal
 
 pub loop-r-preserved : goal.loop-r-preserved
 loop-r-preserved c =
-    let i = c.loop-r.invariant in let p = c.in_ok-push.ensures.items in let old = c.loop-r.places.items in let x = c.in_ok-bare.field-0 in
+    let i = c.loop-r.invariant in let p = c.in_ok-push.ensures.items in let old = c.loop-r.notes.items in let x = c.in_ok-bare.field-0 in
     let e = c.in_ok-bare.ensures in
     let plan = c.args.schedule.now.plan in
     let here : IsRoomFor plan c.loop-r.r x = record { there = e.there; sent = e.sent; got = e.got } in record {

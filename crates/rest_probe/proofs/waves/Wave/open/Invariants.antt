@@ -7,6 +7,6 @@ use Rattle.rest_probe.proofs.waves.Wave.open.Given as goal
 
 abbrev pub invariant-loop-r : goal.invariant-loop-r
 invariant-loop-r l = record {
-  count : length l.places.items ≡ l.r;
-  each : (r : ℕ) (x : RankNote) → get_elem? l.places.items r ≡ some x → IsRoomFor l.schedule.plan r x;
+  count : length l.notes.items ≡ l.r;
+  each : (r : ℕ) (x : RankNote) → get_elem? l.notes.items r ≡ some x → IsRoomFor l.schedule.plan r x;
 }

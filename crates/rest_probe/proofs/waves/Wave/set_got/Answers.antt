@@ -9,15 +9,15 @@ use Rattle.rest_probe.proofs.Elements.{same-at}
 use Rattle.rest_probe.proofs.waves.Wave.set_got.Goals as goal
 
 pub set-requires : goal.set-requires
-set-requires c = let is = c.self.view_is in let old = c.self.inside.ranks.items in let m = c.index_mut-place.result.now in
+set-requires c = let is = c.self.view_is in let old = c.self.inside.ranks.items in let m = c.index_mut-noted.result.now in
     let here = at_index old c.args.r m (subst (λ (l : List RankNote). c.args.r < length l) (sym is) c.requires.rank)
-    c.index_mut-place.ensures.value in
+    c.index_mut-noted.ensures.value in
     c.requires.lane m (ap (λ (l : List RankNote). get_elem? l c.args.r) (sym is) ∙ here)
 
 pub returns : goal.returns
-returns c = λ x count there at. let is = c.self.view_is in let old = c.self.inside.ranks.items in let m = c.index_mut-place.result.now in
+returns c = λ x count there at. let is = c.self.view_is in let old = c.self.inside.ranks.items in let m = c.index_mut-noted.result.now in
     let here = at_index old c.args.r m (subst (λ (l : List RankNote). c.args.r < length l) (sym is) c.requires.rank)
-    c.index_mut-place.ensures.value in
+    c.index_mut-noted.ensures.value in
     let one = same-at old c.args.r m x here (ap (λ (l : List RankNote). get_elem? l c.args.r) is ∙ there) in
     let now : c.set.new.self ≡ slice_set x.note.got c.args.i (counted count c.args.number) =
     c.set.ensures count (ap (λ (z : RankNote). get_elem? z.note.got c.args.i) one ∙ at)
