@@ -9,7 +9,7 @@ use Rattle.rank_node.specs.Copies.{has_start}
 use Rattle.rank_node.specs.Handles.{Handles}
 use Rattle.rank_node.specs.Node.{NodeState}
 use Rattle.rank_node.proofs.Copies.{started-front}
-use Rattle.rank_slots.specs.declared.slot.TurnRank.{TurnRank}
+use Rattle.rank_slots.specs.declared.turn_rank.TurnRank.{TurnRank}
 use Rattle.rank_slots.specs.Missing.{HasFlushed}
 use Rattle.rank_slots.specs.Chronicles.{Entry, KeepsHandles, chronicle, entry}
 use Rattle.rank_slots.specs.Names.{history}

@@ -8,7 +8,7 @@ use Rattle.cuts.specs.histories.History.Local.{Fire, Receive, Start}
 use Rattle.rank_node.specs.Copies.{Diary}
 use Rattle.rank_node.specs.Node.{NodeState}
 use Rattle.rank_slots.specs.declared.gate.StartAnswer.{StartAnswer}
-use Rattle.rank_slots.specs.declared.slot.TurnRank.{TurnRank}
+use Rattle.rank_slots.specs.declared.turn_rank.TurnRank.{TurnRank}
 use Rattle.rank_slots.specs.Missing.{HasFlushed, MissedAt, ReceivedAt}
 use Rattle.rank_slots.specs.Names.{IsWired, Plate, history, mark, plate}
 use Rattle.rank_slots.specs.Chronicles.{KeepsHandles}

@@ -10,7 +10,7 @@ use Rattle.ni_model.specs.Ready.{is_ready}
 use Rattle.ni_model.specs.State.{State}
 use Rattle.cuts.specs.histories.History.Local.{Receive, Fire}
 use Rattle.rank_node.specs.Node.{NodeState}
-use Rattle.rank_slots.specs.declared.slot.TurnRank.{TurnRank}
+use Rattle.rank_slots.specs.declared.turn_rank.TurnRank.{TurnRank}
 use Rattle.rank_slots.specs.declared.ports.InPort.{InPort}
 use Rattle.rank_slots.specs.Missing.{AreShut, HasFlushed, MissedAt, PassedAt, ReceivedAt}
 use Rattle.rank_slots.specs.Names.{Mark, history, mark, note}

@@ -10,7 +10,7 @@ use Rattle.ptl_types.specs.declared.headers.Lane.TheVariants.{Request}
 use Rattle.plan_core.specs.Plan.{Plan}
 use Rattle.plan_core.specs.Values.{Inputs}
 use Rattle.rank_node.specs.Node.{NodeState}
-use Rattle.rank_slots.specs.declared.slot.TurnRank.{TurnRank}
+use Rattle.rank_slots.specs.declared.turn_rank.TurnRank.{TurnRank}
 use Rattle.rank_slots.specs.declared.ports.OutPort.{OutPort}
 use Rattle.rank_slots.specs.declared.ports.InPort.{InPort}
 use Rattle.rank_slots.specs.Lists.{Each}

@@ -4,7 +4,7 @@ use Rattle.cuts.specs.histories.History.{Local}
 use Rattle.cuts.specs.histories.History.Local.{Start, Receive, Fire}
 use Rattle.rank_node.specs.Copies.{has_start}
 use Rattle.rank_node.specs.Handles.{Handles}
-use Rattle.rank_slots.specs.declared.slot.TurnRank.{TurnRank}
+use Rattle.rank_slots.specs.declared.turn_rank.TurnRank.{TurnRank}
 use Rattle.rank_slots.specs.Names.{history}
 
 -- a step, and where it is the start all the handles

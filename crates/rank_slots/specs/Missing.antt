@@ -14,7 +14,7 @@ use Rattle.rank_node.specs.Gates.{goes_out}
 use Rattle.rank_node.specs.Node.{NodeState}
 use Rattle.rank_slots.specs.declared.ports.OutPort.{OutPort}
 use Rattle.rank_slots.specs.declared.ports.InPort.{InPort}
-use Rattle.rank_slots.specs.declared.slot.TurnRank.{TurnRank}
+use Rattle.rank_slots.specs.declared.turn_rank.TurnRank.{TurnRank}
 use Rattle.rank_slots.specs.Lists.{Pairwise}
 use Rattle.rank_slots.specs.Ports.{Flushed, IsOpen, Regated, SameIn}
 use Rattle.rank_slots.specs.Names.{history}

@@ -9,7 +9,7 @@ use Rattle.rank_node.specs.Node.{Task}
 use Rattle.schedule_compiler.specs.Jobs.{JobOf}
 use Rattle.rank_slots.specs.declared.ports.OutPort.{OutPort}
 use Rattle.rank_slots.specs.declared.ports.InPort.{InPort}
-use Rattle.rank_slots.specs.declared.slot.TurnRank.{TurnRank}
+use Rattle.rank_slots.specs.declared.turn_rank.TurnRank.{TurnRank}
 use Rattle.rank_slots.specs.Lists.{Each}
 use Rattle.rank_slots.specs.Joints.{Fits, Joint, in_joint, out_joint}
 

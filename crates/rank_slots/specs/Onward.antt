@@ -1,7 +1,7 @@
 -- What becomes of a slot in a turn that follows hints.
 use Rattle.std.specs.Prelude.{◌≡◌, Option, Some, None}
 use Rattle.ptl_types.specs.declared.steps.LocalStep.{LocalStep}
-use Rattle.rank_slots.specs.declared.slot.TurnRank.{TurnRank}
+use Rattle.rank_slots.specs.declared.turn_rank.TurnRank.{TurnRank}
 use Rattle.rank_slots.specs.Chronicles.{KeepsHandles}
 use Rattle.rank_slots.specs.Names.{Mark, mark, plate}
 use Rattle.rank_slots.specs.Steps.{Made}

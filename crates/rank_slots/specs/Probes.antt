@@ -19,7 +19,7 @@ use Rattle.rest_probe.specs.Waves.{SameLanes}
 use Rattle.schedule_compiler.specs.Jobs.{JobOf}
 use Rattle.rank_slots.specs.declared.ports.InPort.{InPort}
 use Rattle.rank_slots.specs.declared.ports.OutPort.{OutPort}
-use Rattle.rank_slots.specs.declared.slot.TurnRank.{TurnRank}
+use Rattle.rank_slots.specs.declared.turn_rank.TurnRank.{TurnRank}
 use Rattle.rank_slots.specs.Lists.{Each}
 use Rattle.rank_slots.specs.Names.{history}
 

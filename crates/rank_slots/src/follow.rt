@@ -9,10 +9,9 @@ ghost use Rattle.rank_slots.specs.Sound.{IsSound};
 ghost use Rattle.rank_slots.specs.Onward.{Onward};
 
 use crate::gate::{Gate, StartAnswer};
-use crate::mail::Mail;
+use crate::network::Network;
 use crate::parked::Parked;
-use crate::slot::TurnRank;
-use pair_wires::Wire;
+use crate::turn_rank::TurnRank;
 use ptl_types::{Lane, LocalStep, Rank};
 use rank_node::Node;
 use std::sync::Wait;
@@ -60,13 +59,12 @@ impl TurnRank {
     fn receive_of<R: Wait, G: Gate>(
         &mut self,
         rt: &R,
-        wires: &[Wire],
-        mail: &Mail,
+        network: Network,
         gate: &G,
         number: usize,
     ) -> Option<LocalStep>
         requires sound { IsSound self.old.job }
-        requires wired { IsWired wires.now (plate self.old) }
+        requires wired { IsWired network.wires.now (plate self.old) }
         ensures { Onward result self.old self.new }
     {
         let at = self.hints.ins.at(number);
@@ -81,7 +79,7 @@ impl TurnRank {
         let port = &self.ins[at];
         let source = port.source;
         let lane = port.lane;
-        let received = self.receive(rt, wires, mail, gate, at);
+        let received = self.receive(rt, network, gate, at);
         self.hints.note_look(number, received);
         if received {
             return Some(LocalStep::Receive { source, lane });
@@ -93,12 +91,11 @@ impl TurnRank {
     fn receive_pending<R: Wait, G: Gate>(
         &mut self,
         rt: &R,
-        wires: &[Wire],
-        mail: &Mail,
+        network: Network,
         gate: &G,
     ) -> Option<LocalStep>
         requires sound { IsSound self.old.job }
-        requires wired { IsWired wires.now (plate self.old) }
+        requires wired { IsWired network.wires.now (plate self.old) }
         ensures { Onward result self.old self.new }
     {
         let mut from = 0;
@@ -106,7 +103,7 @@ impl TurnRank {
             let Some(number) = self.hints.next(from) else {
                 return None;
             };
-            if let Some(step) = self.receive_of(rt, wires, mail, gate, number) {
+            if let Some(step) = self.receive_of(rt, network, gate, number) {
                 return Some(step);
             }
             from = number.wrapping_add(1);
@@ -115,32 +112,25 @@ impl TurnRank {
     }
 
     /// Tries what waits at the out ends again, if something may wait there.
-    fn flush_waiting<R: Wait>(&mut self, rt: &R, wires: &[Wire], mail: &Mail)
-        requires { IsWired wires.now (plate self.old) }
+    fn flush_waiting<R: Wait>(&mut self, rt: &R, network: Network)
+        requires { IsWired network.wires.now (plate self.old) }
         ensures { Onward None self.old self.new }
     {
         if !self.hints.waits {
             return;
         }
-        self.flush(rt, wires, mail);
+        self.flush(rt, network);
     }
 
     /// Fires an operation that is ready and whose message, if it has one, finds room.
-    fn fire_open<R: Wait, G: Gate>(
-        &mut self,
-        rt: &R,
-        wires: &[Wire],
-        mail: &Mail,
-        gate: &G,
-        number: u32,
-    )
+    fn fire_open<R: Wait, G: Gate>(&mut self, rt: &R, network: Network, gate: &G, number: u32)
         requires sound { IsSound self.old.job }
-        requires wired { IsWired wires.now (plate self.old) }
+        requires wired { IsWired network.wires.now (plate self.old) }
         requires may { may_go self.old.node.value.closed self.old.node.value.nic number ≡ true }
         ensures { Onward (Some (Fire number)) self.old self.new }
     {
         gate.pass(self.node.nic().rank(), LocalStep::Fire { number });
-        self.fire(rt, wires, mail, number);
+        self.fire(rt, network, number);
     }
 
     /// The first rank whose lane has room now and for whose messages operations are parked.
@@ -160,12 +150,11 @@ impl TurnRank {
     fn fire_parked<R: Wait, G: Gate>(
         &mut self,
         rt: &R,
-        wires: &[Wire],
-        mail: &Mail,
+        network: Network,
         gate: &G,
     ) -> Option<LocalStep>
         requires sound { IsSound self.old.job }
-        requires wired { IsWired wires.now (plate self.old) }
+        requires wired { IsWired network.wires.now (plate self.old) }
         ensures { Onward result self.old self.new }
     {
         if !self.hints.parked.may_have_room() {
@@ -177,7 +166,7 @@ impl TurnRank {
         };
         match self.hints.parked.take(target) {
             Some(number) if self.node.may_fire(number) => {
-                self.fire_open(rt, wires, mail, gate, number);
+                self.fire_open(rt, network, gate, number);
                 Some(LocalStep::Fire { number })
             }
             _ => None,
@@ -188,18 +177,17 @@ impl TurnRank {
     fn fire_other<R: Wait, G: Gate>(
         &mut self,
         rt: &R,
-        wires: &[Wire],
-        mail: &Mail,
+        network: Network,
         gate: &G,
     ) -> Option<LocalStep>
         requires sound { IsSound self.old.job }
-        requires wired { IsWired wires.now (plate self.old) }
+        requires wired { IsWired network.wires.now (plate self.old) }
         ensures { Onward result self.old self.new }
     {
         let Some(number) = search_all(&self.node, &mut self.hints.parked) else {
             return None;
         };
-        self.fire_open(rt, wires, mail, gate, number);
+        self.fire_open(rt, network, gate, number);
         Some(LocalStep::Fire { number })
     }
 
@@ -207,40 +195,33 @@ impl TurnRank {
     fn start_or_fire<R: Wait, G: Gate>(
         &mut self,
         rt: &R,
-        wires: &[Wire],
-        mail: &Mail,
+        network: Network,
         gate: &G,
     ) -> Option<LocalStep>
         requires sound { IsSound self.old.job }
-        requires wired { IsWired wires.now (plate self.old) }
+        requires wired { IsWired network.wires.now (plate self.old) }
         ensures { Onward result self.old self.new }
     {
         if let StartAnswer::Started = self.start_once(gate) {
             return Some(LocalStep::Start);
         }
-        if let Some(step) = self.fire_parked(rt, wires, mail, gate) {
+        if let Some(step) = self.fire_parked(rt, network, gate) {
             return Some(step);
         }
-        self.fire_other(rt, wires, mail, gate)
+        self.fire_other(rt, network, gate)
     }
 
     /// Tries what waits at the out ends again, and then starts the rank, or fires, or receives, and answers the step, if there was one.
-    fn advance<R: Wait, G: Gate>(
-        &mut self,
-        rt: &R,
-        wires: &[Wire],
-        mail: &Mail,
-        gate: &G,
-    ) -> Option<LocalStep>
+    fn advance<R: Wait, G: Gate>(&mut self, rt: &R, network: Network, gate: &G) -> Option<LocalStep>
         requires sound { IsSound self.old.job }
-        requires wired { IsWired wires.now (plate self.old) }
+        requires wired { IsWired network.wires.now (plate self.old) }
         ensures { Onward result self.old self.new }
     {
-        self.flush_waiting(rt, wires, mail);
-        if let Some(step) = self.start_or_fire(rt, wires, mail, gate) {
+        self.flush_waiting(rt, network);
+        if let Some(step) = self.start_or_fire(rt, network, gate) {
             return Some(step);
         }
-        self.receive_pending(rt, wires, mail, gate)
+        self.receive_pending(rt, network, gate)
     }
 
     /// Advances, and where that did nothing and something waits at an out end, says so and looks once more: what was taken out of a full
@@ -248,22 +229,21 @@ impl TurnRank {
     fn advance_or_wait<R: Wait, G: Gate>(
         &mut self,
         rt: &R,
-        wires: &[Wire],
-        mail: &Mail,
+        network: Network,
         gate: &G,
     ) -> Option<LocalStep>
         requires sound { IsSound self.old.job }
-        requires wired { IsWired wires.now (plate self.old) }
+        requires wired { IsWired network.wires.now (plate self.old) }
         ensures { Onward result self.old self.new }
     {
-        if let Some(step) = self.advance(rt, wires, mail, gate) {
+        if let Some(step) = self.advance(rt, network, gate) {
             return Some(step);
         }
         if !self.hints.waits {
             return None;
         }
-        mail.wait_for_credit(self.node.nic().rank());
-        self.advance(rt, wires, mail, gate)
+        network.mail.wait_for_credit(self.node.nic().rank());
+        self.advance(rt, network, gate)
     }
 
     /// Makes one step that the hints lead to, and answers it: the history grew by it and by no other. `None` where the hints lead to none,
@@ -272,19 +252,18 @@ impl TurnRank {
     pub fn follow_hints<R: Wait, G: Gate>(
         &mut self,
         rt: &R,
-        wires: &[Wire],
-        mail: &Mail,
+        network: Network,
         gate: &G,
     ) -> Option<LocalStep>
         requires sound { IsSound self.old.job }
-        requires wired { IsWired wires.now (plate self.old) }
+        requires wired { IsWired network.wires.now (plate self.old) }
         ensures { Onward result self.old self.new }
     {
         let rank = self.node.nic().rank();
-        self.hints.collect(mail, rank);
-        let made = self.advance_or_wait(rt, wires, mail, gate);
+        self.hints.collect(network.mail, rank);
+        let made = self.advance_or_wait(rt, network, gate);
         if made.is_none() {
-            self.hints.leave_word(mail, rank);
+            self.hints.leave_word(network.mail, rank);
         }
         made
     }

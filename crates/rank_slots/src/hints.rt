@@ -6,17 +6,17 @@ use crate::parked::Parked;
 use ptl_types::{Lane, NoMemory, Rank};
 use std::alloc::Global;
 
-/// The places of ends in a list, by the other rank and the kind of their lanes.
+/// The places where ends are likely to stand in a list, by the other rank and the kind of their lanes.
 #[derive(Drop)]
-pub(crate) struct Places {
+pub(crate) struct LikelyPlaces {
     places: Vec<u32>,
 }
 
-impl Places {
+impl LikelyPlaces {
     /// For ends of lanes to or from so many ranks.
-    fn open(alloc: Global, ranks: u32) -> Result<Places, NoMemory> {
+    fn open(alloc: Global, ranks: u32) -> Result<LikelyPlaces, NoMemory> {
         let places = vec![in alloc; 0; ranks as usize * 2]?;
-        Ok(Places { places })
+        Ok(LikelyPlaces { places })
     }
 
     /// The end of a lane stands at this place.
@@ -47,8 +47,8 @@ impl Places {
 /// are likely to have messages, whether one may wait at an out end, and which operations are likely to find no room for theirs.
 #[derive(Drop)]
 pub struct Hints {
-    pub(crate) outs: Places,
-    pub(crate) ins: Places,
+    pub(crate) outs: LikelyPlaces,
+    pub(crate) ins: LikelyPlaces,
     // The lanes that were not found empty since there was mail for them, a bit for each.
     pending: Vec<u64>,
     // Whether a message may wait at an out end.
@@ -63,8 +63,8 @@ impl Hints {
     ///
     /// There was no memory for it.
     pub fn open(alloc: Global, ranks: u32, operations: u32) -> Result<Hints, NoMemory> {
-        let outs = Places::open(alloc, ranks)?;
-        let ins = Places::open(alloc, ranks)?;
+        let outs = LikelyPlaces::open(alloc, ranks)?;
+        let ins = LikelyPlaces::open(alloc, ranks)?;
         let pending = vec![in alloc; 0; words(ranks)]?;
         let parked = Parked::open(alloc, ranks, operations)?;
         Ok(Hints {
@@ -78,7 +78,7 @@ impl Hints {
 
     /// Takes the mail of the rank.
     pub(crate) fn collect(&mut self, mail: &Mail, rank: Rank) {
-        mail.settle(rank);
+        mail.clear_wake(rank);
         for (i, word) in self.pending.iter_mut().enumerate() {
             *word |= mail.take(rank, i);
         }

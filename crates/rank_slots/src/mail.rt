@@ -179,8 +179,8 @@ impl Mail {
         }
     }
 
-    /// The rank is looked at.
-    pub(crate) fn settle(&self, rank: Rank) {
+    /// The rank is looked at: it need not be woken for what was there before.
+    pub(crate) fn clear_wake(&self, rank: Rank) {
         let _ = self.take(rank, self.used.saturating_sub(1));
     }
 

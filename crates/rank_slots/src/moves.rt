@@ -3,12 +3,12 @@
 ghost use Rattle.std.specs.Prelude.{◌≡◌, ◌<◌, ◌++◌, ◌∷◌, [], length, IfOk};
 ghost use mathlib.Core.Option.{some};
 ghost use lib.ListN.{get_elem?};
-ghost use Rattle.rank_slots.specs.declared.slot.TurnRank.{TurnRank};
+ghost use Rattle.rank_slots.specs.declared.turn_rank.TurnRank.{TurnRank};
 ghost use Rattle.rank_slots.specs.Slots.{InOk, OutOk};
 ghost use Rattle.rank_slots.specs.Moves.{GainsIn, LosesIn, LosesOut, MayGainIn, MayGainOut, SameNode, Slotwise};
 
 use crate::ports::{InPort, OutPort};
-use crate::slot::TurnRank;
+use crate::turn_rank::TurnRank;
 use ptl_types::{NoMemory, Rank};
 
 impl TurnRank {

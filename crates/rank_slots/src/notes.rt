@@ -11,7 +11,7 @@ ghost use Rattle.rank_slots.specs.Names.{history};
 ghost use Rattle.rank_slots.specs.Probes.{CountsGot, HasIn, HasOut, HasSentOn, IsNoted, Recounted};
 
 use crate::posts::{find_in, find_out};
-use crate::slot::TurnRank;
+use crate::turn_rank::TurnRank;
 use ptl_types::{Lane, Rank};
 use rest_probe::Wave;
 

@@ -15,10 +15,9 @@ ghost use Rattle.rank_slots.specs.Missing.{AreShut, HasFlushed, PassedAt};
 ghost use Rattle.rank_slots.specs.Steps.{Begun, Grew};
 
 use crate::gate::{Gate, StartAnswer};
-use crate::mail::Mail;
+use crate::network::Network;
 use crate::posts::find_in;
-use crate::slot::TurnRank;
-use pair_wires::Wire;
+use crate::turn_rank::TurnRank;
 use ptl_types::{Lane, LocalStep, Rank};
 use std::sync::Wait;
 
@@ -41,22 +40,16 @@ impl TurnRank {
     /// Fires an operation that is ready and whose message, if it has one, finds room, and answers its number. What waits is tried again
     /// before. `None` only where each operation that was ready sends a message whose lane was found full. It may wait inside the wires'
     /// queues, and takes no memory.
-    pub fn fire_one<R: Wait, G: Gate>(
-        &mut self,
-        rt: &R,
-        wires: &[Wire],
-        mail: &Mail,
-        gate: &G,
-    ) -> Option<u32>
+    pub fn fire_one<R: Wait, G: Gate>(&mut self, rt: &R, network: Network, gate: &G) -> Option<u32>
         requires sound { IsSound self.old.job }
-        requires wired { IsWired wires.now (plate self.old) }
+        requires wired { IsWired network.wires.now (plate self.old) }
         ensures some { IfSome result (λ t. (is_ready self.old.node.value.nic t ≡ true) × Grew (Fires t) (mark self.old) (mark self.new)) }
         ensures none { IfNone result (HasFlushed self.old self.new × AreShut self.new.node.value) }
         ensures handles { KeepsHandles self.old self.new }
         ensures name { plate self.new ≡ plate self.old }
     {
-        self.flush(rt, wires, mail);
-        self.fire_any(rt, wires, mail, gate)
+        self.flush(rt, network);
+        self.fire_any(rt, network, gate)
     }
 
     /// The place of the in end of a lane. `None` exactly where the rank has none.
@@ -74,24 +67,23 @@ impl TurnRank {
     pub fn deliver<R: Wait, G: Gate>(
         &mut self,
         rt: &R,
-        wires: &[Wire],
-        mail: &Mail,
+        network: Network,
         gate: &G,
         source: Rank,
         lane: Lane,
     ) -> bool
         requires sound { IsSound self.old.job }
-        requires wired { IsWired wires.now (plate self.old) }
+        requires wired { IsWired network.wires.now (plate self.old) }
         requires end { (i : _) × (p : InPort) × (get_elem? self.old.ins.items i ≡ some p) × (p.source ≡ source) × (p.lane ≡ lane) }
         ensures some { IsTrue result → (m : Sent) × Grew (Receives source lane m) (mark self.old) (mark self.new) }
         ensures none { IsFalse result → PassedAt source lane self.old self.new }
         ensures handles { KeepsHandles self.old self.new }
         ensures name { plate self.new ≡ plate self.old }
     {
-        let free = self.flush(rt, wires, mail);
+        let free = self.flush(rt, network);
         let Some(at) = self.in_of(source, lane) else {
             unreachable!()
         };
-        self.pull(rt, wires, mail, gate, at, free)
+        self.pull(rt, network, gate, at, free)
     }
 }

@@ -1,6 +1,6 @@
 //! A slot's past is its chronicle; its name the job, the rank and the wires; its note the interface and the ends' counts.
 
-use crate::slot::TurnRank;
+use crate::turn_rank::TurnRank;
 use turn_table::Past;
 
 impl Past for TurnRank {

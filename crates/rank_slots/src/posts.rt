@@ -11,8 +11,9 @@ ghost use Rattle.rank_slots.specs.Lists.{Each, Pairwise};
 ghost use Rattle.rank_slots.specs.Joints.{Fits, in_joint, out_joint};
 ghost use Rattle.rank_slots.specs.Ports.{AreEnds, Flushed, MayPost, Posted, Regated, SameIn, SameOut, gate_after};
 
-use crate::hints::Places;
+use crate::hints::LikelyPlaces;
 use crate::mail::Mail;
+use crate::network::Network;
 use crate::ports::{InPort, OutPort};
 use pair_wires::Wire;
 use ptl_types::{Lane, Message, Rank};
@@ -46,7 +47,12 @@ fn search_ins(ins: &[InPort], source: Rank, lane: Lane) -> Option<usize>
 }
 
 /// The place of the out end of a lane. `None` exactly where the rank has none. It is looked for where it is likely to stand first.
-pub(crate) fn find_out(outs: &[OutPort], places: &Places, target: Rank, lane: Lane) -> Option<usize>
+pub(crate) fn find_out(
+    outs: &[OutPort],
+    places: &LikelyPlaces,
+    target: Rank,
+    lane: Lane,
+) -> Option<usize>
     ensures some { IfSome result (λ i. (p : OutPort) × (get_elem? outs.now i ≡ some p) × (p.target ≡ target) × (p.lane ≡ lane)) }
     ensures none { IfNone result (Each (λ (p : OutPort). p.target ≡ target → p.lane ≡ lane → ⊥) outs.now) }
 {
@@ -61,7 +67,12 @@ pub(crate) fn find_out(outs: &[OutPort], places: &Places, target: Rank, lane: La
 }
 
 /// The place of the in end of a lane. `None` exactly where the rank has none. It is looked for where it is likely to stand first.
-pub(crate) fn find_in(ins: &[InPort], places: &Places, source: Rank, lane: Lane) -> Option<usize>
+pub(crate) fn find_in(
+    ins: &[InPort],
+    places: &LikelyPlaces,
+    source: Rank,
+    lane: Lane,
+) -> Option<usize>
     ensures some { IfSome result (λ i. (p : InPort) × (get_elem? ins.now i ≡ some p) × (p.source ≡ source) × (p.lane ≡ lane)) }
     ensures none { IfNone result (Each (λ (p : InPort). p.source ≡ source → p.lane ≡ lane → ⊥) ins.now) }
 {
@@ -126,45 +137,43 @@ fn note_post(mail: &Mail, node: &mut Node, port: &OutPort) -> bool
 /// Tries what waits at the end of this place again, if anything does, and answers whether nothing waits there now.
 fn flush_one<R: Wait>(
     rt: &R,
-    wires: &[Wire],
-    mail: &Mail,
+    network: Network,
     node: &mut Node,
     outs: &mut Vec<OutPort>,
     at: usize,
 ) -> bool
     requires at { at < length outs.old.items }
-    requires ends { AreEnds wires.now node.old.closed outs.old.items }
+    requires ends { AreEnds network.wires.now node.old.closed outs.old.items }
     ensures node { Regated node.old node.new }
-    ensures ends { AreEnds wires.now node.new.closed outs.new.items }
+    ensures ends { AreEnds network.wires.now node.new.closed outs.new.items }
     ensures flushed { (p : OutPort) × (q : OutPort) × (get_elem? outs.old.items at ≡ some p) × Flushed p q ×
         (outs.new.items ≡ slice_set outs.old.items at q) × (q.end.waits ≡ false ↔ IsTrue result) }
 {
     if !outs[at].end.waits() {
         return true;
     }
-    let free = flush_at(rt, wires, &mut outs[at]);
-    note_post(mail, node, &outs[at]);
+    let free = flush_at(rt, network.wires, &mut outs[at]);
+    note_post(network.mail, node, &outs[at]);
     free
 }
 
 /// Tries all that waits at the ends of a rank again, and answers whether nothing waits there now.
 pub(crate) fn flush_all<R: Wait>(
     rt: &R,
-    wires: &[Wire],
-    mail: &Mail,
+    network: Network,
     node: &mut Node,
     outs: &mut Vec<OutPort>,
 ) -> bool
-    requires { AreEnds wires.now node.old.closed outs.old.items }
+    requires { AreEnds network.wires.now node.old.closed outs.old.items }
     ensures node { Regated node.old node.new }
-    ensures ends { AreEnds wires.now node.new.closed outs.new.items }
+    ensures ends { AreEnds network.wires.now node.new.closed outs.new.items }
     ensures flushed { Pairwise Flushed outs.old.items outs.new.items }
     ensures free { IsTrue result → Each (λ (p : OutPort). p.end.waits ≡ false) outs.new.items }
 {
     let mut free = true;
     let count = outs.len();
     for at in 0..count {
-        free &= flush_one(rt, wires, mail, node, outs, at);
+        free &= flush_one(rt, network, node, outs, at);
     }
     free
 }
@@ -173,24 +182,23 @@ pub(crate) fn flush_all<R: Wait>(
 /// and it is let go: no message of the job asks for that, but what other ranks sent isn't known here. It answers whether it waits.
 fn post<R: Wait>(
     rt: &R,
-    wires: &[Wire],
-    mail: &Mail,
-    places: &Places,
+    network: Network,
+    places: &LikelyPlaces,
     node: &mut Node,
     outs: &mut Vec<OutPort>,
     message: Message,
 ) -> bool
-    requires ends { AreEnds wires.now node.old.closed outs.old.items }
+    requires ends { AreEnds network.wires.now node.old.closed outs.old.items }
     requires may { Each (MayPost (Some message)) outs.old.items }
     ensures node { Regated node.old node.new }
-    ensures ends { AreEnds wires.now node.new.closed outs.new.items }
+    ensures ends { AreEnds network.wires.now node.new.closed outs.new.items }
     ensures posted { Pairwise (Posted (Some message)) outs.old.items outs.new.items }
 {
     let target = message.header().target;
     let lane = message.header().kind.lane();
     if let Some(at) = find_out(outs, places, target, lane) {
-        send_at(rt, wires, &mut outs[at], message);
-        note_post(mail, node, &outs[at])
+        send_at(rt, network.wires, &mut outs[at], message);
+        note_post(network.mail, node, &outs[at])
     } else {
         false
     }
@@ -199,21 +207,20 @@ fn post<R: Wait>(
 /// Sends a message, if there is one, by the end of its lane, and answers whether it waits.
 pub(crate) fn pass_on<R: Wait>(
     rt: &R,
-    wires: &[Wire],
-    mail: &Mail,
-    places: &Places,
+    network: Network,
+    places: &LikelyPlaces,
     node: &mut Node,
     outs: &mut Vec<OutPort>,
     made: Option<Message>,
 ) -> bool
-    requires ends { AreEnds wires.now node.old.closed outs.old.items }
+    requires ends { AreEnds network.wires.now node.old.closed outs.old.items }
     requires may { Each (MayPost made) outs.old.items }
     ensures node { Regated node.old node.new }
-    ensures ends { AreEnds wires.now node.new.closed outs.new.items }
+    ensures ends { AreEnds network.wires.now node.new.closed outs.new.items }
     ensures posted { Pairwise (Posted made) outs.old.items outs.new.items }
 {
     if let Some(message) = made {
-        post(rt, wires, mail, places, node, outs, message)
+        post(rt, network, places, node, outs, message)
     } else {
         false
     }

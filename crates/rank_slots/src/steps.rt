@@ -18,10 +18,9 @@ ghost use Rattle.rank_slots.specs.Steps.{Grew, Made};
 ghost use Rattle.rank_slots.specs.Sound.{IsSound};
 
 use crate::gate::Gate;
-use crate::mail::Mail;
+use crate::network::Network;
 use crate::posts::{find_out, flush_all, pass_on, pop_at};
-use crate::slot::TurnRank;
-use pair_wires::Wire;
+use crate::turn_rank::TurnRank;
 use ptl_types::{Lane, LocalStep, Rank};
 use std::sync::Wait;
 
@@ -35,47 +34,46 @@ impl TurnRank {
         ensures name { plate self.new ≡ plate self.old }
     {
         // What every node keeps is told here.
-        let _ = self.node.history();
+        self.node.recall_history();
         self.node.start();
     }
 
     /// Tries what waits at the out ends again, and answers whether nothing waits now.
-    pub(crate) fn flush<R: Wait>(&mut self, rt: &R, wires: &[Wire], mail: &Mail) -> bool
-        requires wired { IsWired wires.now (plate self.old) }
+    pub(crate) fn flush<R: Wait>(&mut self, rt: &R, network: Network) -> bool
+        requires wired { IsWired network.wires.now (plate self.old) }
         ensures flushed { HasFlushed self.old self.new }
         ensures free { IsTrue result → Each (λ (p : OutPort). p.end.waits ≡ false) self.new.outs.items }
         ensures name { plate self.new ≡ plate self.old }
     {
-        let _ = self.node.history();
-        let free = flush_all(rt, wires, mail, &mut self.node, &mut self.outs);
+        self.node.recall_history();
+        let free = flush_all(rt, network, &mut self.node, &mut self.outs);
         self.hints.note_flushed(free);
         free
     }
 
     /// Fires an operation, whose message, if it has one, finds room.
-    pub(crate) fn fire<R: Wait>(&mut self, rt: &R, wires: &[Wire], mail: &Mail, number: u32)
+    pub(crate) fn fire<R: Wait>(&mut self, rt: &R, network: Network, number: u32)
         requires sound { IsSound self.old.job }
-        requires wired { IsWired wires.now (plate self.old) }
+        requires wired { IsWired network.wires.now (plate self.old) }
         requires ready { is_ready self.old.node.value.nic number ≡ true }
         requires open { goes_out self.old.node.value.closed (target_at self.old.node.value.nic number) ≡ true }
         ensures grew { history self.new ≡ history self.old ++ Fired number ∷ [] }
         ensures handles { KeepsHandles self.old self.new }
         ensures name { plate self.new ≡ plate self.old }
     {
-        let _ = self.node.history();
+        self.node.recall_history();
         let made = self.node.fire(number);
-        let _ = self.node.history();
+        self.node.recall_history();
         let rank = self.node.nic().rank();
         let waits = pass_on(
             rt,
-            wires,
-            mail,
+            network,
             &self.hints.outs,
             &mut self.node,
             &mut self.outs,
             made,
         );
-        self.hints.note_waiting(mail, rank, waits);
+        self.hints.note_waiting(network.mail, rank, waits);
     }
 
     /// Whether a message waits at the out end of a lane to a rank.
@@ -114,13 +112,12 @@ impl TurnRank {
     pub(crate) fn receive<R: Wait, G: Gate>(
         &mut self,
         rt: &R,
-        wires: &[Wire],
-        mail: &Mail,
+        network: Network,
         gate: &G,
         at: usize,
     ) -> bool
         requires sound { IsSound self.old.job }
-        requires wired { IsWired wires.now (plate self.old) }
+        requires wired { IsWired network.wires.now (plate self.old) }
         requires at { at < length self.old.ins.items }
         requires due { IsDueAt at self.old }
         requires open { IsOpenAt at self.old }
@@ -129,28 +126,27 @@ impl TurnRank {
         ensures handles { KeepsHandles self.old self.new }
         ensures name { plate self.new ≡ plate self.old }
     {
-        let _ = self.node.history();
+        self.node.recall_history();
         let rank = self.node.nic().rank();
         let port = &mut self.ins[at];
         let source = port.source;
         let lane = port.lane;
-        let Some(message) = pop_at(rt, wires, port) else {
+        let Some(message) = pop_at(rt, network.wires, port) else {
             return false;
         };
-        mail.made_room(source);
+        network.mail.made_room(source);
         gate.pass(rank, LocalStep::Receive { source, lane });
         let answer = self.node.receive(source, lane, message);
-        let _ = self.node.history();
+        self.node.recall_history();
         let waits = pass_on(
             rt,
-            wires,
-            mail,
+            network,
             &self.hints.outs,
             &mut self.node,
             &mut self.outs,
             answer,
         );
-        self.hints.note_waiting(mail, rank, waits);
+        self.hints.note_waiting(network.mail, rank, waits);
         true
     }
 
@@ -158,14 +154,13 @@ impl TurnRank {
     pub(crate) fn pull<R: Wait, G: Gate>(
         &mut self,
         rt: &R,
-        wires: &[Wire],
-        mail: &Mail,
+        network: Network,
         gate: &G,
         at: usize,
         free: bool,
     ) -> bool
         requires sound { IsSound self.old.job }
-        requires wired { IsWired wires.now (plate self.old) }
+        requires wired { IsWired network.wires.now (plate self.old) }
         requires at { at < length self.old.ins.items }
         requires free { IsTrue free → Each (λ (p : OutPort). p.end.waits ≡ false) self.old.outs.items }
         ensures some { IsTrue result → ReceivedAt at self.old self.new }
@@ -176,20 +171,19 @@ impl TurnRank {
         if !self.may_take(at, free) {
             return false;
         }
-        self.receive(rt, wires, mail, gate, at)
+        self.receive(rt, network, gate, at)
     }
 
     /// Receives the oldest message of the first in end that has one to be taken.
     fn receive_any<R: Wait, G: Gate>(
         &mut self,
         rt: &R,
-        wires: &[Wire],
-        mail: &Mail,
+        network: Network,
         gate: &G,
         free: bool,
     ) -> Option<LocalStep>
         requires sound { IsSound self.old.job }
-        requires wired { IsWired wires.now (plate self.old) }
+        requires wired { IsWired network.wires.now (plate self.old) }
         requires free { IsTrue free → Each (λ (p : OutPort). p.end.waits ≡ false) self.old.outs.items }
         ensures some { IfSome result (λ step. Made step (mark self.old) (mark self.new)) }
         ensures none { IfNone result (MissedAll self.old self.new) }
@@ -200,7 +194,7 @@ impl TurnRank {
         for at in 0..count {
             let source = self.ins[at].source;
             let lane = self.ins[at].lane;
-            if self.pull(rt, wires, mail, gate, at, free) {
+            if self.pull(rt, network, gate, at, free) {
                 return Some(LocalStep::Receive { source, lane });
             }
         }
@@ -211,12 +205,11 @@ impl TurnRank {
     pub(crate) fn fire_any<R: Wait, G: Gate>(
         &mut self,
         rt: &R,
-        wires: &[Wire],
-        mail: &Mail,
+        network: Network,
         gate: &G,
     ) -> Option<u32>
         requires sound { IsSound self.old.job }
-        requires wired { IsWired wires.now (plate self.old) }
+        requires wired { IsWired network.wires.now (plate self.old) }
         ensures some { IfSome result (λ t. (is_ready self.old.node.value.nic t ≡ true) × Grew (Fired t) (mark self.old) (mark self.new)) }
         ensures none { IfNone result ((self.new ≡ self.old) × AreShut self.old.node.value) }
         ensures handles { KeepsHandles self.old self.new }
@@ -228,7 +221,7 @@ impl TurnRank {
         let number = self.node.ready_at(0);
         let target = self.node.nic().lane_of(number);
         gate.pass(self.node.nic().rank(), LocalStep::Fire { number });
-        self.fire(rt, wires, mail, number);
+        self.fire(rt, network, number);
         self.hints.parked.forget(target, number);
         Some(number)
     }
@@ -239,26 +232,25 @@ impl TurnRank {
     pub fn step<R: Wait, G: Gate>(
         &mut self,
         rt: &R,
-        wires: &[Wire],
-        mail: &Mail,
+        network: Network,
         gate: &G,
     ) -> Option<LocalStep>
         requires sound { IsSound self.old.job }
-        requires wired { IsWired wires.now (plate self.old) }
+        requires wired { IsWired network.wires.now (plate self.old) }
         ensures some { IfSome result (λ step. Made step (mark self.old) (mark self.new)) }
         ensures none { IfNone result (Idled self.old self.new) }
         ensures handles { KeepsHandles self.old self.new }
         ensures name { plate self.new ≡ plate self.old }
     {
-        let free = self.flush(rt, wires, mail);
+        let free = self.flush(rt, network);
         if !self.node.started() {
             gate.pass(self.node.nic().rank(), LocalStep::Start);
             self.begin();
             return Some(LocalStep::Start);
         }
-        if let Some(number) = self.fire_any(rt, wires, mail, gate) {
+        if let Some(number) = self.fire_any(rt, network, gate) {
             return Some(LocalStep::Fire { number });
         }
-        self.receive_any(rt, wires, mail, gate, free)
+        self.receive_any(rt, network, gate, free)
     }
 }

@@ -1,6 +1,6 @@
 use Rattle.std.proofs.Common.{subst, sym, ap, ◌∙◌, ◌<◌, length}
 use Rattle.atomic_table.proofs.Lists.{at_index}
-use Rattle.rank_slots.specs.declared.slot.TurnRank.{TurnRank}
+use Rattle.rank_slots.specs.declared.turn_rank.TurnRank.{TurnRank}
 use Rattle.rank_slots.specs.Slots.{InOk}
 use Rattle.rank_slots.specs.Moves.{GainsIn}
 use Rattle.rank_slots.proofs.Pairs.{same_at}

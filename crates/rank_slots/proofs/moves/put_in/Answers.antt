@@ -1,6 +1,6 @@
 use Rattle.std.proofs.Common.{subst, sym, ap, ◌∙◌, ◌++◌, ◌∷◌, []}
 use Rattle.atomic_table.proofs.Lists.{at_index}
-use Rattle.rank_slots.specs.declared.slot.TurnRank.{TurnRank}
+use Rattle.rank_slots.specs.declared.turn_rank.TurnRank.{TurnRank}
 use Rattle.rank_slots.specs.Moves.{GainsIn, MayGainIn, SameNode}
 use Rattle.rank_slots.proofs.Slotwise.{gains_no_in, gains_in, on_ok, same-node, slotwise_set}
 use Rattle.rank_slots.proofs.moves.put_in.Goals as goal

@@ -10,7 +10,7 @@ abbrev pub invariant-loop-at : goal.invariant-loop-at
 invariant-loop-at g l = record {
   many : length l.outs.items ≡ length l.initial.outs.items;
   node : Regated l.initial.node l.node;
-  ends : AreEnds l.wires l.node.closed l.outs.items;
+  ends : AreEnds l.network.wires.now l.node.closed l.outs.items;
   tried : (i : ℕ) (p q : OutPort) → i < l.at → get_elem? l.initial.outs.items i ≡ some p → get_elem? l.outs.items i ≡ some q → Flushed p q;
   later : (i : ℕ) → l.at ≤ i → get_elem? l.outs.items i ≡ get_elem? l.initial.outs.items i;
   free : l.free ≡ true → (i : ℕ) (q : OutPort) → i < l.at → get_elem? l.outs.items i ≡ some q → q.end.waits ≡ false;

@@ -29,10 +29,10 @@ returns-clause-ends g c =
     let p = c.index_mut.result.now in let q = c.flush_at-free.new.port in
     let there = at_index c.args.outs.now.items c.args.at p c.requires.at c.index_mut.ensures.value in
     let is = c.index-2.ensures ∙ get_or-set_same c.args.outs.now.items c.args.at q c.index-2.result.now c.requires.at in
-    subst (λ (closed : List Bool). AreEnds c.args.wires.now closed (set c.args.outs.now.items c.args.at q))
+    subst (λ (closed : List Bool). AreEnds c.args.network.wires.now closed (set c.args.outs.now.items c.args.at q))
     (sym (ap (λ (n : NodeState). n.closed) c.note_post.ensures
     ∙ ap (λ (z : OutPort). gate_after z.lane z.target z.end.waits c.args.node.now.closed) is))
-    (ends-set c.args.wires.now c.args.node.now.closed c.args.outs.now.items c.args.at p q there c.flush_at-free.ensures.flushed.same
+    (ends-set c.args.network.wires.now c.args.node.now.closed c.args.outs.now.items c.args.at p q there c.flush_at-free.ensures.flushed.same
     c.requires.ends)
 
 pub returns-clause-flushed : goal.returns-clause-flushed

@@ -74,8 +74,8 @@ returns-in-Some-clause-ends g c =
     let noted_is_sent = c.index.ensures ∙ get_or-set_same c.args.outs.now.items c.in-Some.at sent c.index.result.now end.within in
     let gates = ap (λ (n : NodeState). n.closed) c.note_post.ensures
     ∙ ap (λ (p : OutPort). gate_after p.lane p.target p.end.waits c.args.node.now.closed) noted_is_sent in
-    subst (λ (closed : List Bool). AreEnds c.args.wires.now closed (set c.args.outs.now.items c.in-Some.at sent)) (sym gates)
-    (ends-set c.args.wires.now c.args.node.now.closed c.args.outs.now.items c.in-Some.at port sent end.there c.send_at.ensures.same
+    subst (λ (closed : List Bool). AreEnds c.args.network.wires.now closed (set c.args.outs.now.items c.in-Some.at sent)) (sym gates)
+    (ends-set c.args.network.wires.now c.args.node.now.closed c.args.outs.now.items c.in-Some.at port sent end.there c.send_at.ensures.same
     c.requires.ends)
 
 pub returns-in-Some-clause-posted : goal.returns-in-Some-clause-posted
