@@ -20,10 +20,10 @@ use Rattle.rank_wiring.specs.declared.open.WireEnd.{WireEnd}
 use Rattle.rank_wiring.specs.declared.open.OutWires.{OutWires}
 use Rattle.rank_slots.specs.declared.ports.InPort.{InPort}
 use Rattle.rank_slots.specs.declared.ports.OutPort.{OutPort}
-use Rattle.rank_slots.specs.declared.slot.TurnRank.{TurnRank}
+use Rattle.rank_slots.specs.declared.turn_rank.TurnRank.{TurnRank}
 use Rattle.rank_slots.specs.Joints.{Fits, Joint, in_joint, out_joint}
 use Rattle.rank_slots.specs.Lanes.{AreLanes, IsLane, lanes_before, lanes_from}
-use Rattle.rank_wiring.specs.Opening.{AllFanned, AllFresh, AllIn, AreBerths, AreFirst, AreLines, HasNoIn, HasNoOut, IsFanned, IsFresh}
+use Rattle.rank_wiring.specs.Opening.{AllFanned, AllFresh, AllIn, AreBuilt, AreFirst, AreLines, HasNoIn, HasNoOut, IsFanned, IsFresh}
 use Rattle.rank_wiring.specs.Opening.{IsHanded}
 use Rattle.rank_wiring.specs.Opening.{HasWireRoom, IsLine, SameOuts, wires_in}
 use Rattle.rank_slots.specs.Moves.{GainsIn, MayGainIn, SameNode, Slotwise}
@@ -115,13 +115,13 @@ fanned-more job r slots loads x load n m all is q y other ey em = ⊎_elim
     (snoc_at slots x q y ey)
 
 -- the first of these places, and the others
-pub berths-head : (job : JobOf) (k : ℕ) (x : Option BuiltRank) (rest : List (Option BuiltRank)) → AreBerths job k (x ∷ rest)
+pub built-head : (job : JobOf) (k : ℕ) (x : Option BuiltRank) (rest : List (Option BuiltRank)) → AreBuilt job k (x ∷ rest)
     → IfSome x (λ (b : BuiltRank). IsFanned job k b.slot b.load)
-berths-head job k x rest all = subst (λ n. IfSome x (λ (b : BuiltRank). IsFanned job n b.slot b.load)) (add-zero k) (all 0 x (omega arith))
+built-head job k x rest all = subst (λ n. IfSome x (λ (b : BuiltRank). IsFanned job n b.slot b.load)) (add-zero k) (all 0 x (omega arith))
 
-pub berths-tail : (job : JobOf) (k : ℕ) (x : Option BuiltRank) (rest : List (Option BuiltRank)) → AreBerths job k (x ∷ rest) →
-    AreBerths job (suc k) rest
-berths-tail job k x rest all i d low = subst (λ n. IfSome (slice_index_or rest i d) (λ (b : BuiltRank). IsFanned job n b.slot b.load))
+pub built-tail : (job : JobOf) (k : ℕ) (x : Option BuiltRank) (rest : List (Option BuiltRank)) → AreBuilt job k (x ∷ rest) →
+    AreBuilt job (suc k) rest
+built-tail job k x rest all i d low = subst (λ n. IfSome (slice_index_or rest i d) (λ (b : BuiltRank). IsFanned job n b.slot b.load))
     (omega arith)
     (all (suc i) d (omega (arith, low)))
 

@@ -8,7 +8,7 @@ use Rattle.pair_wires.specs.declared.bounds.Bounds.{Bounds}
 use Rattle.pair_wires.specs.Wires.{IsInOf, WireState}
 use Rattle.schedule_compiler.specs.Jobs.{JobOf}
 use Rattle.rank_node.specs.Plans.{IsCompiledFor}
-use Rattle.rank_slots.specs.declared.slot.TurnRank.{TurnRank}
+use Rattle.rank_slots.specs.declared.turn_rank.TurnRank.{TurnRank}
 use Rattle.rank_wiring.specs.declared.open.BuiltRank.{BuiltRank}
 use Rattle.rank_wiring.specs.declared.open.WireEnd.{WireEnd}
 use Rattle.rank_wiring.specs.declared.open.OutWires.{OutWires}
@@ -91,8 +91,8 @@ pub record IsFanned (job : JobOf) (r : ℕ) (x : TurnRank) (load : OutWires) : T
   pub bounds_are : bounds_of (wires_in load.lines.items) ≡ lanes_from job.schedule.plan r
 
 -- what lies at each of these places, some of which may be empty, was made for the rank of that place, counted from k on
-abbrev pub AreBerths : JobOf → ℕ → List (Option BuiltRank) → Type 0
-AreBerths job k places = (i : ℕ) (d : Option BuiltRank) → i < length places →
+abbrev pub AreBuilt : JobOf → ℕ → List (Option BuiltRank) → Type 0
+AreBuilt job k places = (i : ℕ) (d : Option BuiltRank) → i < length places →
     IfSome (slice_index_or places i d) (λ (b : BuiltRank). IsFanned job (k + i) b.slot b.load)
 
 -- the slots and the wires of all ranks, in their order

@@ -5,7 +5,7 @@ ghost use Rattle.pair_wires.specs.declared.bounds.Bounds.{Bounds};
 ghost use Rattle.rank_slots.specs.Joints.{joint, out_joint};
 ghost use Rattle.rank_wiring.specs.Fans.{AreFans, IsFan};
 ghost use Rattle.rank_slots.specs.Lanes.{IsLane};
-ghost use Rattle.rank_wiring.specs.Opening.{AllFanned, AreBerths, AreFirst, AreLines, AreWired, HasNoOut, IsBare, IsFanned};
+ghost use Rattle.rank_wiring.specs.Opening.{AllFanned, AreBuilt, AreFirst, AreLines, AreWired, HasNoOut, IsBare, IsFanned};
 ghost use Rattle.rank_wiring.specs.Opening.{IsFresh, IsHanded, IsLine, SameOuts, wires_in};
 ghost use Rattle.rank_slots.specs.Moves.{Slotwise};
 ghost use Rattle.rank_slots.specs.Sound.{IsSound};
@@ -13,7 +13,7 @@ ghost use Rattle.rank_slots.specs.Sound.{IsSound};
 use crate::lanes::{OutLanes, all_fans};
 use pair_wires::{Bounds, Wire};
 use ptl_types::{NoMemory, Rank};
-use rank_slots::{Hints, InPort, OutPort, TurnRank, put_in, sound};
+use rank_slots::{Hints, InPort, OutPort, TurnRank, put_in, recall_soundness};
 use rank_tasks::install;
 use schedule_compiler::Job;
 use std::alloc::Global;
@@ -120,33 +120,33 @@ fn lay_fan(
 }
 
 // A rank with its wires.
-fn make_berth(alloc: Global, job: &Job, rank: Rank, fan: &OutLanes) -> Result<BuiltRank, NoMemory>
+fn build_rank(alloc: Global, job: &Job, rank: Rank, fan: &OutLanes) -> Result<BuiltRank, NoMemory>
     requires rank { rank < job.now.schedule.plan.ranks }
     requires fan { IsFan job.now.schedule.plan rank fan.now }
     ensures { IfOk result (λ b. IsFanned job.now rank b.slot b.load) }
 {
-    sound(job);
+    recall_soundness(job);
     let mut slot = bare_slot(alloc, job, rank, fan.lanes.len())?;
     let load = lay_fan(alloc, job, rank, fan, &mut slot)?;
     Ok(BuiltRank { slot, load })
 }
 
 // What a thread makes for a rank. There is nothing where there was no memory for it.
-fn berth_of(alloc: Global, job: &Job, fans: &[OutLanes], rank: usize) -> Option<BuiltRank>
+fn built_rank_of(alloc: Global, job: &Job, fans: &[OutLanes], rank: usize) -> Option<BuiltRank>
     requires count { length fans.now ≡ job.now.schedule.plan.ranks }
     requires at_most { length fans.now < 2 ^ 32 }
     requires fans { AreFans job.now.schedule.plan fans.now }
     requires rank { rank < length fans.now }
     ensures { IfSome result (λ b. IsFanned job.now rank b.slot b.load) }
 {
-    match make_berth(alloc, job, rank as Rank, &fans[rank]) {
-        Ok(berth) => Some(berth),
+    match build_rank(alloc, job, rank as Rank, &fans[rank]) {
+        Ok(built) => Some(built),
         Err(_) => None,
     }
 }
 
 // All ranks, made by so many threads, of which each takes the next rank that none has taken.
-fn make_berths<R: Threads + Sync>(
+fn build_ranks<R: Threads + Sync>(
     rt: &R,
     alloc: Global,
     job: &Job,
@@ -158,7 +158,7 @@ fn make_berths<R: Threads + Sync>(
     requires at_most { length fans.now < 2 ^ 32 }
     requires fans { AreFans job.now.schedule.plan fans.now }
     ensures count { IfOk result (λ v. length v.items ≡ job.now.schedule.plan.ranks) }
-    ensures berths { IfOk result (λ v. AreBerths job.now 0 v.items) }
+    ensures built { IfOk result (λ v. AreBuilt job.now 0 v.items) }
 {
     let places = map_indices(
         rt,
@@ -169,7 +169,7 @@ fn make_berths<R: Threads + Sync>(
             requires { (length fans.now < 2 ^ 32) × (length fans.now ≡ job.now.schedule.plan.ranks) ×
                 AreFans job.now.schedule.plan fans.now × (rank < length fans.now) }
             ensures { IfSome result (λ b. IsFanned job.entry.now rank b.slot b.load) }
-        { berth_of(alloc, job, fans, rank) },
+        { built_rank_of(alloc, job, fans, rank) },
     )?;
     Ok(places)
 }
@@ -190,8 +190,8 @@ fn made_or_make(
     ensures { IfOk result (λ b. IsFanned job.now rank b.slot b.load) }
 {
     match place {
-        Some(berth) => Ok(berth),
-        None => make_berth(alloc, job, rank as Rank, &fans[rank]),
+        Some(built) => Ok(built),
+        None => build_rank(alloc, job, rank as Rank, &fans[rank]),
     }
 }
 
@@ -206,7 +206,7 @@ fn in_order(
     requires at_most { length fans.now < 2 ^ 32 }
     requires fans { AreFans job.now.schedule.plan fans.now }
     requires count { length places.items ≡ job.now.schedule.plan.ranks }
-    requires berths { AreBerths job.now 0 places.items }
+    requires built { AreBuilt job.now 0 places.items }
     ensures count { IfOk result (λ r. (length r.0.items ≡ length places.items) × (length r.1.items ≡ length places.items)) }
     ensures fanned { IfOk result (λ r. AllFanned job.now r.0.items r.1.items) }
 {
@@ -214,8 +214,8 @@ fn in_order(
     let mut loads = Vec::with_capacity(alloc, places.len())?;
     for place in places {
         let rank = slots.len();
-        let berth = made_or_make(alloc, job, fans, rank, place)?;
-        let BuiltRank { slot, load } = berth;
+        let built = made_or_make(alloc, job, fans, rank, place)?;
+        let BuiltRank { slot, load } = built;
         slots.push(slot)?;
         loads.push(load)?;
     }
@@ -294,7 +294,7 @@ pub fn wired_slots<R: Threads + Sync>(
 {
     let threads = threads.max(1) as usize;
     let fans = all_fans(alloc, job.schedule())?;
-    let places = make_berths(rt, alloc, job, &fans, threads)?;
+    let places = build_ranks(rt, alloc, job, &fans, threads)?;
     let (mut slots, loads) = in_order(alloc, job, &fans, places)?;
     let wires = hand_all(alloc, job, count(&fans), loads, &mut slots)?;
     Ok((slots, wires))

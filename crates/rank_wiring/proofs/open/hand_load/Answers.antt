@@ -6,7 +6,7 @@ use Rattle.std.specs.Vec.Iter.{into_iter_items}
 use Rattle.pair_wires.specs.declared.bounds.Bounds.{Bounds}
 use Rattle.pair_wires.specs.Wires.{WireState}
 use Rattle.rank_wiring.specs.declared.open.WireEnd.{WireEnd}
-use Rattle.rank_slots.specs.declared.slot.TurnRank.{TurnRank}
+use Rattle.rank_slots.specs.declared.turn_rank.TurnRank.{TurnRank}
 use Rattle.rank_wiring.specs.Opening.{AreFirst, AreLines, IsHanded, wires_in}
 use Rattle.rank_slots.specs.Moves.{GainsIn, MayGainIn, Slotwise}
 use Rattle.rank_wiring.proofs.Handing.{first-rest, gains-outs, handed-more, lines-rest, may-gain, outs-chain, outs-stay, target-in}

@@ -1,6 +1,6 @@
 use Rattle.std.proofs.Common.{◌≡◌, ◌+◌, length}
 use Rattle.std.specs.Vec.Iter.{into_iter_items, into_iter_len}
-use Rattle.rank_wiring.specs.Opening.{AllFanned, AreBerths}
+use Rattle.rank_wiring.specs.Opening.{AllFanned, AreBuilt}
 use Rattle.rank_wiring.proofs.open.in_order.Given as goal
 
 abbrev pub invariant-loop-place : goal.invariant-loop-place
@@ -9,5 +9,5 @@ invariant-loop-place l = record {
   slots : length l.slots.items + length (into_iter_items l.place-iterator) ≡ length l.fn.places.items;
   loads : length l.loads.items ≡ length l.slots.items;
   fanned : AllFanned l.job l.slots.items l.loads.items;
-  places : AreBerths l.job (length l.slots.items) (into_iter_items l.place-iterator);
+  places : AreBuilt l.job (length l.slots.items) (into_iter_items l.place-iterator);
 }

@@ -10,8 +10,8 @@ returns-in-Some c =
     subst (λ (o : Option BuiltRank). IfSome o (λ (b : BuiltRank). IsFanned c.args.job.now c.args.rank b.slot b.load))
     c.in-Some.is c.requires.place
 
-pub make_berth-requires-clause-fan : goal.make_berth-requires-clause-fan
-make_berth-requires-clause-fan c =
+pub build_rank-requires-clause-fan : goal.build_rank-requires-clause-fan
+build_rank-requires-clause-fan c =
     let f = c.index-fans-rank in
     let low : c.args.rank < length c.args.fans.now = search arith in
     c.requires.fans c.args.rank f.result (at_index _ _ f.result low f.is)

@@ -1,19 +1,19 @@
 use Rattle.std.proofs.Common.{◌≡◌, ◌++◌, ◌∙◌, List, ap, drop, length, subst, sym, take}
 use Rattle.schedule_compiler.specs.Schedules.{ScheduleOf}
 use Rattle.rank_wiring.specs.declared.lanes.OutLanes.{OutLanes}
-use Rattle.rank_slots.specs.declared.slot.TurnRank.{TurnRank}
+use Rattle.rank_slots.specs.declared.turn_rank.TurnRank.{TurnRank}
 use Rattle.rank_wiring.specs.Fans.{AreFans}
 use Rattle.rank_wiring.specs.Opening.{AllFanned, AreWired}
 use Rattle.rank_slots.proofs.Snocs.{written}
 use Rattle.rank_wiring.proofs.open.wired_slots.Goals as goal
 
-pub make_berths-requires-clause-count : goal.make_berths-requires-clause-count
-make_berths-requires-clause-count g c = λ _ _.
+pub build_ranks-requires-clause-count : goal.build_ranks-requires-clause-count
+build_ranks-requires-clause-count g c = λ _ _.
     ap (λ (l : List OutLanes). length l) c.deref.ensures.value
     ∙ (c.in_ok-fans.ensures.count ∙ ap (λ (o : ScheduleOf). o.plan.ranks) c.schedule.ensures)
 
-pub make_berths-requires-clause-fans : goal.make_berths-requires-clause-fans
-make_berths-requires-clause-fans g c = λ _ _.
+pub build_ranks-requires-clause-fans : goal.build_ranks-requires-clause-fans
+build_ranks-requires-clause-fans g c = λ _ _.
     subst (AreFans c.args.job.now.schedule.plan) (sym c.deref.ensures.value)
     (subst (λ (o : ScheduleOf). AreFans o.plan c.in_ok-fans.fans.items) c.schedule.ensures c.in_ok-fans.ensures.fans)
 
