@@ -32,7 +32,7 @@ use Rattle.worlds.specs.parts.Keeps.{AgreeAll}
 use Rattle.worlds.specs.parts.Layout.{lane_at, node_at, scene_of}
 use Rattle.worlds.specs.FrameState.{FrameState}
 use Rattle.worlds.specs.Frames.{MayClose, frame_lane}
-use Rattle.rank_slots.specs.declared.slot.TurnRank.{TurnRank}
+use Rattle.rank_slots.specs.declared.turn_rank.TurnRank.{TurnRank}
 use Rattle.rank_slots.specs.declared.ports.OutPort.{OutPort}
 use Rattle.rank_slots.specs.declared.ports.InPort.{InPort}
 use Rattle.rank_threads.specs.Closing.{IsLifted}
@@ -139,7 +139,7 @@ module _ (job : JobOf) (sound : IsSound job) (slots : List TurnRank) (wires : Li
       let es : v.0.bounds.source ≡ s = ap (λ (b : Bounds). b.source) v.2 ∙ h.source in
       let ed : v.0.bounds.target ≡ d = ap (λ (b : Bounds). b.target) v.2 ∙ h.target in
       let el : v.0.bounds.lane ≡ lane = ap (λ (b : Bounds). b.lane) v.2 ∙ h.lane_is in
-      let here : lane_at ls (lane_place n v.0.bounds.source v.0.bounds.target v.0.bounds.lane) ≡ lane_at ls (lane_place n s d lane) =
+      let lane_same : lane_at ls (lane_place n v.0.bounds.source v.0.bounds.target v.0.bounds.lane) ≡ lane_at ls (lane_place n s d lane) =
       (λ i. lane_at ls (lane_place n (es i) (ed i) (el i))) in
       let l = lifted h.at v.0 v.1 in
       let all : v.0.bounds.messages ≡ lane_messages p s d lane =
@@ -148,10 +148,10 @@ module _ (job : JobOf) (sound : IsSound job) (slots : List TurnRank) (wires : Li
       let held = l.held x.slot y.slot (ap (get_elem? slots) es ∙ x.there) (ap (get_elem? slots) ed ∙ y.there) in record {
         has = subst (λ (z : (JobOf × NodeState) × ((ℕ × Lane) × List Sent)). HasSent z.0.0.schedule.plan z.0.0.inputs z.0.1 z.1.0.0 z.1.0.1
             z.1.1)
-            (λ i. ((q.job_is i, sym x.node_is i), ((ed i, el i), got (sym y.node_is i).diary.locals (es i) (el i) ++ (here i).messages)))
+            (λ i. ((q.job_is i, sym x.node_is i), ((ed i, el i), got (sym y.node_is i).diary.locals (es i) (el i) ++ (lane_same i).messages)))
             held;
-        at_most = subst (λ (z : Plain). length z.messages ≤ 4) here l.at_most;
-        room = ap (λ (z : Plain). z.capacity) (sym here) ∙ (l.room ∙ ap (min 4) all);
+        at_most = subst (λ (z : Plain). length z.messages ≤ 4) lane_same l.at_most;
+        room = ap (λ (z : Plain). z.capacity) (sym lane_same) ∙ (l.room ∙ ap (min 4) all);
       }
 
   module _ (k : ℕ → Slots) (agree : AgreeAll n k nodes) where

@@ -13,7 +13,7 @@ use Rattle.rank_node.specs.Node.{IsNode, NodeState}
 use Rattle.worlds.specs.parts.Layout.{no_node, node_at}
 use Rattle.worlds.specs.FrameState.{FrameState}
 use Rattle.worlds.specs.Frames.{MayClose}
-use Rattle.rank_slots.specs.declared.slot.TurnRank.{TurnRank}
+use Rattle.rank_slots.specs.declared.turn_rank.TurnRank.{TurnRank}
 use Rattle.rank_threads.specs.Fabrics.{IsNamed}
 use Rattle.rank_slots.specs.Lists.{Each}
 use Rattle.rank_wiring.specs.Opening.{AllLaid}

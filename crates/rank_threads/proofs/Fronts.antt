@@ -13,7 +13,7 @@ use Rattle.cuts.specs.histories.System.{Histories}
 use Rattle.schedule_compiler.specs.Jobs.{JobOf}
 use Rattle.rest_probe.specs.declared.notes.RankNote.{RankNote}
 use Rattle.rest_probe.specs.declared.notes.ProbeNote.{ProbeNote}
-use Rattle.rank_slots.specs.declared.slot.TurnRank.{TurnRank}
+use Rattle.rank_slots.specs.declared.turn_rank.TurnRank.{TurnRank}
 use Rattle.rank_slots.specs.Names.{Mark, history, note}
 use Rattle.rank_slots.specs.Probes.{HasNote, Says}
 use Rattle.rank_threads.specs.Resting.{SaysSeen}
@@ -65,9 +65,9 @@ more-noted job v u n a w z t note others h = (
   (λ r. cond (eqb r n) a.0 (h.0 r)),
   λ r x low at. ⊎_elim
       (λ (is : r ≡ n).
-      let here = seen-here job v u n a x.note t (note x (ap (get_elem? z) (sym is) ∙ at)).1 in
+      let says_seen = seen-here job v u n a x.note t (note x (ap (get_elem? z) (sym is) ∙ at)).1 in
       let front : a.0 ≡ cond (eqb r n) a.0 (h.0 r) = ap (λ b. cond b a.0 (h.0 r)) (sym (eq-eqb r n is)) in
-      subst (λ (q : ℕ × List Local). SaysSeen job u q.0 q.1 x.note) (λ k. (sym is k, front k)) here)
+      subst (λ (q : ℕ × List Local). SaysSeen job u q.0 q.1 x.note) (λ k. (sym is k, front k)) says_seen)
       (λ (apart : r ≡ n → ⊥).
       let there = seen-else job v u n r a a (h.0 r) x.note t apart (h.1 r x (omega (arith, low, apart)) (sym (others r apart) ∙ at)) in
       let front : h.0 r ≡ cond (eqb r n) a.0 (h.0 r) = ap (λ b. cond b a.0 (h.0 r)) (sym (ne_eqb r n apart)) in

@@ -19,9 +19,9 @@ use Rattle.plan_core.proofs.Links.{In-from_to, out_links-In}
 use Rattle.plan_calls.specs.Lanes.{goes_along, is_used_lane, lane_links}
 use Rattle.plan_calls.specs.RankOps.{RankOp, rank_ops}
 use Rattle.plan_calls.specs.RankOps.RankOp.{ForLink, ForDone}
-use Rattle.cuts.specs.view.TriggeredOps.{deed_of, operation, send_deed}
+use Rattle.cuts.specs.view.TriggeredOps.{action_of, operation, send_action}
 use Rattle.cuts.specs.view.Slots.{Slots, cell_ct}
-use Rattle.ptl_types.specs.declared.calls.TriggeredOp.TheVariants.{Inc as IncDeed}
+use Rattle.ptl_types.specs.declared.calls.TriggeredOp.TheVariants.{Inc as IncAction}
 use Rattle.ni_model.specs.Counts.{successes}
 use Rattle.cuts.proofs.machine.RankOps.{rank_ops-along}
 use Rattle.cuts.proofs.view.Tables.{find-In}
@@ -46,7 +46,7 @@ use Rattle.rank_wiring.specs.Wiring.{bounds_of, from_rank, to_rank}
 use Rattle.rank_slots.proofs.Pairs.{at_map_back, exists_at, within}
 use Rattle.rank_wiring.proofs.Rows.{row-has}
 use Rattle.rank_slots.proofs.Sends.{node-of}
-use Rattle.rank_slots.specs.declared.slot.TurnRank.{TurnRank}
+use Rattle.rank_slots.specs.declared.turn_rank.TurnRank.{TurnRank}
 use Rattle.rank_slots.specs.declared.ports.OutPort.{OutPort}
 use Rattle.rank_slots.specs.declared.ports.InPort.{InPort}
 
@@ -61,12 +61,12 @@ some-link (y ∷ xs) x i = lt-ltb 0 (length (y ∷ xs)) (omega arith)
 some-one : {X : Type 0} {a b : X} → Some a ≡ Some b → a ≡ b
 some-one e = cc
 
-sends-to : (p : Plan) (k : Slots) (l d : ℕ) (o : Option AtomicOp) → message_target (send_deed p k l o) ≡ Some d →
+sends-to : (p : Plan) (k : Slots) (l d : ℕ) (o : Option AtomicOp) → message_target (send_action p k l o) ≡ Some d →
     (cell p (link p l).target).rank ≡ d
 sends-to p k l d None e = some-one e
 sends-to p k l d (Some o) e = some-one e
 
-work-lane : (p : Plan) (k : Slots) (r d : ℕ) (w : RankOp) → In w (rank_ops p r) → message_target (deed_of p k w) ≡ Some d →
+work-lane : (p : Plan) (k : Slots) (r d : ℕ) (w : RankOp) → In w (rank_ops p r) → message_target (action_of p k w) ≡ Some d →
     is_used_lane p r d Request ≡ true
 work-lane p k r d (ForDone c) i e = cc
 work-lane p k r d (ForLink l) i e = at (is_bump (link p l).kind) refl e
@@ -75,7 +75,7 @@ work-lane p k r d (ForLink l) i e = at (is_bump (link p l).kind) refl e
     out = rank_ops-along p r l i
 
     at : (b : Bool) → is_bump (link p l).kind ≡ b → message_target
-        (cond b (IncDeed (cell_ct p k (link p l).target) (successes 1)) (send_deed p k l (cell p (link p l).target).op)) ≡ Some d →
+        (cond b (IncAction (cell_ct p k (link p l).target) (successes 1)) (send_action p k l (cell p (link p l).target).op)) ≡ Some d →
         is_used_lane p r d Request ≡ true
     at true q e = cc
     at false q e =
@@ -95,7 +95,7 @@ ready-lane p k r s t d of ready goes = at (posted_at t s.pending) refl ready goe
     at (Some x) e f g =
         let i = of.pending x (find-In (is_number t) s.pending.waiting x e).0 in
         let w = In-map_cases (operation p k r) x (rank_ops p r) i in
-        work-lane p k r d w.0 w.1 (subst (λ (y : Posted). message_target y.deed ≡ Some d) (sym w.2) g)
+        work-lane p k r d w.0 w.1 (subst (λ (y : Posted). message_target y.action ≡ Some d) (sym w.2) g)
 
 -- ---- why a lane was passed over
 passed-over : (s : ℕ) (lane : Lane) (old new : Note) → IsEmpty s lane old new ⊎
@@ -214,13 +214,13 @@ module _ (job : JobOf) (sound : IsSound job) (wires : List WireState) (lanes : A
     -- the in end of a lane was passed over
     pub passed : (s : ℕ) (lane : Lane) (i : ℕ) (o q : InPort) → get_elem? x.ins.items i ≡ some o → o.source ≡ s → o.lane ≡ lane
         → get_elem? y.ins.items i ≡ some q → Missed z.node.value z.outs.items o q → PassedOver s lane (note x) (note y)
-    passed s lane i o q was source kind now m = passed-over s lane (note x) (note y) (elim m.why [
+    passed s lane i o q was source kind stands m = passed-over s lane (note x) (note y) (elim m.why [
       | inl e ↦ inl (record {
         at = i;
         before = in_count o;
         after = in_count q;
         was = at_map in_count x.ins.items i o was;
-        is = at_map in_count y.ins.items i q now;
+        is = at_map in_count y.ins.items i q stands;
         source = m.same.source ∙ source;
         lane_is = m.same.lane ∙ kind;
         rose = e;

@@ -19,7 +19,7 @@ use Rattle.rank_node.specs.Node.{NodeState}
 use Rattle.worlds.specs.Frames.{frame_lane}
 use Rattle.worlds.specs.parts.Layout.{lane_at}
 use Rattle.worlds.proofs.parts.Placed.{OneLane, lane_apart}
-use Rattle.rank_slots.specs.declared.slot.TurnRank.{TurnRank}
+use Rattle.rank_slots.specs.declared.turn_rank.TurnRank.{TurnRank}
 use Rattle.rank_slots.specs.declared.ports.OutPort.{OutPort}
 use Rattle.rank_slots.specs.declared.ports.InPort.{InPort}
 use Rattle.rank_threads.specs.Closing.{IsHeldOn, IsLifted}
@@ -132,27 +132,27 @@ module _ (p : Plan) (n : ℕ) (ranks : p.ranks ≡ n) (all : List WireState) (ar
         → AreLifted n all slots first m (set ls (lane_place n w.bounds.source w.bounds.target w.bounds.lane) l)
     lifted-more l is low = record {
       left = λ s d lane hs hd not.
-          (let apart : lane_place n s d lane ≡ here → ⊥ = (λ same. not m w (omega arith) there
+          (let apart : lane_place n s d lane ≡ own_place → ⊥ = (λ same. not m w (omega arith) there
           (lane_apart n w.bounds.source w.bounds.target w.bounds.lane s d lane (between m w there).1 hd (sym same))) in
-          get_or-set_other ls here (lane_place n s d lane) l (plain [] 0) apart
+          get_or-set_other ls own_place (lane_place n s d lane) l (plain [] 0) apart
           ∙ h.left s d lane hs hd (λ k v k-low e o. not k v (omega (arith, k-low)) e o));
       done = λ k v k-low e. ⊎_elim
           (λ (same : k ≡ m).
           let one : w ≡ v = same_some all m w v there (ap (get_elem? all) (sym same) ∙ e) in
-          subst (λ (z : WireState). IsLifted z.bounds slots (at_place n (set ls here l) z.bounds.source z.bounds.target z.bounds.lane)) one
-          (subst (IsLifted w.bounds slots) (sym (get_or-set_same ls here l (plain [] 0) low)) is))
+          subst (λ (z : WireState). IsLifted z.bounds slots (at_place n (set ls own_place l) z.bounds.source z.bounds.target z.bounds.lane)) one
+          (subst (IsLifted w.bounds slots) (sym (get_or-set_same ls own_place l (plain [] 0) low)) is))
           (λ (other : k ≡ m → ⊥).
           let place = lane_place n v.bounds.source v.bounds.target v.bounds.lane in
-          let apart : place ≡ here → ⊥ = (λ same. other (one-wire k m v w e there
+          let apart : place ≡ own_place → ⊥ = (λ same. other (one-wire k m v w e there
           (lane_apart n v.bounds.source v.bounds.target v.bounds.lane w.bounds.source w.bounds.target w.bounds.lane
           (between k v e).1 (between m w there).1 same))) in
-          subst (IsLifted v.bounds slots) (sym (get_or-set_other ls here place l (plain [] 0) apart))
+          subst (IsLifted v.bounds slots) (sym (get_or-set_other ls own_place place l (plain [] 0) apart))
           (h.done k v (omega (arith, k-low, other)) e))
           (cases_eq k m);
     }
       where
-        here : ℕ
-        here = lane_place n w.bounds.source w.bounds.target w.bounds.lane
+        own_place : ℕ
+        own_place = lane_place n w.bounds.source w.bounds.target w.bounds.lane
 
         same_some : (l : List WireState) (i : ℕ) (a b : WireState) → get_elem? l i ≡ some a → get_elem? l i ≡ some b → a ≡ b
         same_some l i a b e f = some-injective a b (sym e ∙ f)

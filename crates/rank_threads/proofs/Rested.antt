@@ -33,7 +33,7 @@ use Rattle.rest_probe.proofs.Used.{used-from, used-to}
 use Rattle.worlds.specs.parts.Layout.{node_at}
 use Rattle.worlds.specs.Standing.{IsStanding}
 use Rattle.worlds.specs.World.{AreSlots, WorldState, histories_in}
-use Rattle.rank_slots.specs.declared.slot.TurnRank.{TurnRank}
+use Rattle.rank_slots.specs.declared.turn_rank.TurnRank.{TurnRank}
 use Rattle.rank_slots.specs.Chronicles.{chronicle}
 use Rattle.rank_threads.specs.Closing.{IsLeft, IsWorldOf}
 use Rattle.rank_threads.specs.Fabrics.{FabricState}

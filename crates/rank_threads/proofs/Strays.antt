@@ -31,5 +31,5 @@ none-stray (Fire t ∷ es) s lane m e i = none-stray es s lane m
 none-stray (Receive source l x ∷ es) s lane m e i =
     let k = sym (count-cons is_received_stray (Receive source l x) es) ∙ e in ⊎_elim
     (λ (is : x ≡ m). ap is_stray (sym is) ∙ no-one (is_stray x) (count_by is_received_stray es) k)
-    (λ (later : In m (got es s lane)). none-stray es s lane m (no-more (is_stray x) (count_by is_received_stray es) k) later)
+    (λ (in_rest : In m (got es s lane)). none-stray es s lane m (no-more (is_stray x) (count_by is_received_stray es) k) in_rest)
     (first-or-rest ((source == s) && same_lane l lane) x m (got es s lane) i)

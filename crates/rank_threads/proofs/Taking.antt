@@ -7,7 +7,7 @@ use Rattle.turn_table.specs.Hands.{IsFree, IsHandOf, Took}
 use Rattle.turn_table.specs.States.{HandState}
 use Rattle.rank_node.specs.Node.{IsNode}
 use Rattle.rank_slots.specs.Chronicles.{chronicle}
-use Rattle.rank_slots.specs.declared.slot.TurnRank.{TurnRank}
+use Rattle.rank_slots.specs.declared.turn_rank.TurnRank.{TurnRank}
 use Rattle.rank_slots.specs.Names.{IsWired, Plate, plate}
 use Rattle.rank_threads.specs.Fabrics.{FabricState, HasTaken, IsFabric, IsNamed}
 use Rattle.rank_slots.proofs.Pairs.{exists_at}

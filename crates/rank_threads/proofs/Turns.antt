@@ -17,7 +17,7 @@ use Rattle.turn_table.specs.Hands.{LastTurn, Took, marks}
 use Rattle.turn_table.proofs.Sums.{adjusted_length}
 use Rattle.schedule_compiler.specs.Jobs.{JobOf}
 use Rattle.cuts.specs.histories.History.{Local}
-use Rattle.rank_slots.specs.declared.slot.TurnRank.{TurnRank}
+use Rattle.rank_slots.specs.declared.turn_rank.TurnRank.{TurnRank}
 use Rattle.rank_slots.specs.Chronicles.{Entry, KeepsHandles, chronicle}
 use Rattle.rank_slots.specs.Names.{Mark, Note, history, mark, note, plate}
 use Rattle.rank_slots.specs.Steps.{IsIdle, Made}

@@ -11,7 +11,7 @@ use Rattle.turn_table.specs.Hands.{Left, parts_of}
 use Rattle.turn_table.specs.Rules.{Follows}
 use Rattle.turn_table.specs.States.{HandState}
 use Rattle.worlds.specs.World.{AreSlots, WorldState, histories_in}
-use Rattle.rank_slots.specs.declared.slot.TurnRank.{TurnRank}
+use Rattle.rank_slots.specs.declared.turn_rank.TurnRank.{TurnRank}
 use Rattle.rank_threads.specs.Fabrics.{FabricState, HasSwept}
 use Rattle.rank_slots.specs.Chronicles.{chronicle}
 use Rattle.rank_slots.specs.Names.{history, plate}

@@ -10,7 +10,7 @@ use Rattle.turn_table.specs.States.{HandState, TableState}
 use Rattle.rank_node.specs.Node.{IsNode, NodeState}
 use Rattle.worlds.specs.FrameState.{FrameState}
 use Rattle.worlds.specs.Frames.{IsFrameOf}
-use Rattle.rank_slots.specs.declared.slot.TurnRank.{TurnRank}
+use Rattle.rank_slots.specs.declared.turn_rank.TurnRank.{TurnRank}
 use Rattle.rank_slots.specs.Lists.{Each}
 use Rattle.rank_slots.specs.Lanes.{AreLanes}
 use Rattle.rank_slots.specs.Chronicles.{chronicle}

@@ -12,7 +12,7 @@ use Rattle.schedule_compiler.specs.Jobs.{JobOf}
 use Rattle.turn_table.specs.declared.views.HandView.{HandView}
 use Rattle.turn_table.specs.Hands.{IsFree}
 use Rattle.turn_table.specs.States.{HandState}
-use Rattle.rank_slots.specs.declared.slot.TurnRank.{TurnRank}
+use Rattle.rank_slots.specs.declared.turn_rank.TurnRank.{TurnRank}
 use Rattle.rank_threads.specs.Fabrics.{FabricState}
 use mathlib.Core.List.{IsPrefix}
 use Rattle.cuts.specs.histories.History.{Local}

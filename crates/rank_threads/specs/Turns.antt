@@ -11,7 +11,7 @@ use Rattle.turn_table.specs.Views.{numbers_from, places, without_busy_slot}
 use Rattle.turn_table.specs.Hands.{LastTurn, Took}
 use Rattle.cuts.specs.histories.History.{Local}
 use Rattle.schedule_compiler.specs.Jobs.{JobOf}
-use Rattle.rank_slots.specs.declared.slot.TurnRank.{TurnRank}
+use Rattle.rank_slots.specs.declared.turn_rank.TurnRank.{TurnRank}
 use Rattle.rank_slots.specs.Chronicles.{chronicle}
 use Rattle.rank_slots.specs.Names.{Mark, history, note, plate}
 use Rattle.rank_slots.specs.Steps.{IsIdle, Made}

@@ -5,7 +5,7 @@ ghost use Rattle.turn_table.specs.declared.views.HandView.{HandView};
 ghost use Rattle.turn_table.specs.Hands.{IsFree, IsHandOf, Took};
 ghost use Rattle.turn_table.specs.Views.{after_busy};
 ghost use Rattle.plan_calls.specs.Lanes.{is_used_lane};
-ghost use Rattle.rank_slots.specs.declared.slot.TurnRank.{TurnRank};
+ghost use Rattle.rank_slots.specs.declared.turn_rank.TurnRank.{TurnRank};
 ghost use Rattle.rank_threads.specs.Fabrics.{HasTaken};
 ghost use Rattle.rank_slots.specs.Chronicles.{chronicle};
 ghost use Rattle.rank_slots.specs.Names.{Mark, mark, plate};
@@ -15,7 +15,7 @@ ghost use Rattle.rank_threads.specs.Turns.{Followed, MayEnd, Turned};
 
 use crate::fabric::{Fabric, Hand};
 use ptl_types::{Lane, LocalStep, Rank};
-use rank_slots::{Gate, StartAnswer, TurnRank};
+use rank_slots::{Gate, Network, StartAnswer, TurnRank};
 use std::sync::Wait;
 use turn_table::Turn;
 
@@ -29,7 +29,7 @@ impl<G: Gate + Drop> Fabric<G> {
         let _ = self.ranks;
         let turn = self.turns.take(rt, hand, rank);
         // What every node keeps is told here.
-        let _ = turn.value.node.history();
+        turn.value.node.recall_history();
         turn
     }
 
@@ -46,7 +46,7 @@ impl<G: Gate + Drop> Fabric<G> {
             return None;
         };
         // What every node keeps is told here.
-        let _ = turn.value.node.history();
+        turn.value.node.recall_history();
         Some(turn)
     }
 
@@ -61,7 +61,7 @@ impl<G: Gate + Drop> Fabric<G> {
     {
         let _ = self.ranks;
         // What every node keeps is told here.
-        let _ = turn.value.node.history();
+        turn.value.node.recall_history();
         self.turns.give(hand, turn);
     }
 
@@ -81,7 +81,11 @@ impl<G: Gate + Drop> Fabric<G> {
     {
         let Turn { slot, value } = self.take(rt, hand, rank);
         let mut value = value;
-        let made = value.step(rt, &self.wires, &self.mail, &self.gate);
+        let network = Network {
+            wires: &self.wires,
+            mail: &self.mail,
+        };
+        let made = value.step(rt, network, &self.gate);
         self.give(hand, Turn { slot, value });
         made
     }
@@ -100,7 +104,11 @@ impl<G: Gate + Drop> Fabric<G> {
             return None;
         };
         let mut value = value;
-        let made = value.follow_hints(rt, &self.wires, &self.mail, &self.gate);
+        let network = Network {
+            wires: &self.wires,
+            mail: &self.mail,
+        };
+        let made = value.follow_hints(rt, network, &self.gate);
         self.give(hand, Turn { slot, value });
         made
     }
@@ -130,7 +138,11 @@ impl<G: Gate + Drop> Fabric<G> {
     {
         let Turn { slot, value } = self.take(rt, hand, rank);
         let mut value = value;
-        let number = value.fire_one(rt, &self.wires, &self.mail, &self.gate);
+        let network = Network {
+            wires: &self.wires,
+            mail: &self.mail,
+        };
+        let number = value.fire_one(rt, network, &self.gate);
         self.give(hand, Turn { slot, value });
         number
     }
@@ -154,7 +166,11 @@ impl<G: Gate + Drop> Fabric<G> {
     {
         let Turn { slot, value } = self.take(rt, hand, target);
         let mut value = value;
-        let moved = value.deliver(rt, &self.wires, &self.mail, &self.gate, source, lane);
+        let network = Network {
+            wires: &self.wires,
+            mail: &self.mail,
+        };
+        let moved = value.deliver(rt, network, &self.gate, source, lane);
         self.give(hand, Turn { slot, value });
         moved
     }

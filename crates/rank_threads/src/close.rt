@@ -16,7 +16,7 @@ ghost use Rattle.worlds.specs.FrameLends.{with_lane};
 ghost use Rattle.worlds.specs.Frames.{frame_lane, lane_in};
 ghost use Rattle.worlds.specs.Standing.{IsStanding};
 ghost use Rattle.worlds.specs.World.{AreSlots, histories_in};
-ghost use Rattle.rank_slots.specs.declared.slot.TurnRank.{TurnRank};
+ghost use Rattle.rank_slots.specs.declared.turn_rank.TurnRank.{TurnRank};
 ghost use Rattle.rank_threads.specs.Closing.{IsLifted, IsWorldOf};
 ghost use Rattle.rank_slots.specs.Lanes.{AreLanes, IsLane};
 ghost use Rattle.rank_slots.specs.Lists.{Each};
@@ -90,7 +90,7 @@ fn take_nodes(slots: Vec<TurnRank>, room: Vec<Node>) -> Vec<Node>
         let TurnRank { node, .. } = slot;
         let node = Box::into_inner(node);
         // What every node keeps is told here.
-        let _ = node.history();
+        node.recall_history();
         nodes.push_reserved(node);
     }
     nodes

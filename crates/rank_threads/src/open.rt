@@ -10,7 +10,7 @@ ghost use Rattle.rank_slots.specs.Sound.{IsSound};
 use crate::fabric::{Fabric, Hand};
 use pair_wires::Wire;
 use ptl_types::NoMemory;
-use rank_slots::{Gate, Mail, TurnRank, sound};
+use rank_slots::{Gate, Mail, TurnRank, recall_soundness};
 use rank_wiring::wired_slots;
 use schedule_compiler::Job;
 use std::alloc::Global;
@@ -93,7 +93,7 @@ impl<G: Gate + Drop> Fabric<G> {
         ensures hands { IfOk result (λ r. (length r.1.items ≡ hands) × All (λ h. IsNew r.0.turns h) r.1.items ×
             (parts_of r.1.items ≡ 2 ^ 32)) }
     {
-        sound(job);
+        recall_soundness(job);
         let ranks = job.schedule().ranks();
         let shared = job.share()?;
         let (slots, wires, frame) = framed_slots(rt, alloc, job, hands)?;

@@ -17,7 +17,7 @@ ghost use Rattle.rank_threads.specs.Resting.{AreFrontsOf};
 use crate::close::SpentWires;
 use crate::fabric::{Fabric, Hand};
 use cuts::rest::one_wave;
-use rank_slots::{Gate, sound};
+use rank_slots::{Gate, recall_soundness};
 use rest_probe::Wave;
 use std::sync::Wait;
 use worlds::World;
@@ -41,7 +41,7 @@ impl<G: Gate + Drop> Fabric<G> {
             histories_in result.0 r ≡ fronts r }
     {
         // What every job is, and the law of one wave, are told here.
-        sound(&self.job);
+        recall_soundness(&self.job);
         one_wave();
         let _wave = wave;
         self.close_keeping(rt, hands)

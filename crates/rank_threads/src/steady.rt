@@ -8,7 +8,7 @@ ghost use Rattle.rest_probe.specs.declared.answers.WaveAnswer.TheVariants.{Rest}
 ghost use Rattle.rest_probe.specs.Answered.{Answered};
 ghost use Rattle.rest_probe.specs.Waves.{AllThere, IsFor};
 ghost use Rattle.turn_table.specs.Hands.{IsFree, parts_of};
-ghost use Rattle.rank_slots.specs.declared.slot.TurnRank.{TurnRank};
+ghost use Rattle.rank_slots.specs.declared.turn_rank.TurnRank.{TurnRank};
 ghost use Rattle.rank_threads.specs.Resting.{AreFronts, Led};
 ghost use Rattle.turn_table.specs.States.{HandState};
 ghost use denote.Param.Send.{IsSync};
@@ -43,7 +43,7 @@ impl<G: Gate + Drop> Fabric<G> {
         }
     }
 
-    // RankOps until a sweep makes no step, and then makes a wave of probes, until a wave has found the job at rest. Then the others are
+    // Works until a sweep makes no step, and then makes a wave of probes, until a wave has found the job at rest. Then the others are
     // told to end.
     fn lead<R: Wait>(&self, rt: &R, hand: &mut Hand, wave: &mut Wave, end: Rank, done: &AtomicBool)
         requires hand { IsFree self.now.turns hand.old }
@@ -70,11 +70,11 @@ impl<G: Gate + Drop> Fabric<G> {
         ensures hand { IsFree self.now.turns hand.new }
         ensures parts { hand.new.knows.parts ≡ hand.old.knows.parts }
     {
-        self.settle_all(rt, hand, first, end);
+        self.visit_all(rt, hand, first, end);
         self.sweep(rt, hand, first)
     }
 
-    // RankOps until it is told to end, or has made so many sweeps in a row without a step. No clause says so: where it does nothing, the
+    // Works until it is told to end, or has made so many sweeps in a row without a step. No clause says so: where it does nothing, the
     // first worker makes all steps.
     fn assist<R: Wait>(&self, rt: &R, hand: &mut Hand, first: Rank, end: Rank, done: &AtomicBool)
         requires hand { IsFree self.now.turns hand.old }
@@ -180,7 +180,7 @@ fn run_all<G: Gate + Drop, R: Threads + Wait + Sync>(
 /// The call may wait for ever.
 ///
 /// What the others do is said by no clause: they make steps until the first one tells them to end, or until a thousand sweeps in a row
-/// made none. Where no thread can be started the first one rank_ops alone, and the others then end at once.
+/// made none. Where no thread can be started the first one works alone, and the others then end at once.
 pub fn run_steady<G: Gate + Drop, R: Threads + Wait + Sync>(
     rt: &R,
     fabric: &Fabric<G>,

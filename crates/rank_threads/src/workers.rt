@@ -113,7 +113,7 @@ impl<G: Gate + Drop> Fabric<G> {
 
     // Visits the worker's own ranks, from `first` to before `end`, until a round over them makes no step. Then a rank seldom moves from
     // one core to another.
-    fn settle<R: Wait>(&self, rt: &R, hand: &mut Hand, first: Rank, end: Rank)
+    fn visit_own<R: Wait>(&self, rt: &R, hand: &mut Hand, first: Rank, end: Rank)
         requires hand { IsFree self.now.turns hand.old }
         requires end { end ≤ self.now.job.schedule.plan.ranks }
         ensures hand { IsFree self.now.turns hand.new }
@@ -129,7 +129,7 @@ impl<G: Gate + Drop> Fabric<G> {
 
     /// Makes steps as the hints lead, until there is no word for a rank and nobody is at work who may leave some. It visits its own ranks,
     /// from `first` to before `end`, before all. That no step is left isn't said: hints are guesses. It may wait for ever.
-    pub fn settle_all<R: Wait>(&self, rt: &R, hand: &mut Hand, first: Rank, end: Rank)
+    pub fn visit_all<R: Wait>(&self, rt: &R, hand: &mut Hand, first: Rank, end: Rank)
         requires hand { IsFree self.now.turns hand.old }
         requires end { end ≤ self.now.job.schedule.plan.ranks }
         ensures hand { IsFree self.now.turns hand.new }
@@ -145,7 +145,7 @@ impl<G: Gate + Drop> Fabric<G> {
                 continue;
             }
             self.mail.begin();
-            self.settle(rt, hand, first, end);
+            self.visit_own(rt, hand, first, end);
             let worked = self.round(rt, hand, 0, self.ranks);
             self.mail.end();
             if !worked {
@@ -168,7 +168,7 @@ impl<G: Gate + Drop> Fabric<G> {
         ensures parts { hand.new.knows.parts ≡ hand.old.knows.parts }
     {
         for _ in rt.forever() {
-            self.settle_all(rt, hand, first, end);
+            self.visit_all(rt, hand, first, end);
             if !self.sweep(rt, hand, first) {
                 return;
             }

@@ -4,7 +4,7 @@ use mathlib.Core.Option.{some-injective}
 use Rattle.cuts.specs.histories.System.{Histories}
 use Rattle.turn_table.specs.Hands.{IsFree, parts_of}
 use Rattle.turn_table.specs.States.{HandState}
-use Rattle.rank_slots.specs.declared.slot.TurnRank.{TurnRank}
+use Rattle.rank_slots.specs.declared.turn_rank.TurnRank.{TurnRank}
 use Rattle.rank_threads.specs.Resting.{AreFronts}
 use Rattle.rank_threads.proofs.Hands.{all-cons, all-first, all-rest, sum-cons}
 use Rattle.rank_threads.proofs.steady.run_steady.Goals as goal

@@ -1,7 +1,7 @@
 use Rattle.std.proofs.Common.{◌≡◌, ◌++◌, ◌∙◌, All, List, ap, drop, length, subst, sym, take}
 use Rattle.turn_table.specs.Hands.{IsFree, parts_of}
 use Rattle.turn_table.specs.States.{HandState}
-use Rattle.rank_slots.specs.declared.slot.TurnRank.{TurnRank}
+use Rattle.rank_slots.specs.declared.turn_rank.TurnRank.{TurnRank}
 use Rattle.rank_threads.specs.Fabrics.{HasSwept}
 use Rattle.rank_slots.proofs.Snocs.{written}
 use Rattle.rank_threads.proofs.workers.run_keeping.Goals as goal

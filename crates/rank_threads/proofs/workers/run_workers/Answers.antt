@@ -2,7 +2,7 @@ use denote.Param.Send.{IsSync, sendable}
 use Rattle.std.proofs.Common.{arith, rules}
 use Rattle.std.proofs.Crossing.{crosses}
 use Rattle.turn_table.specs.States.{HandState}
-use Rattle.rank_slots.specs.declared.slot.TurnRank.{TurnRank}
+use Rattle.rank_slots.specs.declared.turn_rank.TurnRank.{TurnRank}
 use Rattle.rank_threads.proofs.Parts.{sum-each}
 use Rattle.rank_threads.proofs.Sent.{fabric-sync, hand-send}
 use Rattle.rank_threads.proofs.workers.run_workers.Goals as goal

@@ -12,7 +12,7 @@ use Rattle.rank_node.specs.Node.{NodeState}
 use Rattle.worlds.specs.Frames.{frame_lane}
 use Rattle.worlds.specs.parts.Layout.{lane_at}
 use Rattle.worlds.proofs.Ends.{barriers_in}
-use Rattle.rank_slots.specs.declared.slot.TurnRank.{TurnRank}
+use Rattle.rank_slots.specs.declared.turn_rank.TurnRank.{TurnRank}
 use Rattle.rank_threads.specs.Closing.{IsLifted, IsWorldOf}
 use Rattle.rank_threads.specs.Fabrics.{FabricState, IsNamed}
 use Rattle.rank_slots.specs.Lanes.{AreLanes}
@@ -68,13 +68,13 @@ pub into_world-world-requires : goal.into_world-world-requires
 into_world-world-requires g c =
     let s = c.self.inside in let k = c.self.invariant in let e = c.close-slots.ensures in let v = c.lift_wires.ensures in let t =
     c.take_nodes-nodes.ensures in
-    let now = c.deref_mut.result.now in let last = c.lift_wires.new.slots in let f = c.lift_wires.new.frame in let nodes =
+    let lent = c.deref_mut.result.now in let last = c.lift_wires.new.slots in let f = c.lift_wires.new.frame in let nodes =
     c.take_nodes-nodes.result.items in
     let slots : take c.close-slots.result.len (last ++ drop (length last) c.close-slots.result.items) ≡ last =
     written c.close-slots.result.len last _ (sym (v.count ∙ c.deref_mut.ensures.len)) in
     let is : nodes ≡ map (λ (x : TurnRank). x.node.value) last = t.nodes
     ∙ ap (λ (l : List TurnRank). map (λ (x : TurnRank). x.node.value) l) slots in
-    let many : length now ≡ s.job.schedule.plan.ranks = ap (λ (l : List TurnRank). length l) c.deref_mut.ensures.value
+    let many : length lent ≡ s.job.schedule.plan.ranks = ap (λ (l : List TurnRank). length l) c.deref_mut.ensures.value
     ∙ (e.length ∙ k.fabric.count) in
     let size : length nodes ≡ s.job.schedule.plan.ranks = as-many last nodes is ∙ (v.count ∙ many) in
     let same : f.schedule ≡ s.job.schedule = v.schedule ∙ k.frame_is.schedule in
@@ -83,11 +83,11 @@ into_world-world-requires g c =
     (named-left s.job s.wires.items s.turns.start c.close-slots.result.items e.length k.fabric.named
     (λ r x y a b. (e.values r x a).named y b)) in
     may-frame s.job f nodes same (v.inputs ∙ k.frame_is.inputs)
-    (may-close s.job k.fabric.sound now s.wires.items nodes f.lanes size
+    (may-close s.job k.fabric.sound lent s.wires.items nodes f.lanes size
     (λ r h. kept-at nodes t.kept r (omega (arith, h, size)))
-    (λ r h. node-of-slot now last nodes v.nodes v.count is r (omega (arith, h, many)))
+    (λ r h. node-of-slot lent last nodes v.nodes v.count is r (omega (arith, h, many)))
     named k.fabric.lanes
-    (λ i w at. subst (λ (o : ScheduleOf). IsLifted w.bounds now
+    (λ i w at. subst (λ (o : ScheduleOf). IsLifted w.bounds lent
     (lane_at f.lanes (lane_place o.plan.ranks w.bounds.source w.bounds.target w.bounds.lane))) same
     (v.lifted i w (ap (λ (l : List WireState). get_elem? l i) c.deref.ensures.value ∙ at)))
     (λ q d lane hq hd none.
@@ -101,13 +101,13 @@ pub returns-clause-world : goal.returns-clause-world
 returns-clause-world g c =
     let s = c.self.inside in let k = c.self.invariant in let e = c.close-slots.ensures in let v = c.lift_wires.ensures in let t =
     c.take_nodes-nodes.ensures in
-    let now = c.deref_mut.result.now in let last = c.lift_wires.new.slots in let f = c.lift_wires.new.frame in let nodes =
+    let lent = c.deref_mut.result.now in let last = c.lift_wires.new.slots in let f = c.lift_wires.new.frame in let nodes =
     c.take_nodes-nodes.result.items in
     let slots : take c.close-slots.result.len (last ++ drop (length last) c.close-slots.result.items) ≡ last =
     written c.close-slots.result.len last _ (sym (v.count ∙ c.deref_mut.ensures.len)) in
     let is : nodes ≡ map (λ (x : TurnRank). x.node.value) last = t.nodes
     ∙ ap (λ (l : List TurnRank). map (λ (x : TurnRank). x.node.value) l) slots in
-    let many : length now ≡ s.job.schedule.plan.ranks = ap (λ (l : List TurnRank). length l) c.deref_mut.ensures.value
+    let many : length lent ≡ s.job.schedule.plan.ranks = ap (λ (l : List TurnRank). length l) c.deref_mut.ensures.value
     ∙ (e.length ∙ k.fabric.count) in
     let w = c.into_world-world.ensures in
     let same : f.schedule ≡ s.job.schedule = v.schedule ∙ k.frame_is.schedule in
@@ -118,7 +118,7 @@ returns-clause-world g c =
       strays = w.strays;
       spare = w.spare;
       ranks = λ r h.
-          (let x = node-of-slot now last nodes v.nodes v.count is r (omega (arith, h, many)) in record {
+          (let x = node-of-slot lent last nodes v.nodes v.count is r (omega (arith, h, many)) in record {
             slot = x.slot;
             history_is = ap (λ (z : Scene). z.world r) w.scene ∙ ap (λ (n : NodeState). n.diary.locals) x.node_is;
             left = left-history s.turns.start c.args.hands.items r x.slot

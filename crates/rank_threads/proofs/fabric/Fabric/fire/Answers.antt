@@ -25,7 +25,7 @@ give-requires-clause-taken g c = λ _ _. let t = c.take-slot in let m = c.fire_o
 
 pub returns-clause-fired : goal.returns-clause-fired
 returns-clause-fired g c = let t = c.take-slot in let m = c.fire_one-number in let x = t.result.value in let y = m.new.self in
-    let f = subst (λ (f : FabricState). IsFabric f.job f.turns.start f.wires) c.self.view_is c.self.invariant.fabric in let now =
+    let f = subst (λ (f : FabricState). IsFabric f.job f.turns.start f.wires) c.self.view_is c.self.invariant.fabric in let fabric =
     c.args.self.now in
     let took = subst (λ k. Took chronicle plate c.args.hand.now.knows k x t.new.hand.knows) (sym t.ensures.slot) t.ensures.took in
     let one = subst (λ k. Turned c.args.hand.now.knows c.give.new.hand.knows k (mark x) (mark y)) t.ensures.slot
@@ -33,7 +33,7 @@ returns-clause-fired g c = let t = c.take-slot in let m = c.fire_one-number in l
       mark x,
       mark y,
       one,
-      of-history now.job t.ensures.sound now.wires f.lanes c.args.rank x t.ensures.named t.ensures.kept,
+      of-history fabric.job t.ensures.sound fabric.wires f.lanes c.args.rank x t.ensures.named t.ensures.kept,
       fired-told m.result x y m.ensures.some m.ensures.none
-          (λ h. not-fired now.job t.ensures.sound now.wires f.lanes c.args.rank x t.ensures.named y t.ensures.kept h.0 h.1),
+          (λ h. not-fired fabric.job t.ensures.sound fabric.wires f.lanes c.args.rank x t.ensures.named y t.ensures.kept h.0 h.1),
     )

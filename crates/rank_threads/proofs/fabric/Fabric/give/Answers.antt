@@ -1,7 +1,7 @@
 use Rattle.std.proofs.Common.{◌^◌, ◌<◌, ap, subst, sym}
 use Rattle.turn_table.specs.declared.views.HandView.{HandView}
 use Rattle.rank_node.specs.Node.{IsNode}
-use Rattle.rank_slots.specs.declared.slot.TurnRank.{TurnRank}
+use Rattle.rank_slots.specs.declared.turn_rank.TurnRank.{TurnRank}
 use Rattle.rank_slots.proofs.Budget.{short-history}
 use Rattle.rank_slots.proofs.Chronicles.{as-long}
 use Rattle.rank_threads.proofs.Turns.{turned}
@@ -15,7 +15,7 @@ give-requires-clause-turn g c = let t = c.requires.taken in let s = c.args.turn.
   named = t.named;
   short = subst (λ n. n < 2 ^ 62) (sym (as-long s))
       (short-history s.job.schedule.plan s.job.inputs c.requires.sound.plan s.node.value s.tied.compiled
-      (subst IsNode c.deref.ensures c.history.ensures.kept) s.tied.strays);
+      (subst IsNode c.deref.ensures c.recall_history.ensures.kept) s.tied.strays);
 }
 
 pub returns-clause-turned : goal.returns-clause-turned

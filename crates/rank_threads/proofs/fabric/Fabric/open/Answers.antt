@@ -2,7 +2,7 @@ use Rattle.std.proofs.Common.{arith, ◌≡◌, ℕ, List, length, map, sym, ap,
 use mathlib.Core.Option.{some}
 use lib.ListN.{get_elem?}
 use Rattle.schedule_compiler.specs.Schedules.{ScheduleOf}
-use Rattle.rank_slots.specs.declared.slot.TurnRank.{TurnRank}
+use Rattle.rank_slots.specs.declared.turn_rank.TurnRank.{TurnRank}
 use Rattle.schedule_compiler.specs.Jobs.{JobOf}
 use Rattle.worlds.specs.Frames.{IsFrameOf}
 use Rattle.rank_slots.specs.Chronicles.{chronicle, entry}

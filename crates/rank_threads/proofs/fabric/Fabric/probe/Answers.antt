@@ -21,12 +21,12 @@ pub note_in-requires-clause-rank : goal.note_in-requires-clause-rank
 note_in-requires-clause-rank g c = let n = c.requires.lanes.count in let r = c.requires.rank in omega (arith, n, r)
 
 pub note_in-requires-clause-outs : goal.note_in-requires-clause-outs
-note_in-requires-clause-outs g c = let t = c.take-slot in let now = c.args.self.now in
-    has-out now.job t.ensures.sound now.wires t.ensures.lanes c.args.rank t.result.value t.ensures.named c.args.wave.now c.requires.lanes
+note_in-requires-clause-outs g c = let t = c.take-slot in let fabric = c.args.self.now in
+    has-out fabric.job t.ensures.sound fabric.wires t.ensures.lanes c.args.rank t.result.value t.ensures.named c.args.wave.now c.requires.lanes
 
 pub note_in-requires-clause-ins : goal.note_in-requires-clause-ins
-note_in-requires-clause-ins g c = let t = c.take-slot in let now = c.args.self.now in
-    has-in now.job t.ensures.sound now.wires t.ensures.lanes c.args.rank t.result.value t.ensures.named c.args.wave.now c.requires.lanes
+note_in-requires-clause-ins g c = let t = c.take-slot in let fabric = c.args.self.now in
+    has-in fabric.job t.ensures.sound fabric.wires t.ensures.lanes c.args.rank t.result.value t.ensures.named c.args.wave.now c.requires.lanes
 
 pub give-requires-clause-sound : goal.give-requires-clause-sound
 give-requires-clause-sound g c = λ _ _. subst IsSound (sym c.take-slot.ensures.named.job_is) c.take-slot.ensures.sound
@@ -37,7 +37,7 @@ give-requires-clause-taken g c = λ _ _. let t = c.take-slot in let x = t.result
     ([], append-nil (history x)) (keeps-still x x refl)
 
 pub returns-clause-noted : goal.returns-clause-noted
-returns-clause-noted g c = let t = c.take-slot in let x = t.result.value in let now = c.args.self.now in let w = c.args.wave.now in
+returns-clause-noted g c = let t = c.take-slot in let x = t.result.value in let fabric = c.args.self.now in let w = c.args.wave.now in
     let r = c.args.rank in
     let took = subst (λ k. Took chronicle plate c.args.hand.now.knows k x t.new.hand.knows) (sym t.ensures.slot) t.ensures.took in
     let one = subst (λ k. Turned c.args.hand.now.knows c.give.new.hand.knows k (mark x) (mark x)) t.ensures.slot
@@ -49,8 +49,8 @@ returns-clause-noted g c = let t = c.take-slot in let x = t.result.value in let 
       λ z at. (let same = same_at (slice_set w r e.0) r e.0 z (set_here w r e.0 low) (ap (λ (l : List RankNote). get_elem? l r) (sym e.1)
           ∙ at) in (
             sym (ap (λ (v : RankNote). v.there) same) ∙ e.2.there,
-            subst (λ (v : RankNote). Says now.job r (history x) x.node.value.kept v.note) same
-                (says now.job t.ensures.sound now.wires t.ensures.lanes r x t.ensures.named w c.requires.lanes y.0 e.0 t.ensures.kept e.2),
+            subst (λ (v : RankNote). Says fabric.job r (history x) x.node.value.kept v.note) same
+                (says fabric.job t.ensures.sound fabric.wires t.ensures.lanes r x t.ensures.named w c.requires.lanes y.0 e.0 t.ensures.kept e.2),
           )),
     )
 

@@ -10,13 +10,13 @@ use Rattle.rank_slots.proofs.Pairs.{at_map_back, within}
 use Rattle.rank_threads.proofs.fabric.Fabric.probe_all.Goals as goal
 
 pub loop-rank-init : goal.loop-rank-init
-loop-rank-init g c = let now = c.args.self.now in let p = now.job.schedule.plan in record {
+loop-rank-init g c = let fabric = c.args.self.now in let p = fabric.job.schedule.plan in record {
   hand = c.requires.hand;
   parts = refl;
   lanes = subst (IsFor p) (sym c.clear.ensures) (for-emptied p c.args.wave.now c.requires.lanes);
   there = λ r x low at. absurd (omega (arith, low));
-  noted = none-noted now.job c.args.hand.now.knows c.clear.new.self;
-  later = λ r x low at. (let z = at_map_back (λ (v : RankNote). record v { there = false }) c.args.wave.now r x
+  noted = none-noted fabric.job c.args.hand.now.knows c.clear.new.self;
+  unnoted = λ r x low at. (let z = at_map_back (λ (v : RankNote). record v { there = false }) c.args.wave.now r x
       (ap (λ (l : List RankNote). get_elem? l r) (sym c.clear.ensures) ∙ at) in
       ap (λ (v : RankNote). v.there) (sym z.2));
 }
@@ -26,7 +26,7 @@ probe-requires-clause-rank g c = let k = c.self.invariant.ranks_are in
     let e = ap (λ (f : FabricState). f.job.schedule.plan.ranks) c.self.view_is in let t = c.loop-rank-test.true in omega (arith, t, k, e)
 
 pub probe-requires-clause-empty : goal.probe-requires-clause-empty
-probe-requires-clause-empty g c = λ _ _ x at. c.loop-rank.invariant.later c.loop-rank.rank x (omega arith) at
+probe-requires-clause-empty g c = λ _ _ x at. c.loop-rank.invariant.unnoted c.loop-rank.rank x (omega arith) at
 
 pub loop-rank-preserved : goal.loop-rank-preserved
 loop-rank-preserved g c = let i = c.loop-rank.invariant in let e = c.probe.ensures in let rank = c.loop-rank.rank in let z =
@@ -39,7 +39,7 @@ loop-rank-preserved g c = let i = c.loop-rank.invariant in let e = c.probe.ensur
           (λ (apart : r ≢ rank). i.there r x (omega (arith, low, apart)) (sym (e.others r apart) ∙ at)) (cases_eq r rank);
       noted = more-noted c.args.self.now.job c.loop-rank.hand.knows c.probe.new.hand.knows rank e.noted.0 c.loop-rank.wave z e.noted.1
           e.noted.2 e.others i.noted;
-      later = λ r x high at. i.later r x (omega (arith, high)) (sym (e.others r (λ is. omega (arith, is, high))) ∙ at);
+      unnoted = λ r x high at. i.unnoted r x (omega (arith, high)) (sym (e.others r (λ is. omega (arith, is, high))) ∙ at);
     }
 
 pub returns-clause-all : goal.returns-clause-all

@@ -15,5 +15,5 @@ invariant-loop-rank g l = record {
   lanes : IsFor l.self.job.schedule.plan l.wave;
   there : (r : ℕ) (x : RankNote) → r < l.rank → get_elem? l.wave r ≡ some x → x.there ≡ true;
   noted : AreNoted l.self.job l.hand.knows l.rank l.wave;
-  later : (r : ℕ) (x : RankNote) → l.rank ≤ r → get_elem? l.wave r ≡ some x → x.there ≡ false;
+  unnoted : (r : ℕ) (x : RankNote) → l.rank ≤ r → get_elem? l.wave r ≡ some x → x.there ≡ false;
 }

@@ -4,5 +4,5 @@ use Rattle.rank_threads.proofs.fabric.Fabric.run.Goals as goal
 pub loop-preserved : goal.loop-preserved
 loop-preserved g c = record {
   hand = c.sweep.ensures.hand;
-  parts = c.sweep.ensures.parts ∙ (c.settle_all.ensures.parts ∙ c.loop.invariant.parts);
+  parts = c.sweep.ensures.parts ∙ (c.visit_all.ensures.parts ∙ c.loop.invariant.parts);
 }

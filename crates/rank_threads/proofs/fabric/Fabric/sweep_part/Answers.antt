@@ -7,7 +7,7 @@ use Rattle.rank_threads.proofs.fabric.Fabric.sweep_part.Goals.{then-work, else-w
 
 -- one rank more
 more : (P Q : ℕ → Type 0) (n r : ℕ) → (r < n → P r) → (r ≢ n → P r → Q r) → Q n → r < n + 1 → Q r
-more P Q n r below keep here h = ⊎_elim (λ (e : r ≡ n). subst Q (sym e) here)
+more P Q n r below keep at_n h = ⊎_elim (λ (e : r ≡ n). subst Q (sym e) at_n)
     (λ (apart : r ≢ n). keep apart (below (omega (arith, apart, h)))) (cases_eq r n)
 
 -- one that isn't between is another

@@ -9,5 +9,5 @@ pub returns : goal.returns
 returns g c =
     has-taken c.args.self.now (subst (λ (f : FabricState). IsFabric f.job f.turns.start f.wires) c.self.view_is c.self.invariant.fabric)
     c.args.hand.now c.args.rank c.take-turn.result _ c.requires.rank c.requires.hand c.take-turn.ensures.taken.0
-    (subst IsNode c.deref.ensures c.history.ensures.kept)
+    (subst IsNode c.deref.ensures c.recall_history.ensures.kept)
     (subst (λ (f : FabricState). IsHandOf f.turns c.take-turn.new.hand) c.self.view_is c.take-turn.ensures.hand) c.take-turn.ensures.taken.1

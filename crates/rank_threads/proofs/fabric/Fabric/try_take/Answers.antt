@@ -10,6 +10,6 @@ returns-clause-some g c =
     let t = c.in-Some.ensures in
     has-taken c.args.self.now (subst (λ (f : FabricState). IsFabric f.job f.turns.start f.wires) c.self.view_is c.self.invariant.fabric)
     c.args.hand.now c.args.rank c.in-Some.turn _ c.requires.rank c.requires.hand t.taken.0
-    (subst IsNode c.deref.ensures c.history.ensures.kept)
+    (subst IsNode c.deref.ensures c.recall_history.ensures.kept)
     (subst (λ (f : FabricState). IsHandOf f.turns c.try_take.new.hand) c.self.view_is t.hand)
     (record { tried = c.args.hand.now.knows; alike = refl; elsewhere = λ j other. refl; taken = t.taken.1; found = t.found })

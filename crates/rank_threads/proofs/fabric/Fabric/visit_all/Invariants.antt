@@ -1,6 +1,6 @@
 use Rattle.std.proofs.Common.{◌≡◌}
 use Rattle.turn_table.specs.Hands.{IsFree}
-use Rattle.rank_threads.proofs.fabric.Fabric.settle_all.Given as goal
+use Rattle.rank_threads.proofs.fabric.Fabric.visit_all.Given as goal
 
 abbrev pub invariant-loop : goal.invariant-loop
 invariant-loop g l = record {
