@@ -13,7 +13,7 @@ use Rattle.cuts.specs.orders.Reached.{IsReached}
 use Rattle.job_laws.specs.Results.{AreMeant}
 use Rattle.turn_table.specs.Hands.{parts_of}
 use Rattle.turn_table.specs.States.{HandState}
-use Rattle.rank_slots.specs.declared.slot.TurnRank.{TurnRank}
+use Rattle.rank_slots.specs.declared.turn_rank.TurnRank.{TurnRank}
 use Rattle.rank_wiring.specs.Opening.{AllFresh}
 use Rattle.rank_threads.specs.Closing.{IsWorked, IsWorldOf}
 use Rattle.rank_threads.specs.Fabrics.{FabricState}

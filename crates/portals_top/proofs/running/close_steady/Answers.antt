@@ -3,7 +3,7 @@ use mathlib.Core.Option.{some}
 use lib.ListN.{get_elem?}
 use Rattle.turn_table.specs.Hands.{IsFree, parts_of}
 use Rattle.turn_table.specs.States.{HandState}
-use Rattle.rank_slots.specs.declared.slot.TurnRank.{TurnRank}
+use Rattle.rank_slots.specs.declared.turn_rank.TurnRank.{TurnRank}
 use Rattle.rank_slots.proofs.Pairs.{exists_at}
 use Rattle.rank_slots.proofs.Snocs.{written}
 use Rattle.portals_top.proofs.running.close_steady.Goals as goal
