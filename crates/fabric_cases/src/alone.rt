@@ -204,7 +204,7 @@ fn left_by_hints<R: Wait>(
     ensures hand { IsFree fabric.now.turns hand.new }
     ensures parts { hand.new.knows.parts ≡ hand.old.knows.parts }
 {
-    fabric.settle_all(rt, hand, 0, 2);
+    fabric.visit_all(rt, hand, 0, 2);
     let first = step_at(rt, fabric, hand, 0);
     let second = step_at(rt, fabric, hand, 1);
     [first, second]
