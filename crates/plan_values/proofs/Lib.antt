@@ -1,0 +1,4 @@
+pub mod Landed
+pub mod CellByCell
+pub mod Judged
+pub mod Beginning
