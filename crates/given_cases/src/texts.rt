@@ -66,9 +66,10 @@ fn a_whole_text(rt: HostRuntime) -> Result<(), Fail> {
         enter 1 3 1\n\
         end\n";
     let given = read(alloc, &d, text)?;
-    assert!(rt; given.ranks() == 1 && given.remote());
-    let cells = given.cells();
-    let links = given.links();
+    let plan = given.plan();
+    assert!(rt; plan.ranks() == 1 && plan.remote());
+    let cells = plan.cells();
+    let links = plan.links();
     assert!(rt; cells.len() == 3 && links.len() == 1);
     let cell = cells[1];
     assert!(rt; cell.ty == ElemType::I64 && cell.op == Some(AtomicOp::Bxor));

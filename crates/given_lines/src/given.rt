@@ -2,7 +2,7 @@
 
 ghost use Rattle.std.specs.Prelude.{◌≡◌};
 
-use plan_core::{Cell, Link};
+use plan_core::Plan;
 use ptl_types::Rank;
 use std::marker::Model;
 
@@ -52,50 +52,25 @@ pub enum Mark {
 /// A plan, with what stands in its text after it.
 #[derive(Debug, Drop)]
 pub struct GivenPlan {
-    pub(crate) ranks: u32,
-    pub(crate) remote: bool,
-    pub(crate) cells: Vec<Cell>,
-    pub(crate) links: Vec<Link>,
+    pub(crate) plan: Plan,
     pub(crate) done: Vec<u64>,
     pub(crate) marks: Vec<Mark>,
 }
 
 impl Model for GivenPlan {
-    ghost use Rattle.plan_core.specs.Plan.{Plan};
-    ghost use Rattle.given_lines.specs.Given.{Given, given};
+    ghost use Rattle.given_lines.specs.Given.{Given};
 
     ghost Value = { Given };
 
-    ghost view = { λ g. given g.ranks g.remote g.cells.items g.links.items g.done.items g.marks.items };
+    ghost view = { λ g. record { plan = g.plan; done = g.done.items; marks = g.marks.items } };
 }
 
 impl GivenPlan {
-    /// How many ranks there are.
-    pub fn ranks(&self) -> u32
-        ensures { result ≡ self.now.plan.ranks }
+    /// The plan. Nothing is said of it beyond its words: it need not be a sound one.
+    pub fn plan(&self) -> &Plan
+        ensures { result.now ≡ self.now.plan }
     {
-        self.ranks
-    }
-
-    /// Whether completion also waits for every acknowledgement.
-    pub fn remote(&self) -> bool
-        ensures { result ≡ self.now.plan.remote }
-    {
-        self.remote
-    }
-
-    /// The cells by their numbers.
-    pub fn cells(&self) -> &[Cell]
-        ensures { result.now ≡ self.now.plan.cells }
-    {
-        self.cells.as_slice()
-    }
-
-    /// The links by their numbers.
-    pub fn links(&self) -> &[Link]
-        ensures { result.now ≡ self.now.plan.links }
-    {
-        self.links.as_slice()
+        &self.plan
     }
 
     /// Where each rank's done counter is said to stand when it is done, by rank.

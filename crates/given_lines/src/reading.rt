@@ -14,6 +14,7 @@ use crate::rows::{cells_in, done_in, links_in};
 use crate::words::{headed, remote_of, short_of};
 use coll_shape::Buffer;
 use coll_text::{Words, number_between};
+use plan_core::Plan;
 use std::alloc::Global;
 
 /// The most links that are read.
@@ -89,12 +90,6 @@ pub fn read_given(
     let links = links_in(alloc, counts.links, &mut left)?;
     let done = done_in(alloc, ranks, &mut left)?;
     let marks = marks_in(alloc, buffers, &mut left)?;
-    Ok(GivenPlan {
-        ranks,
-        remote: counts.remote,
-        cells,
-        links,
-        done,
-        marks,
-    })
+    let plan = Plan::of(ranks, counts.remote, cells, links);
+    Ok(GivenPlan { plan, done, marks })
 }

@@ -76,4 +76,4 @@ returns c =
     (lines fourth.rest.now) (lines rest.rest.now) c.in_ok-counts.counts c.in_ok-cells.cells.items c.in_ok-links.links.items
     c.in_ok-done.done.items second.number third.number fourth.number rest.number head.0 head.1 cells.0 cells.1 links.0 links.1 done.0
     done.1 in
-    whole _ _ _ c.args.buffers.now _ _ _ _ _ _ _ c.in_ok-marks.marks.items b c.in_ok-marks.ensures
+    rw c.of-plan.ensures (whole _ _ _ c.args.buffers.now _ _ _ _ _ _ _ c.in_ok-marks.marks.items b c.in_ok-marks.ensures)
