@@ -1,6 +1,6 @@
 //! Reading a check's input.
 
-ghost use Rattle.std.specs.Prelude.{◌+◌, ◌^◌, ◌<◌, ◌≡◌, ◌≤◌, IfOk, None, length};
+ghost use Rattle.std.specs.Prelude.{◌+◌, ◌-◌, ◌^◌, ◌<◌, ◌≡◌, ◌≤◌, IfOk, None, length};
 ghost use Rattle.coll_text.specs.Text.{lines};
 ghost use Rattle.coll_lang.specs.Readable.{IsReadable};
 ghost use Rattle.coll_lang.specs.Verdicts.{Reads};
@@ -16,10 +16,10 @@ use std::alloc::Global;
 pub const LONGEST_CHECK: usize = 16_777_216;
 
 /// How many bytes the lines up to and including the first line `end` have, and the number of the line after them: all bytes,
-/// where there is no such line.
+/// where there is no such line. A description ends there.
 #[tactic(auto, using(crate::proofs::Ends::goes_on, crate::proofs::Ends::stops, crate::proofs::Ends::breaks_off))]
-fn first_end(bytes: &[u8]) -> (usize, u32)
-    requires { length bytes.now ≤ LONGEST_CHECK }
+pub fn first_end(bytes: &[u8]) -> (usize, u32)
+    requires { length bytes.now < 2 ^ 32 - 1 }
     ensures bytes { result.0 ≡ description_bytes (lines bytes.now) }
     ensures within { result.0 ≤ length bytes.now }
     ensures line { result.1 ≡ line_after 1 (lines bytes.now) }

@@ -5,5 +5,5 @@ mod checking;
 mod orders;
 mod reading;
 
-pub use checking::{LONGEST_CHECK, parse_check};
+pub use checking::{LONGEST_CHECK, first_end, parse_check};
 pub use orders::Orders;
