@@ -44,7 +44,7 @@ pub fn links_by_target(alloc: Global, plan: &Plan) -> Result<ByRank, NoMemory>
 }
 
 /// The links that come to one cell, out of the table of all.
-pub(crate) fn links_to<'a>(plan: &Plan, into: &'a ByRank, c: u32) -> &'a [u32]
+pub fn links_to<'a>(plan: &Plan, into: &'a ByRank, c: u32) -> &'a [u32]
     requires cell { c < length plan.now.cells }
     requires table { into.now ≡ map (in_links plan.now) (all_cells plan.now) }
     ensures { result.now ≡ in_links plan.now c }

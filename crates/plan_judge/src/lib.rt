@@ -19,8 +19,9 @@ mod reading;
 mod whole;
 
 pub use flaw::{CellCause, Flaw, LinkCause, PlanCause};
-pub use incoming::links_by_target;
+pub use incoming::{links_by_target, links_to};
 pub use judging::judge;
+pub use links::same_type;
 
 /// A plan has no flaw exactly where it is sound for so many inputs, takes lists of these lengths, and guards them.
 pub fn no_flaw()

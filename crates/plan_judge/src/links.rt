@@ -9,7 +9,7 @@ use plan_core::{Cell, Link, Plan};
 use ptl_types::ElemType;
 
 /// Whether two types are one.
-fn same_type(a: ElemType, b: ElemType) -> bool
+pub fn same_type(a: ElemType, b: ElemType) -> bool
     ensures { result ≡ same_type a b }
 {
     a == b
