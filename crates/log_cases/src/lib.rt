@@ -1,5 +1,9 @@
-//! The logs of devices, held against values from outside: lines with what they say.
+//! The logs of devices, held against values from outside: lines with what they say, answers with what was owed.
 #![tactic(auto)]
 
 #[cfg(test)]
+mod answers;
+#[cfg(test)]
 mod lines;
+#[cfg(test)]
+mod names;

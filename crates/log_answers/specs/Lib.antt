@@ -1,0 +1,5 @@
+pub mod Known
+pub mod Texts
+pub mod Items
+pub mod Agreement
+pub mod Printing
