@@ -10,7 +10,7 @@ import sys
 import tempfile
 
 PROGRAM = os.environ.get("PORTALS_RUN", "crates/portals_run/out/portals_run")
-MEANING = "crates/meaning_load/out/meaning_load"
+MEANING = "crates/small_programs/out/small_programs"
 
 
 def lines(*texts):
@@ -98,8 +98,8 @@ def main():
             compare(name, [PROGRAM, *words], plain_words, text, runs)
         if os.path.exists(MEANING):
             cells = (1 + 2 * 31) * 64 * 4096 * 8 / 2**20
-            peak = megabytes([MEANING], os.devnull)
-            print(f"meaning_load: {peak:.1f} MB, {peak / cells:.2f} times the {cells:.0f} MB of its cells")
+            peak = megabytes([MEANING, "meaning"], os.devnull)
+            print(f"meaning: {peak:.1f} MB, {peak / cells:.2f} times the {cells:.0f} MB of its cells")
 
 
 if __name__ == "__main__":

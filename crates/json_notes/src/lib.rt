@@ -7,6 +7,3 @@ mod items;
 mod paths;
 
 pub use explain::explain_json;
-
-#[cfg(test)]
-mod tests;

@@ -13,6 +13,3 @@ pub use fault::{DecodeError, Fault};
 
 /// How many bytes the header of a message has.
 pub const HEADER: usize = 80;
-
-#[cfg(test)]
-mod tests;

@@ -2,12 +2,12 @@
 
 use crate::comparing::{same, same_bytes};
 use crate::runs::{Left, Made, no_world, run, run_between, run_into, same_left, unread};
-use port_io::{IoTurn, IoTurns, MemorySink, MemorySource, SureSink, SureSource};
-use portals_top::Status;
-use program_texts::{
+use crate::texts::{
     BARRIER_WITH_ORDERS, ONE_RANK, ONE_RANK_IN_JSON, ONE_RANK_RESULT, THREE_STEPS, wide_ranks,
     wide_results,
 };
+use port_io::{IoTurn, IoTurns, MemorySink, MemorySource, SureSink, SureSource};
+use portals_top::Status;
 use ptl_types::Bytes;
 use std::alloc::Global;
 use std::process::Abort;

@@ -2,12 +2,12 @@
 
 use crate::comparing::{same, same_bytes};
 use crate::runs::{Made, gives, run};
-use port_io::SureSink;
-use portals_top::Status;
-use program_texts::{
+use crate::texts::{
     ALLREDUCE_AND_SCAN, ONE_RANK, ONE_RANK_IN_JSON, ONE_RANK_RESULT, STEPS_ON_GROUPS,
     sixteen_ranks, sixteen_results,
 };
+use port_io::SureSink;
+use portals_top::Status;
 use std::alloc::{AllocError, Global};
 use std::process::Abort;
 use std::sync::Wait;

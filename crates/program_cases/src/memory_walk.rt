@@ -3,9 +3,9 @@
 
 use crate::comparing::{same, same_bytes};
 use crate::runs::run_into;
+use crate::texts::{wide_ranks, wide_results};
 use port_io::{IoTurns, MemorySink};
 use portals_top::Status;
-use program_texts::{wide_ranks, wide_results};
 use ptl_types::NoMemory;
 use std::alloc::Global;
 use std::process::Abort;

@@ -2,8 +2,8 @@
 
 use crate::comparing::same;
 use crate::runs::{gives, run};
+use crate::texts::ONE_RANK;
 use portals_top::Status;
-use program_texts::ONE_RANK;
 use std::alloc::{AllocError, Global};
 use std::process::Abort;
 use std::sync::Wait;

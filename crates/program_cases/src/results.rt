@@ -1,10 +1,10 @@
 //! What `once` writes: what each rank holds in the end.
 
 use crate::runs::gives;
-use portals_top::Status;
-use program_texts::{
+use crate::texts::{
     GROUPS, GROUPS_RESULT, HELD, HELD_RESULT, ONE_RANK, ONE_RANK_RESULT, THREE_RESULTS, THREE_STEPS,
 };
+use portals_top::Status;
 use std::test::Fail;
 
 /// Texts, and what `once` writes of them.

@@ -62,7 +62,7 @@ fn run_words<S: Source, K: Sink, N: Sink>(
     left_by(status, &ran)
 }
 
-fn words_of(alloc: Global, command: &[&str]) -> Result<Vec<String>, AllocError> {
+pub(crate) fn words_of(alloc: Global, command: &[&str]) -> Result<Vec<String>, AllocError> {
     let mut words = Vec::new(alloc);
     for word in command {
         words.push(String::from_str(alloc, word)?)?;

@@ -1,6 +1,6 @@
 //! What no clause of the language's crates says: words, values and lines whose readings were found by hand; whole texts and whole JSON
-//! values with their answers, from outside; the generated description; texts with orders; sources and sinks. Here,
-//! so that those crates are proved once and not a second time with their tests.
+//! values with their answers, from outside; the generated description; texts with orders; notes of what is wrong; sources and sinks.
+//! Here, so that those crates are proved once and not a second time with their tests.
 #![tactic(auto)]
 
 #[cfg(test)]
@@ -11,6 +11,12 @@ mod ends;
 mod generated;
 #[cfg(test)]
 mod json;
+#[cfg(test)]
+mod json_places;
+#[cfg(test)]
+mod note_lines;
+#[cfg(test)]
+mod notes;
 #[cfg(test)]
 mod orders;
 #[cfg(test)]

@@ -14,6 +14,3 @@ mod standing;
 mod steps;
 
 pub use explain::{explain_fails, explain_text, line_at, plain_note};
-
-#[cfg(test)]
-mod tests;

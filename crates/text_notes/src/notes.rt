@@ -17,6 +17,3 @@ pub use forms::{FORMS, wrong_words};
 pub use line::note_text;
 pub use note::{About, Note, SHOWN, cut_word};
 pub use printable::{LONGEST, NoteLine, Printable};
-
-#[cfg(test)]
-mod tests;

@@ -5,6 +5,7 @@ ghost use mathlib.Core.List.{IsPrefix};
 ghost use Rattle.turn_table.specs.Views.{open_turn};
 ghost use Rattle.turn_table.specs.Hands.{IsFree, IsHandOf, parts_of};
 
+use crate::answers::gives;
 use std::alloc::{AllocError, Global};
 use std::sync::Wait;
 use std::test::*;
@@ -195,10 +196,10 @@ fn two_threads_fill_four_pasts(rt: HostRuntime) -> Result<(), Fail> {
         logs,
     } = fill_and_close(&rt, rt.alloc(), turns, hands)?;
     for slot in 0..4 {
-        assert_eq!(rt; logs[slot].number, [10, 20, 30, 40][slot]);
-        assert_eq!(rt; logs[slot].marks.len(), 1000);
-        assert_eq!(rt; logs[slot].count(1) as u64, first[slot]);
-        assert_eq!(rt; logs[slot].count(2) as u64, second[slot]);
+        gives!(&rt; logs[slot].number, [10, 20, 30, 40][slot]);
+        gives!(&rt; logs[slot].marks.len(), 1000);
+        gives!(&rt; logs[slot].count(1) as u64, first[slot]);
+        gives!(&rt; logs[slot].count(2) as u64, second[slot]);
     }
     Ok(())
 }
@@ -233,12 +234,12 @@ fn a_slot_is_out_until_it_is_given_back(rt: HostRuntime) -> Result<(), Fail> {
     let (turns, hands) = Turns::open(rt.alloc(), four_logs(rt.alloc())?, 2)?;
     let (mut one, mut two) = two_hands(&turns, hands);
     let first = turns.try_take(&mut one, 0).expect(&rt, "a turn");
-    assert_eq!(rt; first.value.number, 10);
-    assert!(rt; is_out(&turns, &mut two, 0));
+    gives!(&rt; first.value.number, 10);
+    gives!(&rt; is_out(&turns, &mut two, 0), true);
     give_back(&turns, &mut one, first);
     let second = turns.try_take(&mut two, 0).expect(&rt, "a turn");
-    assert_eq!(rt; second.value.number, 10);
+    gives!(&rt; second.value.number, 10);
     give_back(&turns, &mut two, second);
-    assert_eq!(rt; (one.seen(0), two.made(0)), (0, 0));
+    gives!(&rt; (one.seen(0), two.made(0)), (0, 0));
     Ok(())
 }

@@ -6,6 +6,7 @@ ghost use Rattle.ptl_types.specs.Kinds.{lane_of};
 ghost use Rattle.pair_wires.specs.Bounds.{KeepsBounds};
 ghost use Rattle.pair_wires.specs.Wires.{IsOutOf, IsInOf};
 
+use crate::answers::gives;
 use pair_wires::{Bounds, InEnd, OutEnd, PlainLane, Wire};
 use ptl_types::{Bytes, Header, Lane, Message};
 use std::alloc::Global;
@@ -92,11 +93,11 @@ fn a_full_wire_gives_the_message_back(rt: HostRuntime) -> Result<(), Fail> {
     let first = send(&rt, rt.alloc(), &wire, &mut out, 1);
     let second = send(&rt, rt.alloc(), &wire, &mut out, 2);
     let third = send(&rt, rt.alloc(), &wire, &mut out, 3);
-    assert_eq!(rt; [first, second, third], [None, None, Some(3)]);
+    gives!(&rt; [first, second, third], [None, None, Some(3)]);
     let first = receive(&rt, &wire, &mut into);
     let second = receive(&rt, &wire, &mut into);
     let third = receive(&rt, &wire, &mut into);
-    assert_eq!(rt; [first, second, third], [Some(1), Some(2), None]);
+    gives!(&rt; [first, second, third], [Some(1), Some(2), None]);
     Ok(())
 }
 
@@ -154,11 +155,9 @@ fn each_message_that_comes_out_makes_room(rt: HostRuntime) -> Result<(), Fail> {
     let first = send(&rt, rt.alloc(), &wire, &mut out, 0);
     let second = send(&rt, rt.alloc(), &wire, &mut out, 1);
     let third = send(&rt, rt.alloc(), &wire, &mut out, 2);
-    assert_eq!(rt; [first, second, third], [None, None, Some(2)]);
-    assert_eq!(rt;
-        replace_all(&rt, rt.alloc(), &wire, &mut out, &mut into),
-        200
-    );
+    gives!(&rt; [first, second, third], [None, None, Some(2)]);
+    gives!(&rt; replace_all(&rt, rt.alloc(), &wire, &mut out, &mut into),
+        200);
     Ok(())
 }
 
@@ -206,9 +205,9 @@ fn send_after_word<R: Wait>(
 #[test]
 fn after_word_of_what_came_out_no_push_is_refused(rt: HostRuntime) -> Result<(), Fail> {
     let (wire, mut out, mut into) = Wire::open(rt.alloc(), 1, requests(3))?;
-    assert_eq!(rt; send(&rt, rt.alloc(), &wire, &mut out, 5), None);
-    assert!(rt; send_after_word(&rt, rt.alloc(), &wire, &mut out, &mut into));
-    assert_eq!(rt; receive(&rt, &wire, &mut into), Some(0));
+    gives!(&rt; send(&rt, rt.alloc(), &wire, &mut out, 5), None);
+    gives!(&rt; send_after_word(&rt, rt.alloc(), &wire, &mut out, &mut into), true);
+    gives!(&rt; receive(&rt, &wire, &mut into), Some(0));
     Ok(())
 }
 
@@ -270,12 +269,10 @@ fn send_and_announce<R: Wait>(
 #[test]
 fn after_word_of_what_went_in_no_pop_finds_the_wire_empty(rt: HostRuntime) -> Result<(), Fail> {
     let (wire, mut out, mut into) = Wire::open(rt.alloc(), 5, requests(7))?;
-    assert_eq!(rt;
-        send_and_announce(&rt, rt.alloc(), &wire, &mut out, &mut into, 5),
-        5
-    );
-    assert_eq!(rt; receive(&rt, &wire, &mut into), None);
-    assert_eq!(rt; [out.sent(), into.received()], [5, 5]);
+    gives!(&rt; send_and_announce(&rt, rt.alloc(), &wire, &mut out, &mut into, 5),
+        5);
+    gives!(&rt; receive(&rt, &wire, &mut into), None);
+    gives!(&rt; [out.sent(), into.received()], [5, 5]);
     Ok(())
 }
 
@@ -286,20 +283,18 @@ fn a_message_waits_for_room(rt: HostRuntime) -> Result<(), Fail> {
     let _ = send(&rt, rt.alloc(), &wire, &mut out, 2);
     let _ = send(&rt, rt.alloc(), &wire, &mut out, 3);
     send_or_wait(&rt, rt.alloc(), &wire, &mut out, 4);
-    assert!(rt; out.waits());
-    assert_eq!(rt; out.sent(), 4);
-    assert!(rt; !wire.flush(&rt, &mut out));
-    assert_eq!(rt; receive(&rt, &wire, &mut into), Some(1));
-    assert!(rt; wire.flush(&rt, &mut out));
+    gives!(&rt; out.waits(), true);
+    gives!(&rt; out.sent(), 4);
+    gives!(&rt; wire.flush(&rt, &mut out), false);
+    gives!(&rt; receive(&rt, &wire, &mut into), Some(1));
+    gives!(&rt; wire.flush(&rt, &mut out), true);
     let second = receive(&rt, &wire, &mut into);
     let third = receive(&rt, &wire, &mut into);
     let fourth = receive(&rt, &wire, &mut into);
     let fifth = receive(&rt, &wire, &mut into);
-    assert_eq!(rt;
-        [second, third, fourth, fifth],
-        [Some(2), Some(3), Some(4), None]
-    );
-    assert_eq!(rt; [out.sent(), into.received()], [4, 4]);
+    gives!(&rt; [second, third, fourth, fifth],
+        [Some(2), Some(3), Some(4), None]);
+    gives!(&rt; [out.sent(), into.received()], [4, 4]);
     Ok(())
 }
 
@@ -311,13 +306,13 @@ fn what_a_wire_holds_goes_after_what_the_lane_holds(rt: HostRuntime) -> Result<(
     let first = send(&rt, rt.alloc(), &wire, &mut out, 1);
     let second = send(&rt, rt.alloc(), &wire, &mut out, 2);
     let third = send(&rt, rt.alloc(), &wire, &mut out, 3);
-    assert_eq!(rt; [first, second, third], [None, None, None]);
-    assert_eq!(rt; receive(&rt, &wire, &mut into), Some(1));
+    gives!(&rt; [first, second, third], [None, None, None]);
+    gives!(&rt; receive(&rt, &wire, &mut into), Some(1));
     wire.close(&rt, out, into, &mut rest);
-    assert_eq!(rt; rest.len(), 3);
+    gives!(&rt; rest.len(), 3);
     let moved = [oldest(&mut rest), oldest(&mut rest), oldest(&mut rest)];
-    assert_eq!(rt; moved, [Some(7), Some(2), Some(3)]);
-    assert_eq!(rt; oldest(&mut rest), None);
+    gives!(&rt; moved, [Some(7), Some(2), Some(3)]);
+    gives!(&rt; oldest(&mut rest), None);
     Ok(())
 }
 
@@ -327,10 +322,10 @@ fn room_for_all_that_is_ever_sent_is_enough(rt: HostRuntime) -> Result<(), Fail>
     let mut rest = PlainLane::open(rt.alloc(), 2)?;
     let first = send(&rt, rt.alloc(), &wire, &mut out, 1);
     let second = send(&rt, rt.alloc(), &wire, &mut out, 2);
-    assert_eq!(rt; [first, second], [None, None]);
+    gives!(&rt; [first, second], [None, None]);
     wire.close(&rt, out, into, &mut rest);
     let moved = [oldest(&mut rest), oldest(&mut rest), oldest(&mut rest)];
-    assert_eq!(rt; moved, [Some(1), Some(2), None]);
+    gives!(&rt; moved, [Some(1), Some(2), None]);
     Ok(())
 }
 
@@ -406,7 +401,7 @@ fn a_thousand_messages_between_two_threads(rt: HostRuntime) -> Result<(), Fail> 
     let (wire, out, into) = Wire::open(rt.alloc(), 1000, requests(1000))?;
     let mut rest = PlainLane::open(rt.alloc(), 1000)?;
     let received = move_between_threads(&rt, rt.alloc(), wire, out, into, &mut rest);
-    assert_eq!(rt; received, 1000);
-    assert_eq!(rt; rest.len(), 0);
+    gives!(&rt; received, 1000);
+    gives!(&rt; rest.len(), 0);
     Ok(())
 }

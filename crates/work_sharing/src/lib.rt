@@ -6,8 +6,6 @@
 
 mod ahead;
 mod sharing;
-#[cfg(test)]
-mod tests;
 
 pub use ahead::reach_ahead;
 pub use sharing::map_indices;
