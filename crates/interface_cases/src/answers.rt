@@ -1,6 +1,6 @@
 //! Acknowledgements at the initiator (Portals 4.3, acknowledgements).
 
-use crate::scene::play;
+use crate::scene::plays;
 use crate::steps::Answer::*;
 use crate::steps::Call::*;
 use crate::steps::Step::{self, *};
@@ -50,8 +50,7 @@ const ACK_TOLD: Event = Event {
     ..EVENT
 };
 
-#[test]
-fn an_acknowledgement_is_counted_and_told(rt: HostRuntime) {
+fn an_acknowledgement_is_counted_and_told() -> &'static [&'static [Step]] {
     const ACK: Header = Header {
         kind: MessageKind::Ack,
         length: 2,
@@ -70,11 +69,10 @@ fn an_acknowledgement_is_counted_and_told(rt: HostRuntime) {
         Here(MdRelease(FIRST), Done),
     ];
     const SCRIPTS: &[&[Step]] = &[PAIR, SCRIPT];
-    play(&rt, SCRIPTS);
+    SCRIPTS
 }
 
-#[test]
-fn an_acknowledgement_of_what_was_dropped_counts_a_failure(rt: HostRuntime) {
+fn an_acknowledgement_of_what_was_dropped_counts_a_failure() -> &'static [&'static [Step]] {
     const FAILED: Event = Event {
         delivered: 0,
         ok: false,
@@ -93,11 +91,10 @@ fn an_acknowledgement_of_what_was_dropped_counts_a_failure(rt: HostRuntime) {
         HereTells(FIRST, &[START_TOLD, FAILED]),
     ];
     const SCRIPTS: &[&[Step]] = &[PAIR, SCRIPT];
-    play(&rt, SCRIPTS);
+    SCRIPTS
 }
 
-#[test]
-fn a_counted_acknowledgement_raises_no_event(rt: HostRuntime) {
+fn a_counted_acknowledgement_raises_no_event() -> &'static [&'static [Step]] {
     const COUNTED: PutArgs = PutArgs {
         ack: AckRequest::CtAck,
         ..ASKS
@@ -110,11 +107,10 @@ fn a_counted_acknowledgement_raises_no_event(rt: HostRuntime) {
         HereTells(FIRST, &[START_TOLD]),
     ];
     const SCRIPTS: &[&[Step]] = &[PAIR, SCRIPT];
-    play(&rt, SCRIPTS);
+    SCRIPTS
 }
 
-#[test]
-fn an_answer_that_nobody_awaits_is_dropped(rt: HostRuntime) {
+fn an_answer_that_nobody_awaits_is_dropped() -> &'static [&'static [Step]] {
     const SCRIPT: &[Step] = &[
         Here(ForgeAck(FIRST), Sent),
         Here(Deliver, Became(Outcome::Dropped)),
@@ -125,5 +121,15 @@ fn an_answer_that_nobody_awaits_is_dropped(rt: HostRuntime) {
         HereTells(FIRST, &[]),
     ];
     const SCRIPTS: &[&[Step]] = &[PAIR, SCRIPT];
-    play(&rt, SCRIPTS);
+    SCRIPTS
+}
+
+#[test]
+fn each_script(rt: HostRuntime) {
+    plays!(&rt;
+        an_acknowledgement_is_counted_and_told,
+        an_acknowledgement_of_what_was_dropped_counts_a_failure,
+        a_counted_acknowledgement_raises_no_event,
+        an_answer_that_nobody_awaits_is_dropped
+    );
 }

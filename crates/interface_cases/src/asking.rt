@@ -182,7 +182,7 @@ impl End {
         }
     }
 
-    /// The calls that make and free things, and those on counting events and queues.
+    /// The calls on indices, counting events and queues.
     fn ask_tables<R: Abort + Alloc<A = Global>>(
         &mut self,
         rt: &R,
@@ -206,6 +206,18 @@ impl End {
             Call::EqAlloc(room) => made(&mut self.eqs, self.side.eq_alloc(rt, room)),
             Call::EqFree(eq) => done(self.side.eq_free(named(&self.eqs, eq))),
             Call::EqGet(eq) => got(self.side.eq_get(named(&self.eqs, eq))),
+            call => self.ask_entries(rt, wire, call),
+        }
+    }
+
+    /// The calls on descriptors and entries.
+    fn ask_entries<R: Abort + Alloc<A = Global>>(
+        &mut self,
+        rt: &R,
+        wire: &mut Option<Message>,
+        call: Call,
+    ) -> Answer {
+        match call {
             Call::MdBind(md) => {
                 let md = self.descriptor(md);
                 made(&mut self.mds, self.side.md_bind(md))

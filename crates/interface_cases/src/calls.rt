@@ -1,6 +1,6 @@
 //! Every call once with ample memory, where no script has it.
 
-use crate::scene::play_one;
+use crate::scene::plays;
 use crate::steps::Answer::*;
 use crate::steps::Call::*;
 use crate::steps::Step::{self, *};
@@ -8,8 +8,7 @@ use crate::values::{DESCRIPTOR, ENTRY, FIRST, LIMITS};
 use ptl_types::List;
 use ptl_types::NiFault::Stale;
 
-#[test]
-fn a_new_interface_has_nothing(rt: HostRuntime) {
+fn a_new_interface_has_nothing() -> &'static [&'static [Step]] {
     const SCRIPT: &[Step] = &[
         Here(Rank, Number(0)),
         There(Rank, Number(1)),
@@ -22,11 +21,11 @@ fn a_new_interface_has_nothing(rt: HostRuntime) {
         Here(Ready, Nothing),
         Here(IsReady(0), No),
     ];
-    play_one(&rt, SCRIPT);
+    const SCRIPTS: &[&[Step]] = &[SCRIPT];
+    SCRIPTS
 }
 
-#[test]
-fn what_is_made_goes(rt: HostRuntime) {
+fn what_is_made_goes() -> &'static [&'static [Step]] {
     const SCRIPT: &[Step] = &[
         Here(EqAlloc(2), Made(0)),
         Here(CtAlloc, Made(0)),
@@ -43,11 +42,11 @@ fn what_is_made_goes(rt: HostRuntime) {
         Here(CtFree(FIRST), Done),
         Here(EqFree(FIRST), Done),
     ];
-    play_one(&rt, SCRIPT);
+    const SCRIPTS: &[&[Step]] = &[SCRIPT];
+    SCRIPTS
 }
 
-#[test]
-fn a_handle_never_comes_back(rt: HostRuntime) {
+fn a_handle_never_comes_back() -> &'static [&'static [Step]] {
     const SCRIPT: &[Step] = &[
         Here(CtAlloc, Made(0)),
         Here(MdBind(DESCRIPTOR), Made(0)),
@@ -62,5 +61,15 @@ fn a_handle_never_comes_back(rt: HostRuntime) {
         Here(Awaits(FIRST), Refused(Stale)),
         Here(MeUnlink(FIRST), Refused(Stale)),
     ];
-    play_one(&rt, SCRIPT);
+    const SCRIPTS: &[&[Step]] = &[SCRIPT];
+    SCRIPTS
+}
+
+#[test]
+fn each_script(rt: HostRuntime) {
+    plays!(&rt;
+        a_new_interface_has_nothing,
+        what_is_made_goes,
+        a_handle_never_comes_back
+    );
 }

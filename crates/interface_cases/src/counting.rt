@@ -1,6 +1,6 @@
 //! Counting events and the triggered operations that wait on them (Portals 4.3, counting events and triggered operations).
 
-use crate::scene::play_one;
+use crate::scene::plays;
 use crate::steps::Answer::*;
 use crate::steps::Call::*;
 use crate::steps::Step::{self, *};
@@ -8,8 +8,7 @@ use crate::values::{DESCRIPTOR, ENTRY, FIRST, HEADER, ONE, PUT, SECOND};
 use ptl_types::NiFault::{CountFull, InUse, NoSpace, OutOfRegion, Stale};
 use ptl_types::{Count, Descriptor, Entry, Header, List, Outcome, PutArgs, TriggeredOp};
 
-#[test]
-fn an_increment_waits_for_its_threshold(rt: HostRuntime) {
+fn an_increment_waits_for_its_threshold() -> &'static [&'static [Step]] {
     const RAISE: TriggeredOp = TriggeredOp::Inc(SECOND, ONE);
     const SCRIPT: &[Step] = &[
         Here(CtAlloc, Made(0)),
@@ -32,11 +31,11 @@ fn an_increment_waits_for_its_threshold(rt: HostRuntime) {
         Here(Pending, Number(0)),
         Here(CtFree(FIRST), Done),
     ];
-    play_one(&rt, SCRIPT);
+    const SCRIPTS: &[&[Step]] = &[SCRIPT];
+    SCRIPTS
 }
 
-#[test]
-fn an_operation_is_ready_only_while_its_sum_is_reached(rt: HostRuntime) {
+fn an_operation_is_ready_only_while_its_sum_is_reached() -> &'static [&'static [Step]] {
     const SCRIPT: &[Step] = &[
         Here(CtAlloc, Made(0)),
         Here(CtAlloc, Made(1)),
@@ -57,11 +56,11 @@ fn an_operation_is_ready_only_while_its_sum_is_reached(rt: HostRuntime) {
         Here(Fire(0), Nothing),
         Here(CtGet(SECOND), Counts(1, 0)),
     ];
-    play_one(&rt, SCRIPT);
+    const SCRIPTS: &[&[Step]] = &[SCRIPT];
+    SCRIPTS
 }
 
-#[test]
-fn tables_fill_and_handles_go(rt: HostRuntime) {
+fn tables_fill_and_handles_go() -> &'static [&'static [Step]] {
     const PAST: Descriptor = Descriptor {
         start: 10,
         length: 7,
@@ -100,11 +99,11 @@ fn tables_fill_and_handles_go(rt: HostRuntime) {
         Here(MdRelease(FIRST), Done),
         Here(Start(TriggeredOp::Put(INSIDE)), Refused(Stale)),
     ];
-    play_one(&rt, SCRIPT);
+    const SCRIPTS: &[&[Step]] = &[SCRIPT];
+    SCRIPTS
 }
 
-#[test]
-fn a_delivery_counts_no_further_than_the_end(rt: HostRuntime) {
+fn a_delivery_counts_no_further_than_the_end() -> &'static [&'static [Step]] {
     const COUNTS: Entry = Entry {
         ct: Some(FIRST),
         count_comm: true,
@@ -119,5 +118,16 @@ fn a_delivery_counts_no_further_than_the_end(rt: HostRuntime) {
         Comes(PUT, &[2], Outcome::Matched),
         Here(CtGet(FIRST), Counts(u64::MAX - 1, 1)),
     ];
-    play_one(&rt, SCRIPT);
+    const SCRIPTS: &[&[Step]] = &[SCRIPT];
+    SCRIPTS
+}
+
+#[test]
+fn each_script(rt: HostRuntime) {
+    plays!(&rt;
+        an_increment_waits_for_its_threshold,
+        an_operation_is_ready_only_while_its_sum_is_reached,
+        tables_fill_and_handles_go,
+        a_delivery_counts_no_further_than_the_end
+    );
 }

@@ -1,6 +1,6 @@
 //! Triggered operations of each kind (Portals 4.3, triggered operations).
 
-use crate::scene::play_one;
+use crate::scene::plays;
 use crate::steps::Answer::*;
 use crate::steps::Call::*;
 use crate::steps::Step::{self, *};
@@ -34,8 +34,7 @@ const START_TOLD: Event = Event {
     ..EVENT
 };
 
-#[test]
-fn a_put_reads_its_bytes_when_it_fires(rt: HostRuntime) {
+fn a_put_reads_its_bytes_when_it_fires() -> &'static [&'static [Step]] {
     const SCRIPT: &[Step] = &[
         Here(EqAlloc(1), Made(0)),
         Here(CtAlloc, Made(0)),
@@ -52,7 +51,8 @@ fn a_put_reads_its_bytes_when_it_fires(rt: HostRuntime) {
         HereTells(FIRST, &[START_TOLD]),
         Here(IsReady(0), No),
     ];
-    play_one(&rt, SCRIPT);
+    const SCRIPTS: &[&[Step]] = &[SCRIPT];
+    SCRIPTS
 }
 
 /// The other starts, of one byte from rank 0 to itself that comes back to byte 8, and the headers of their messages.
@@ -99,8 +99,7 @@ const SWAP_HEADER: Header = Header {
     ..GET_HEADER
 };
 
-#[test]
-fn the_other_starts_fire_too(rt: HostRuntime) {
+fn the_other_starts_fire_too() -> &'static [&'static [Step]] {
     const SCRIPT: &[Step] = &[
         Here(CtAlloc, Made(0)),
         Here(MdBind(DESCRIPTOR), Made(0)),
@@ -119,11 +118,11 @@ fn the_other_starts_fire_too(rt: HostRuntime) {
         Here(Carries(SWAP_HEADER, &[6]), Yes),
         Here(Pending, Number(0)),
     ];
-    play_one(&rt, SCRIPT);
+    const SCRIPTS: &[&[Step]] = &[SCRIPT];
+    SCRIPTS
 }
 
-#[test]
-fn a_set_replaces_and_an_increment_stops_at_the_end(rt: HostRuntime) {
+fn a_set_replaces_and_an_increment_stops_at_the_end() -> &'static [&'static [Step]] {
     const LAST_BUT_ONE: Count = Count {
         success: u64::MAX - 1,
         failure: 0,
@@ -146,11 +145,11 @@ fn a_set_replaces_and_an_increment_stops_at_the_end(rt: HostRuntime) {
         Here(Fire(1), Nothing),
         Here(CtGet(SECOND), Counts(u64::MAX, 0)),
     ];
-    play_one(&rt, SCRIPT);
+    const SCRIPTS: &[&[Step]] = &[SCRIPT];
+    SCRIPTS
 }
 
-#[test]
-fn a_triggered_put_awaits_its_acknowledgement_from_its_firing(rt: HostRuntime) {
+fn a_triggered_put_awaits_its_acknowledgement_from_its_firing() -> &'static [&'static [Step]] {
     const ASKS: PutArgs = PutArgs {
         ack: AckRequest::CtAck,
         target: 1,
@@ -170,5 +169,16 @@ fn a_triggered_put_awaits_its_acknowledgement_from_its_firing(rt: HostRuntime) {
         Here(Awaits(FIRST), Number(0)),
         Here(MdRelease(FIRST), Done),
     ];
-    play_one(&rt, SCRIPT);
+    const SCRIPTS: &[&[Step]] = &[SCRIPT];
+    SCRIPTS
+}
+
+#[test]
+fn each_script(rt: HostRuntime) {
+    plays!(&rt;
+        a_put_reads_its_bytes_when_it_fires,
+        the_other_starts_fire_too,
+        a_set_replaces_and_an_increment_stops_at_the_end,
+        a_triggered_put_awaits_its_acknowledgement_from_its_firing
+    );
 }

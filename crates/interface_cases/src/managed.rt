@@ -1,7 +1,7 @@
 //! Locally managed and use-once entries of the priority list, ignored match bits, headers of atomics, and an overflow entry
 //! that is freed (Portals 4.3, list entries and unexpected messages).
 
-use crate::scene::{play, play_one};
+use crate::scene::plays;
 use crate::steps::Answer::*;
 use crate::steps::Call::*;
 use crate::steps::Step::{self, *};
@@ -27,8 +27,7 @@ const PUT_TOLD: Event = Event {
 /// Put arguments to index 1.
 const TO_ONE: PutArgs = PutArgs { pt: 1, ..PUT };
 
-#[test]
-fn a_locally_managed_entry_fills_and_is_unlinked(rt: HostRuntime) {
+fn a_locally_managed_entry_fills_and_is_unlinked() -> &'static [&'static [Step]] {
     const MANAGED: Entry = Entry {
         manage_local: true,
         min_free: 1,
@@ -51,22 +50,20 @@ fn a_locally_managed_entry_fills_and_is_unlinked(rt: HostRuntime) {
         HereTells(FIRST, &[LINKED, PUT_TOLD, BEHIND_TOLD, UNLINKED]),
     ];
     const SCRIPTS: &[&[Step]] = &[TELLING, SCRIPT];
-    play(&rt, SCRIPTS);
+    SCRIPTS
 }
 
-#[test]
-fn a_use_once_entry_tells_the_put_and_then_its_unlinking(rt: HostRuntime) {
+fn a_use_once_entry_tells_the_put_and_then_its_unlinking() -> &'static [&'static [Step]] {
     const SCRIPT: &[Step] = &[
         Here(MeAppend(1, List::Priority, ONCE), Linked(0)),
         Comes(TO_ONE, &[1, 2], Outcome::Matched),
         HereTells(FIRST, &[LINKED, PUT_TOLD, UNLINKED]),
     ];
     const SCRIPTS: &[&[Step]] = &[TELLING, SCRIPT];
-    play(&rt, SCRIPTS);
+    SCRIPTS
 }
 
-#[test]
-fn a_persistent_append_takes_the_header_of_an_atomic_and_frees_its_entry(rt: HostRuntime) {
+fn a_persistent_append_takes_the_header_of_an_atomic_and_frees_its_entry() -> &'static [&'static [Step]] {
     const TAKEN: Event = Event {
         kind: EventKind::AtomicOverflow,
         ..PUT_TOLD
@@ -87,11 +84,10 @@ fn a_persistent_append_takes_the_header_of_an_atomic_and_frees_its_entry(rt: Hos
         HereTells(FIRST, &[LINKED, UNLINKED, TAKEN, FREED, LINKED]),
     ];
     const SCRIPTS: &[&[Step]] = &[TELLING, SCRIPT];
-    play(&rt, SCRIPTS);
+    SCRIPTS
 }
 
-#[test]
-fn ignored_bits_are_not_compared(rt: HostRuntime) {
+fn ignored_bits_are_not_compared() -> &'static [&'static [Step]] {
     const WIDE: Entry = Entry {
         match_bits: 0x15,
         ignore_bits: 0xf0,
@@ -116,11 +112,11 @@ fn ignored_bits_are_not_compared(rt: HostRuntime) {
         Comes(LOW, &[1], Outcome::Dropped),
         Comes(HIGH, &[1], Outcome::Dropped),
     ];
-    play_one(&rt, SCRIPT);
+    const SCRIPTS: &[&[Step]] = &[SCRIPT];
+    SCRIPTS
 }
 
-#[test]
-fn a_counter_that_an_increment_alone_counts_on_is_in_use(rt: HostRuntime) {
+fn a_counter_that_an_increment_alone_counts_on_is_in_use() -> &'static [&'static [Step]] {
     const SCRIPT: &[Step] = &[
         Here(CtAlloc, Made(0)),
         Here(CtAlloc, Made(1)),
@@ -132,5 +128,17 @@ fn a_counter_that_an_increment_alone_counts_on_is_in_use(rt: HostRuntime) {
         Here(CtCancel(FIRST), Number(1)),
         Here(CtFree(SECOND), Done),
     ];
-    play_one(&rt, SCRIPT);
+    const SCRIPTS: &[&[Step]] = &[SCRIPT];
+    SCRIPTS
+}
+
+#[test]
+fn each_script(rt: HostRuntime) {
+    plays!(&rt;
+        a_locally_managed_entry_fills_and_is_unlinked,
+        a_use_once_entry_tells_the_put_and_then_its_unlinking,
+        a_persistent_append_takes_the_header_of_an_atomic_and_frees_its_entry,
+        ignored_bits_are_not_compared,
+        a_counter_that_an_increment_alone_counts_on_is_in_use
+    );
 }

@@ -1,6 +1,6 @@
 //! Which entry takes a message, and how much of it is delivered (Portals 4.3, matching and list entries).
 
-use crate::scene::play_one;
+use crate::scene::plays;
 use crate::steps::Answer::*;
 use crate::steps::Call::*;
 use crate::steps::Step::{self, *};
@@ -8,8 +8,7 @@ use crate::values::{DESCRIPTOR, ENTRY, FIRST, ONCE, PUT};
 use ptl_types::NiFault::Stale;
 use ptl_types::{Entry, List, Outcome, PutArgs, TriggeredOp};
 
-#[test]
-fn use_once_entries_go_with_their_first_message(rt: HostRuntime) {
+fn use_once_entries_go_with_their_first_message() -> &'static [&'static [Step]] {
     const COUNTS: Entry = Entry {
         ct: Some(FIRST),
         count_comm: true,
@@ -28,7 +27,8 @@ fn use_once_entries_go_with_their_first_message(rt: HostRuntime) {
         Here(CtGet(FIRST), Counts(2, 0)),
         Here(MeUnlink(FIRST), Refused(Stale)),
     ];
-    play_one(&rt, SCRIPT);
+    const SCRIPTS: &[&[Step]] = &[SCRIPT];
+    SCRIPTS
 }
 
 /// A put that reaches past the end of an entry of four bytes, and one that begins past it.
@@ -42,8 +42,7 @@ const AT_FIVE: PutArgs = PutArgs {
     ..PUT
 };
 
-#[test]
-fn a_put_is_cut_at_the_end_of_its_entry(rt: HostRuntime) {
+fn a_put_is_cut_at_the_end_of_its_entry() -> &'static [&'static [Step]] {
     const SCRIPT: &[Step] = &[
         Here(MeAppend(0, List::Priority, ENTRY), Linked(0)),
         Comes(AT_ONE, &[1, 2, 3, 4, 5, 6], Outcome::Matched),
@@ -52,11 +51,11 @@ fn a_put_is_cut_at_the_end_of_its_entry(rt: HostRuntime) {
         HereHolds(&[0, 1, 2, 3, 0, 0, 0, 0, 0, 0, 0, 0, 0, 0, 0, 0]),
         Here(Drops, Number(0)),
     ];
-    play_one(&rt, SCRIPT);
+    const SCRIPTS: &[&[Step]] = &[SCRIPT];
+    SCRIPTS
 }
 
-#[test]
-fn a_put_that_may_not_be_cut_is_dropped(rt: HostRuntime) {
+fn a_put_that_may_not_be_cut_is_dropped() -> &'static [&'static [Step]] {
     const WHOLE: Entry = Entry {
         no_truncate: true,
         ..ENTRY
@@ -68,11 +67,11 @@ fn a_put_that_may_not_be_cut_is_dropped(rt: HostRuntime) {
         HereHolds(&[0, 1, 2, 3, 0, 0, 0, 0, 0, 0, 0, 0, 0, 0, 0, 0]),
         Here(Drops, Number(1)),
     ];
-    play_one(&rt, SCRIPT);
+    const SCRIPTS: &[&[Step]] = &[SCRIPT];
+    SCRIPTS
 }
 
-#[test]
-fn the_first_match_that_forbids_a_put_ends_the_search(rt: HostRuntime) {
+fn the_first_match_that_forbids_a_put_ends_the_search() -> &'static [&'static [Step]] {
     const FORBIDS: Entry = Entry {
         allow_put: false,
         ..ENTRY
@@ -85,11 +84,11 @@ fn the_first_match_that_forbids_a_put_ends_the_search(rt: HostRuntime) {
         Here(Drops, Number(0)),
         HereHolds(&[0, 0, 0, 0, 0, 0, 0, 0, 0, 0, 0, 0, 0, 0, 0, 0]),
     ];
-    play_one(&rt, SCRIPT);
+    const SCRIPTS: &[&[Step]] = &[SCRIPT];
+    SCRIPTS
 }
 
-#[test]
-fn a_violation_unlinks_nothing(rt: HostRuntime) {
+fn a_violation_unlinks_nothing() -> &'static [&'static [Step]] {
     const FORBIDS: Entry = Entry {
         allow_put: false,
         ..ONCE
@@ -102,11 +101,11 @@ fn a_violation_unlinks_nothing(rt: HostRuntime) {
         Here(MeUnlink(FIRST), Done),
         Comes(PUT, &[1], Outcome::Matched),
     ];
-    play_one(&rt, SCRIPT);
+    const SCRIPTS: &[&[Step]] = &[SCRIPT];
+    SCRIPTS
 }
 
-#[test]
-fn an_index_that_is_not_allocated_drops(rt: HostRuntime) {
+fn an_index_that_is_not_allocated_drops() -> &'static [&'static [Step]] {
     const LAST: PutArgs = PutArgs {
         pt: u32::MAX,
         ..PUT
@@ -117,11 +116,11 @@ fn an_index_that_is_not_allocated_drops(rt: HostRuntime) {
         Comes(LAST, &[1], Outcome::Dropped),
         Here(Drops, Number(3)),
     ];
-    play_one(&rt, SCRIPT);
+    const SCRIPTS: &[&[Step]] = &[SCRIPT];
+    SCRIPTS
 }
 
-#[test]
-fn a_rank_sends_to_itself(rt: HostRuntime) {
+fn a_rank_sends_to_itself() -> &'static [&'static [Step]] {
     const MINE: PutArgs = PutArgs {
         local_offset: 8,
         length: 2,
@@ -140,5 +139,19 @@ fn a_rank_sends_to_itself(rt: HostRuntime) {
         Comes(PUT, &[3], Outcome::Dropped),
         HereHolds(&[1, 2, 0, 0, 0, 0, 0, 0, 1, 2, 0, 0, 0, 0, 0, 0]),
     ];
-    play_one(&rt, SCRIPT);
+    const SCRIPTS: &[&[Step]] = &[SCRIPT];
+    SCRIPTS
+}
+
+#[test]
+fn each_script(rt: HostRuntime) {
+    plays!(&rt;
+        use_once_entries_go_with_their_first_message,
+        a_put_is_cut_at_the_end_of_its_entry,
+        a_put_that_may_not_be_cut_is_dropped,
+        the_first_match_that_forbids_a_put_ends_the_search,
+        a_violation_unlinks_nothing,
+        an_index_that_is_not_allocated_drops,
+        a_rank_sends_to_itself
+    );
 }

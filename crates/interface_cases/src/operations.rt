@@ -1,6 +1,6 @@
 //! Gets, atomics, fetching atomics and swaps with their replies (Portals 4.3, data movement and atomic operations).
 
-use crate::scene::{play, play_one};
+use crate::scene::plays;
 use crate::steps::Answer::*;
 use crate::steps::Call::*;
 use crate::steps::Step::{self, *};
@@ -30,8 +30,7 @@ const PLAIN: TriggeredOp = TriggeredOp::Swap(BACK, BYTE, SwapOp::Swap, ElemType:
 
 const ONE_BYTE: Entry = Entry { length: 1, ..ENTRY };
 
-#[test]
-fn fetching_operations_answer_the_old_element(rt: HostRuntime) {
+fn fetching_operations_answer_the_old_element() -> &'static [&'static [Step]] {
     const SCRIPT: &[Step] = &[
         Here(MeAppend(0, List::Priority, ONE_BYTE), Linked(0)),
         Here(WriteMemory(0, &[250]), Done),
@@ -67,11 +66,11 @@ fn fetching_operations_answer_the_old_element(rt: HostRuntime) {
         There(Deliver, Became(Outcome::Answered)),
         ThereHolds(&[3, 0, 0, 0, 0, 0, 0, 0, 0x9f, 0, 0, 0, 0, 0, 0, 0]),
     ];
-    play_one(&rt, SCRIPT);
+    const SCRIPTS: &[&[Step]] = &[SCRIPT];
+    SCRIPTS
 }
 
-#[test]
-fn an_operand_wider_than_the_element_never_equals_it_and_names_no_bit_beyond(rt: HostRuntime) {
+fn an_operand_wider_than_the_element_never_equals_it_and_names_no_bit_beyond() -> &'static [&'static [Step]] {
     const TWO: PutArgs = PutArgs { length: 2, ..PUT };
     const BACK_TWO: GetArgs = GetArgs { length: 2, ..BACK };
     /// The element is 0x0104 before each swap, and 0x0909 comes.
@@ -114,11 +113,11 @@ fn an_operand_wider_than_the_element_never_equals_it_and_names_no_bit_beyond(rt:
         Here(Deliver, Replies(Outcome::Matched)),
         HereHolds(&[9, 1, 0, 0, 0, 0, 0, 0, 0, 0, 0, 0, 0, 0, 0, 0]),
     ];
-    play_one(&rt, SCRIPT);
+    const SCRIPTS: &[&[Step]] = &[SCRIPT];
+    SCRIPTS
 }
 
-#[test]
-fn a_get_brings_home_what_an_atomic_left(rt: HostRuntime) {
+fn a_get_brings_home_what_an_atomic_left() -> &'static [&'static [Step]] {
     const TWO: PutArgs = PutArgs { length: 2, ..PUT };
     const ASKS: GetArgs = GetArgs { length: 2, ..BACK };
     const REPLY: Header = Header {
@@ -146,11 +145,11 @@ fn a_get_brings_home_what_an_atomic_left(rt: HostRuntime) {
         There(Deliver, Became(Outcome::Answered)),
         ThereHolds(&[5, 0, 0, 0, 0, 0, 0, 0, 5, 0, 0, 0, 0, 0, 0, 0]),
     ];
-    play_one(&rt, SCRIPT);
+    const SCRIPTS: &[&[Step]] = &[SCRIPT];
+    SCRIPTS
 }
 
-#[test]
-fn an_atomic_is_cut_to_whole_elements(rt: HostRuntime) {
+fn an_atomic_is_cut_to_whole_elements() -> &'static [&'static [Step]] {
     const FOUR: PutArgs = PutArgs { length: 4, ..PUT };
     const SUM: TriggeredOp = TriggeredOp::Atomic(FOUR, AtomicOp::Sum, ElemType::U16);
     const THREE_BYTES: Entry = Entry { length: 3, ..ENTRY };
@@ -161,7 +160,8 @@ fn an_atomic_is_cut_to_whole_elements(rt: HostRuntime) {
         Here(Deliver, Became(Outcome::Matched)),
         HereHolds(&[1, 2, 0, 0, 0, 0, 0, 0, 0, 0, 0, 0, 0, 0, 0, 0]),
     ];
-    play_one(&rt, SCRIPT);
+    const SCRIPTS: &[&[Step]] = &[SCRIPT];
+    SCRIPTS
 }
 
 /// Rank 0 has a queue at index 1, and an entry there that begins at byte 2 and counts its messages.
@@ -198,8 +198,7 @@ const PUT_TOLD: Event = Event {
     ..LINKED
 };
 
-#[test]
-fn puts_and_gets_raise_their_events(rt: HostRuntime) {
+fn puts_and_gets_raise_their_events() -> &'static [&'static [Step]] {
     const ASKS: GetArgs = GetArgs {
         length: 2,
         pt: 1,
@@ -221,7 +220,7 @@ fn puts_and_gets_raise_their_events(rt: HostRuntime) {
         HereTells(FIRST, &[LINKED, PUT_TOLD, GET_TOLD]),
     ];
     const SCRIPTS: &[&[Step]] = &[TELLING, SCRIPT];
-    play(&rt, SCRIPTS);
+    SCRIPTS
 }
 
 /// The starts of one byte to that byte, and the events that they raise there.
@@ -269,8 +268,7 @@ const FETCH_TOLD: Event = Event {
     ..ATOMIC_TOLD
 };
 
-#[test]
-fn atomics_and_fetching_operations_raise_their_events(rt: HostRuntime) {
+fn atomics_and_fetching_operations_raise_their_events() -> &'static [&'static [Step]] {
     const SCRIPT: &[Step] = &[
         There(WriteMemory(0, &[4]), Done),
         There(Start(ATOMIC_AT_SECOND), Sent),
@@ -286,7 +284,7 @@ fn atomics_and_fetching_operations_raise_their_events(rt: HostRuntime) {
         HereTells(FIRST, &[LINKED, ATOMIC_TOLD, FETCH_TOLD, FETCH_TOLD]),
     ];
     const SCRIPTS: &[&[Step]] = &[TELLING, SCRIPT];
-    play(&rt, SCRIPTS);
+    SCRIPTS
 }
 
 /// An entry that allows puts alone, and one for match bits 6 that allows gets alone.
@@ -324,8 +322,7 @@ const NOT_OK: Header = Header {
     ..HEADER
 };
 
-#[test]
-fn an_entry_allows_puts_gets_or_both(rt: HostRuntime) {
+fn an_entry_allows_puts_gets_or_both() -> &'static [&'static [Step]] {
     const FETCH: TriggeredOp = TriggeredOp::FetchAtomic(BACK, BYTE, AtomicOp::Sum, ElemType::U8);
     const SWAP: TriggeredOp = TriggeredOp::Swap(BACK_OF_SIX, SIX, SwapOp::Swap, ElemType::U8, 0);
     const SCRIPT: &[Step] = &[
@@ -346,5 +343,19 @@ fn an_entry_allows_puts_gets_or_both(rt: HostRuntime) {
         Here(Violations, Number(4)),
         Here(Drops, Number(0)),
     ];
-    play_one(&rt, SCRIPT);
+    const SCRIPTS: &[&[Step]] = &[SCRIPT];
+    SCRIPTS
+}
+
+#[test]
+fn each_script(rt: HostRuntime) {
+    plays!(&rt;
+        fetching_operations_answer_the_old_element,
+        an_operand_wider_than_the_element_never_equals_it_and_names_no_bit_beyond,
+        a_get_brings_home_what_an_atomic_left,
+        an_atomic_is_cut_to_whole_elements,
+        puts_and_gets_raise_their_events,
+        atomics_and_fetching_operations_raise_their_events,
+        an_entry_allows_puts_gets_or_both
+    );
 }

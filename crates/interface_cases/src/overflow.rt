@@ -1,6 +1,6 @@
 //! The overflow list and the unexpected headers that it leaves (Portals 4.3, unexpected messages and searching).
 
-use crate::scene::{play, play_one};
+use crate::scene::plays;
 use crate::steps::Answer::*;
 use crate::steps::Call::*;
 use crate::steps::Step::{self, *};
@@ -93,8 +93,7 @@ const FILLED: &[Step] = &[
     Comes(TO_ONE, &[6], Outcome::Dropped),
 ];
 
-#[test]
-fn use_once_appends_take_the_headers_in_order(rt: HostRuntime) {
+fn use_once_appends_take_the_headers_in_order() -> &'static [&'static [Step]] {
     const SCRIPT: &[Step] = &[
         Here(MeAppend(1, List::Priority, ONCE), Consumed(THREE_BYTES)),
         Here(MeAppend(1, List::Priority, ONCE), Consumed(TWO_BYTES)),
@@ -108,11 +107,10 @@ fn use_once_appends_take_the_headers_in_order(rt: HostRuntime) {
         Here(EqGet(FIRST), Empty),
     ];
     const SCRIPTS: &[&[Step]] = &[FILLED, SCRIPT];
-    play(&rt, SCRIPTS);
+    SCRIPTS
 }
 
-#[test]
-fn a_full_queue_loses_the_newest_event(rt: HostRuntime) {
+fn a_full_queue_loses_the_newest_event() -> &'static [&'static [Step]] {
     const SCRIPT: &[Step] = &[
         Here(EqAlloc(1), Made(0)),
         Here(PtAlloc(1, Some(FIRST)), Done),
@@ -126,11 +124,11 @@ fn a_full_queue_loses_the_newest_event(rt: HostRuntime) {
         Here(EqGet(FIRST), Got(MISSED)),
         Here(EqGet(FIRST), Empty),
     ];
-    play_one(&rt, SCRIPT);
+    const SCRIPTS: &[&[Step]] = &[SCRIPT];
+    SCRIPTS
 }
 
-#[test]
-fn a_loss_is_told_once_however_many_were_lost(rt: HostRuntime) {
+fn a_loss_is_told_once_however_many_were_lost() -> &'static [&'static [Step]] {
     const SCRIPT: &[Step] = &[
         Here(EqAlloc(1), Made(0)),
         Here(PtAlloc(1, Some(FIRST)), Done),
@@ -141,7 +139,8 @@ fn a_loss_is_told_once_however_many_were_lost(rt: HostRuntime) {
         Here(EqGet(FIRST), Got(LINKED)),
         Here(EqGet(FIRST), Empty),
     ];
-    play_one(&rt, SCRIPT);
+    const SCRIPTS: &[&[Step]] = &[SCRIPT];
+    SCRIPTS
 }
 
 /// A put to the entries for match bits 6.
@@ -150,8 +149,7 @@ const TO_SIX: PutArgs = PutArgs {
     ..PUT
 };
 
-#[test]
-fn the_priority_list_goes_first_and_needs_no_room_for_a_header(rt: HostRuntime) {
+fn the_priority_list_goes_first_and_needs_no_room_for_a_header() -> &'static [&'static [Step]] {
     const BEHIND: Entry = Entry { start: 8, ..ENTRY };
     const SCRIPT: &[Step] = &[
         Here(MeAppend(0, List::Overflow, OVERFLOW), Linked(0)),
@@ -167,7 +165,8 @@ fn the_priority_list_goes_first_and_needs_no_room_for_a_header(rt: HostRuntime) 
         HereHolds(&[3, 0, 0, 0, 0, 0, 0, 0, 5, 0, 0, 0, 0, 0, 0, 0]),
         Here(Drops, Number(1)),
     ];
-    play_one(&rt, SCRIPT);
+    const SCRIPTS: &[&[Step]] = &[SCRIPT];
+    SCRIPTS
 }
 
 /// A put that asks for an acknowledgement that counts.
@@ -195,8 +194,7 @@ const NOT_OK: Header = Header {
     ..ACK
 };
 
-#[test]
-fn a_message_of_the_overflow_list_is_answered_and_counted(rt: HostRuntime) {
+fn a_message_of_the_overflow_list_is_answered_and_counted() -> &'static [&'static [Step]] {
     const COUNTS: Entry = Entry {
         ct: Some(FIRST),
         count_comm: true,
@@ -221,11 +219,11 @@ fn a_message_of_the_overflow_list_is_answered_and_counted(rt: HostRuntime) {
         Here(Drops, Number(1)),
         HereHolds(&[7, 8, 1, 0, 0, 0, 0, 0, 0, 0, 0, 0, 0, 0, 0, 0]),
     ];
-    play_one(&rt, SCRIPT);
+    const SCRIPTS: &[&[Step]] = &[SCRIPT];
+    SCRIPTS
 }
 
-#[test]
-fn headers_are_counted_over_all_indices(rt: HostRuntime) {
+fn headers_are_counted_over_all_indices() -> &'static [&'static [Step]] {
     const OF_ONE: UnexpectedHeader = UnexpectedHeader {
         entry: SECOND,
         place: 0,
@@ -251,11 +249,11 @@ fn headers_are_counted_over_all_indices(rt: HostRuntime) {
         Comes(TO_ONE, &[6], Outcome::Dropped),
         HereHolds(&[5, 0, 0, 0, 0, 0, 0, 0, 0, 0, 0, 0, 0, 0, 0, 0]),
     ];
-    play_one(&rt, SCRIPT);
+    const SCRIPTS: &[&[Step]] = &[SCRIPT];
+    SCRIPTS
 }
 
-#[test]
-fn an_append_looks_at_no_length(rt: HostRuntime) {
+fn an_append_looks_at_no_length() -> &'static [&'static [Step]] {
     const SHORT: Entry = Entry {
         length: 1,
         no_truncate: true,
@@ -266,11 +264,10 @@ fn an_append_looks_at_no_length(rt: HostRuntime) {
         HereHolds(&[1, 2, 3, 4, 5, 0, 0, 0, 0, 0, 0, 0, 0, 0, 0, 0]),
     ];
     const SCRIPTS: &[&[Step]] = &[FILLED, SCRIPT];
-    play(&rt, SCRIPTS);
+    SCRIPTS
 }
 
-#[test]
-fn a_search_looks_at_neither_part_nor_counter(rt: HostRuntime) {
+fn a_search_looks_at_neither_part_nor_counter() -> &'static [&'static [Step]] {
     const STALE: Entry = Entry {
         start: 13,
         ct: Some(NOTHING),
@@ -281,11 +278,10 @@ fn a_search_looks_at_neither_part_nor_counter(rt: HostRuntime) {
         Here(MeSearch(1, STALE, false), Found(THREE_BYTES)),
     ];
     const SCRIPTS: &[&[Step]] = &[FILLED, SCRIPT];
-    play(&rt, SCRIPTS);
+    SCRIPTS
 }
 
-#[test]
-fn a_message_that_finds_no_room_for_its_header_is_dropped(rt: HostRuntime) {
+fn a_message_that_finds_no_room_for_its_header_is_dropped() -> &'static [&'static [Step]] {
     const SCRIPT: &[Step] = &[
         Here(MeAppend(0, List::Overflow, OVERFLOW), Linked(0)),
         Comes(PUT, &[1], Outcome::Overflow),
@@ -295,11 +291,11 @@ fn a_message_that_finds_no_room_for_its_header_is_dropped(rt: HostRuntime) {
         Here(Violations, Number(0)),
         HereHolds(&[1, 2, 0, 0, 0, 0, 0, 0, 0, 0, 0, 0, 0, 0, 0, 0]),
     ];
-    play_one(&rt, SCRIPT);
+    const SCRIPTS: &[&[Step]] = &[SCRIPT];
+    SCRIPTS
 }
 
-#[test]
-fn a_persistent_append_takes_all_headers_and_is_linked(rt: HostRuntime) {
+fn a_persistent_append_takes_all_headers_and_is_linked() -> &'static [&'static [Step]] {
     const COUNTS: Entry = Entry {
         start: 8,
         ct: Some(FIRST),
@@ -320,11 +316,11 @@ fn a_persistent_append_takes_all_headers_and_is_linked(rt: HostRuntime) {
         HereHolds(&[1, 2, 0, 0, 0, 0, 0, 0, 3, 0, 0, 0, 0, 0, 0, 0]),
         Here(CtGet(FIRST), Counts(2, 0)),
     ];
-    play_one(&rt, SCRIPT);
+    const SCRIPTS: &[&[Step]] = &[SCRIPT];
+    SCRIPTS
 }
 
-#[test]
-fn a_search_deletes_the_oldest_header_where_asked(rt: HostRuntime) {
+fn a_search_deletes_the_oldest_header_where_asked() -> &'static [&'static [Step]] {
     const THREE_FOUND: Event = Event {
         kind: EventKind::Search,
         ..THREE_TAKEN
@@ -344,7 +340,7 @@ fn a_search_deletes_the_oldest_header_where_asked(rt: HostRuntime) {
         HereTells(FIRST, &[THREE_FOUND, THREE_FOUND, TWO_FOUND, FREED, MISSED]),
     ];
     const SCRIPTS: &[&[Step]] = &[FILLED, SCRIPT];
-    play(&rt, SCRIPTS);
+    SCRIPTS
 }
 
 /// The header of a message of one byte to the second index.
@@ -365,8 +361,7 @@ const ONE_TAKEN: Event = Event {
     ..THREE_TAKEN
 };
 
-#[test]
-fn headers_are_searched_and_taken(rt: HostRuntime) {
+fn headers_are_searched_and_taken() -> &'static [&'static [Step]] {
     const ONE_FOUND: Event = Event {
         kind: EventKind::Search,
         ..ONE_TAKEN
@@ -399,22 +394,22 @@ fn headers_are_searched_and_taken(rt: HostRuntime) {
             ],
         ),
     ];
-    play_one(&rt, SCRIPT);
+    const SCRIPTS: &[&[Step]] = &[SCRIPT];
+    SCRIPTS
 }
 
-#[test]
-fn a_get_does_not_look_at_the_overflow_list(rt: HostRuntime) {
+fn a_get_does_not_look_at_the_overflow_list() -> &'static [&'static [Step]] {
     const SCRIPT: &[Step] = &[
         Here(MeAppend(0, List::Overflow, ENTRY), Linked(0)),
         There(Start(TriggeredOp::Get(GET)), Sent),
         Here(Deliver, Replies(Outcome::Dropped)),
         Here(Drops, Number(1)),
     ];
-    play_one(&rt, SCRIPT);
+    const SCRIPTS: &[&[Step]] = &[SCRIPT];
+    SCRIPTS
 }
 
-#[test]
-fn an_overflow_entry_that_forbids_a_put_leaves_no_header(rt: HostRuntime) {
+fn an_overflow_entry_that_forbids_a_put_leaves_no_header() -> &'static [&'static [Step]] {
     const FORBIDS: Entry = Entry {
         match_bits: 6,
         allow_put: false,
@@ -434,11 +429,11 @@ fn an_overflow_entry_that_forbids_a_put_leaves_no_header(rt: HostRuntime) {
         Here(MeSearch(0, SIX, false), Nothing),
         HereHolds(&[3, 0, 0, 0, 0, 0, 0, 0, 0, 0, 0, 0, 0, 0, 0, 0]),
     ];
-    play_one(&rt, SCRIPT);
+    const SCRIPTS: &[&[Step]] = &[SCRIPT];
+    SCRIPTS
 }
 
-#[test]
-fn an_append_finds_no_header_whose_operation_it_forbids(rt: HostRuntime) {
+fn an_append_finds_no_header_whose_operation_it_forbids() -> &'static [&'static [Step]] {
     const GETS: Entry = Entry {
         allow_put: false,
         ..ONCE
@@ -459,5 +454,27 @@ fn an_append_finds_no_header_whose_operation_it_forbids(rt: HostRuntime) {
         Here(MeAppend(0, List::Priority, GETS), Linked(1)),
         Here(MeAppend(0, List::Priority, ONCE), Consumed(BYTE)),
     ];
-    play_one(&rt, SCRIPT);
+    const SCRIPTS: &[&[Step]] = &[SCRIPT];
+    SCRIPTS
+}
+
+#[test]
+fn each_script(rt: HostRuntime) {
+    plays!(&rt;
+        use_once_appends_take_the_headers_in_order,
+        a_full_queue_loses_the_newest_event,
+        a_loss_is_told_once_however_many_were_lost,
+        the_priority_list_goes_first_and_needs_no_room_for_a_header,
+        a_message_of_the_overflow_list_is_answered_and_counted,
+        headers_are_counted_over_all_indices,
+        an_append_looks_at_no_length,
+        a_search_looks_at_neither_part_nor_counter,
+        a_message_that_finds_no_room_for_its_header_is_dropped,
+        a_persistent_append_takes_all_headers_and_is_linked,
+        a_search_deletes_the_oldest_header_where_asked,
+        headers_are_searched_and_taken,
+        a_get_does_not_look_at_the_overflow_list,
+        an_overflow_entry_that_forbids_a_put_leaves_no_header,
+        an_append_finds_no_header_whose_operation_it_forbids
+    );
 }

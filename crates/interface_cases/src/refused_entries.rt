@@ -1,7 +1,7 @@
 //! Every refusal of the calls on match entries.
 
 use crate::busy::{BUSY, DEEDS_STAND, HELD, LISTS_STAND};
-use crate::scene::{play, play_one};
+use crate::scene::plays;
 use crate::steps::Answer::*;
 use crate::steps::Call::*;
 use crate::steps::Step::{self, *};
@@ -17,8 +17,7 @@ const STALE: Entry = Entry {
     ..PAST
 };
 
-#[test]
-fn a_refused_call_on_an_entry_changes_nothing(rt: HostRuntime) {
+fn a_refused_call_on_an_entry_changes_nothing() -> &'static [&'static [Step]] {
     const SCRIPT: &[Step] = &[
         Here(MeAppend(2, List::Priority, PAST), Refused(Stale)),
         Here(MeAppend(2, List::Overflow, PAST), Refused(Stale)),
@@ -35,11 +34,10 @@ fn a_refused_call_on_an_entry_changes_nothing(rt: HostRuntime) {
         Here(MeUnlink(THIRD), Done),
     ];
     const SCRIPTS: &[&[Step]] = &[BUSY, SCRIPT, LISTS_STAND, DEEDS_STAND];
-    play(&rt, SCRIPTS);
+    SCRIPTS
 }
 
-#[test]
-fn an_append_is_refused_also_where_a_header_would_be_found(rt: HostRuntime) {
+fn an_append_is_refused_also_where_a_header_would_be_found() -> &'static [&'static [Step]] {
     const SIX: Entry = Entry {
         match_bits: 6,
         ..ONCE
@@ -56,11 +54,10 @@ fn an_append_is_refused_also_where_a_header_would_be_found(rt: HostRuntime) {
         Here(MeUnlink(FIFTH), Done),
     ];
     const SCRIPTS: &[&[Step]] = &[BUSY, SCRIPT, LISTS_STAND, DEEDS_STAND];
-    play(&rt, SCRIPTS);
+    SCRIPTS
 }
 
-#[test]
-fn an_index_below_the_limit_is_stale_while_it_is_not_allocated(rt: HostRuntime) {
+fn an_index_below_the_limit_is_stale_while_it_is_not_allocated() -> &'static [&'static [Step]] {
     const STALE_INDEX: &[Step] = &[
         Here(PtFree(1), Refused(Stale)),
         Here(MeAppend(1, List::Priority, ENTRY), Refused(Stale)),
@@ -76,11 +73,10 @@ fn an_index_below_the_limit_is_stale_while_it_is_not_allocated(rt: HostRuntime) 
         Here(PtFree(1), Done),
     ];
     const SCRIPTS: &[&[Step]] = &[STALE_INDEX, ALLOCATED, STALE_INDEX];
-    play(&rt, SCRIPTS);
+    SCRIPTS
 }
 
-#[test]
-fn an_index_is_in_use_for_each_reason_alone(rt: HostRuntime) {
+fn an_index_is_in_use_for_each_reason_alone() -> &'static [&'static [Step]] {
     const HELD_BY_THIRD: UnexpectedHeader = UnexpectedHeader {
         entry: THIRD,
         ..HELD
@@ -98,5 +94,16 @@ fn an_index_is_in_use_for_each_reason_alone(rt: HostRuntime) {
         Here(MeSearch(0, ENTRY, true), Found(HELD_BY_THIRD)),
         Here(PtFree(0), Done),
     ];
-    play_one(&rt, SCRIPT);
+    const SCRIPTS: &[&[Step]] = &[SCRIPT];
+    SCRIPTS
+}
+
+#[test]
+fn each_script(rt: HostRuntime) {
+    plays!(&rt;
+        a_refused_call_on_an_entry_changes_nothing,
+        an_append_is_refused_also_where_a_header_would_be_found,
+        an_index_below_the_limit_is_stale_while_it_is_not_allocated,
+        an_index_is_in_use_for_each_reason_alone
+    );
 }

@@ -2,14 +2,13 @@
 
 use crate::busy::{BUSY, DEEDS_STAND, LISTS_STAND};
 use crate::deeds::*;
-use crate::scene::play;
+use crate::scene::plays;
 use crate::steps::Answer::*;
 use crate::steps::Call::*;
 use crate::steps::Step::{self, *};
 use ptl_types::NiFault::{OutOfRegion, Stale};
 
-#[test]
-fn a_refused_put_get_or_atomic_changes_nothing(rt: HostRuntime) {
+fn a_refused_put_get_or_atomic_changes_nothing() -> &'static [&'static [Step]] {
     const SCRIPT: &[Step] = &[
         Here(Start(PUT_STALE), Refused(Stale)),
         Here(Start(PUT_BEHIND), Refused(OutOfRegion)),
@@ -22,11 +21,10 @@ fn a_refused_put_get_or_atomic_changes_nothing(rt: HostRuntime) {
         Here(Start(SUM_FAR), Refused(OutOfRegion)),
     ];
     const SCRIPTS: &[&[Step]] = &[BUSY, SCRIPT, LISTS_STAND, DEEDS_STAND];
-    play(&rt, SCRIPTS);
+    SCRIPTS
 }
 
-#[test]
-fn a_refused_fetch_atomic_or_swap_changes_nothing(rt: HostRuntime) {
+fn a_refused_fetch_atomic_or_swap_changes_nothing() -> &'static [&'static [Step]] {
     const SCRIPT: &[Step] = &[
         Here(Start(FETCH_STALE), Refused(Stale)),
         Here(Start(FETCH_STALE_BACK), Refused(Stale)),
@@ -42,5 +40,13 @@ fn a_refused_fetch_atomic_or_swap_changes_nothing(rt: HostRuntime) {
         Here(Start(SWAP_FAR_BACK), Refused(OutOfRegion)),
     ];
     const SCRIPTS: &[&[Step]] = &[BUSY, SCRIPT, LISTS_STAND, DEEDS_STAND];
-    play(&rt, SCRIPTS);
+    SCRIPTS
+}
+
+#[test]
+fn each_script(rt: HostRuntime) {
+    plays!(&rt;
+        a_refused_put_get_or_atomic_changes_nothing,
+        a_refused_fetch_atomic_or_swap_changes_nothing
+    );
 }

@@ -3,7 +3,7 @@
 
 use crate::busy::{BUSY, DEEDS_STAND, LISTS_STAND};
 use crate::deeds::{FETCH_BYTE, GET_BYTE, SUM_BYTE, SWAP_BYTE};
-use crate::scene::{play, play_one};
+use crate::scene::plays;
 use crate::steps::Answer::*;
 use crate::steps::Call::*;
 use crate::steps::Step::{self, *};
@@ -11,8 +11,7 @@ use crate::values::{DESCRIPTOR, ENTRY, FIRST, NOTHING, ONE, SECOND, THIRD};
 use ptl_types::NiFault::{CountFull, InUse, NoSpace, OutOfRegion, Stale};
 use ptl_types::{Count, Descriptor, Entry, List, TriggeredOp};
 
-#[test]
-fn a_refused_call_on_an_index_changes_nothing(rt: HostRuntime) {
+fn a_refused_call_on_an_index_changes_nothing() -> &'static [&'static [Step]] {
     const SCRIPT: &[Step] = &[
         Here(PtAlloc(2, Some(NOTHING)), Refused(Stale)),
         Here(PtAlloc(2, None), Refused(NoSpace)),
@@ -22,11 +21,10 @@ fn a_refused_call_on_an_index_changes_nothing(rt: HostRuntime) {
         Here(PtFree(1), Refused(InUse)),
     ];
     const SCRIPTS: &[&[Step]] = &[BUSY, SCRIPT, LISTS_STAND, DEEDS_STAND];
-    play(&rt, SCRIPTS);
+    SCRIPTS
 }
 
-#[test]
-fn a_refused_call_on_a_counter_changes_nothing(rt: HostRuntime) {
+fn a_refused_call_on_a_counter_changes_nothing() -> &'static [&'static [Step]] {
     const SCRIPT: &[Step] = &[
         Here(CtAlloc, Refused(NoSpace)),
         Here(CtFree(NOTHING), Refused(Stale)),
@@ -40,11 +38,10 @@ fn a_refused_call_on_a_counter_changes_nothing(rt: HostRuntime) {
         Here(CtCancel(NOTHING), Refused(Stale)),
     ];
     const SCRIPTS: &[&[Step]] = &[BUSY, SCRIPT, LISTS_STAND, DEEDS_STAND];
-    play(&rt, SCRIPTS);
+    SCRIPTS
 }
 
-#[test]
-fn a_refused_call_on_a_queue_changes_nothing(rt: HostRuntime) {
+fn a_refused_call_on_a_queue_changes_nothing() -> &'static [&'static [Step]] {
     const SCRIPT: &[Step] = &[
         Here(EqAlloc(1), Refused(NoSpace)),
         Here(EqFree(NOTHING), Refused(Stale)),
@@ -52,7 +49,7 @@ fn a_refused_call_on_a_queue_changes_nothing(rt: HostRuntime) {
         Here(EqGet(NOTHING), Refused(Stale)),
     ];
     const SCRIPTS: &[&[Step]] = &[BUSY, SCRIPT, LISTS_STAND, DEEDS_STAND];
-    play(&rt, SCRIPTS);
+    SCRIPTS
 }
 
 /// A descriptor that reaches past the end of the region.
@@ -61,8 +58,7 @@ const PAST: Descriptor = Descriptor {
     ..DESCRIPTOR
 };
 
-#[test]
-fn a_refused_call_on_a_descriptor_changes_nothing(rt: HostRuntime) {
+fn a_refused_call_on_a_descriptor_changes_nothing() -> &'static [&'static [Step]] {
     const STALE_QUEUE: Descriptor = Descriptor {
         eq: Some(NOTHING),
         ..PAST
@@ -81,11 +77,10 @@ fn a_refused_call_on_a_descriptor_changes_nothing(rt: HostRuntime) {
         Here(Awaits(NOTHING), Refused(Stale)),
     ];
     const SCRIPTS: &[&[Step]] = &[BUSY, SCRIPT, LISTS_STAND, DEEDS_STAND];
-    play(&rt, SCRIPTS);
+    SCRIPTS
 }
 
-#[test]
-fn a_descriptor_lies_in_the_region(rt: HostRuntime) {
+fn a_descriptor_lies_in_the_region() -> &'static [&'static [Step]] {
     // The second descriptor goes and comes again, so that there is room for one in between.
     const AGAIN: Descriptor = Descriptor {
         start: 8,
@@ -110,11 +105,10 @@ fn a_descriptor_lies_in_the_region(rt: HostRuntime) {
         Here(CtFree(FIRST), Refused(InUse)),
     ];
     const SCRIPTS: &[&[Step]] = &[BUSY, SCRIPT, LISTS_STAND, COUNTERS_GO];
-    play(&rt, SCRIPTS);
+    SCRIPTS
 }
 
-#[test]
-fn an_operation_that_waits_holds_each_of_its_descriptors(rt: HostRuntime) {
+fn an_operation_that_waits_holds_each_of_its_descriptors() -> &'static [&'static [Step]] {
     const SCRIPT: &[Step] = &[
         Here(CtAlloc, Made(0)),
         Here(MdBind(DESCRIPTOR), Made(0)),
@@ -137,11 +131,11 @@ fn an_operation_that_waits_holds_each_of_its_descriptors(rt: HostRuntime) {
         Here(CtCancel(FIRST), Number(1)),
         Here(MdRelease(SECOND), Done),
     ];
-    play_one(&rt, SCRIPT);
+    const SCRIPTS: &[&[Step]] = &[SCRIPT];
+    SCRIPTS
 }
 
-#[test]
-fn a_counter_is_in_use_for_each_reason_alone(rt: HostRuntime) {
+fn a_counter_is_in_use_for_each_reason_alone() -> &'static [&'static [Step]] {
     const COUNTS: Entry = Entry {
         ct: Some(FIRST),
         ..ENTRY
@@ -183,11 +177,11 @@ fn a_counter_is_in_use_for_each_reason_alone(rt: HostRuntime) {
         Here(CtFree(SECOND), Done),
         Here(CtFree(FIRST), Done),
     ];
-    play_one(&rt, SCRIPT);
+    const SCRIPTS: &[&[Step]] = &[SCRIPT];
+    SCRIPTS
 }
 
-#[test]
-fn a_queue_is_in_use_for_each_reason_alone(rt: HostRuntime) {
+fn a_queue_is_in_use_for_each_reason_alone() -> &'static [&'static [Step]] {
     const NAMES: Descriptor = Descriptor {
         eq: Some(FIRST),
         ..DESCRIPTOR
@@ -202,11 +196,11 @@ fn a_queue_is_in_use_for_each_reason_alone(rt: HostRuntime) {
         Here(MdRelease(FIRST), Done),
         Here(EqFree(FIRST), Done),
     ];
-    play_one(&rt, SCRIPT);
+    const SCRIPTS: &[&[Step]] = &[SCRIPT];
+    SCRIPTS
 }
 
-#[test]
-fn a_refused_call_uses_up_no_stamp(rt: HostRuntime) {
+fn a_refused_call_uses_up_no_stamp() -> &'static [&'static [Step]] {
     const SCRIPT: &[Step] = &[
         Here(EqAlloc(1), Made(0)),
         Here(CtAlloc, Made(0)),
@@ -224,5 +218,21 @@ fn a_refused_call_uses_up_no_stamp(rt: HostRuntime) {
         Here(MdBind(DESCRIPTOR), Made(2)),
         Here(CtGet(THIRD), Counts(0, 0)),
     ];
-    play_one(&rt, SCRIPT);
+    const SCRIPTS: &[&[Step]] = &[SCRIPT];
+    SCRIPTS
+}
+
+#[test]
+fn each_script(rt: HostRuntime) {
+    plays!(&rt;
+        a_refused_call_on_an_index_changes_nothing,
+        a_refused_call_on_a_counter_changes_nothing,
+        a_refused_call_on_a_queue_changes_nothing,
+        a_refused_call_on_a_descriptor_changes_nothing,
+        a_descriptor_lies_in_the_region,
+        an_operation_that_waits_holds_each_of_its_descriptors,
+        a_counter_is_in_use_for_each_reason_alone,
+        a_queue_is_in_use_for_each_reason_alone,
+        a_refused_call_uses_up_no_stamp
+    );
 }

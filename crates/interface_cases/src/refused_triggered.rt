@@ -2,7 +2,7 @@
 
 use crate::busy::{BUSY, DEEDS_STAND, LISTS_STAND};
 use crate::deeds::*;
-use crate::scene::play;
+use crate::scene::plays;
 use crate::steps::Answer::*;
 use crate::steps::Call::*;
 use crate::steps::Step::{self, *};
@@ -21,8 +21,7 @@ const SET_PAST: TriggeredOp = TriggeredOp::Set(SECOND, PAST_THE_END);
 
 const SET_STALE: TriggeredOp = TriggeredOp::Set(NOTHING, PAST_THE_END);
 
-#[test]
-fn a_refused_increment_or_set_changes_nothing(rt: HostRuntime) {
+fn a_refused_increment_or_set_changes_nothing() -> &'static [&'static [Step]] {
     const SCRIPT: &[Step] = &[
         Here(Triggered(RAISE_PAST, NOTHING, 0), Refused(Stale)),
         Here(Triggered(RAISE_STALE, FIRST, 0), Refused(Stale)),
@@ -32,11 +31,10 @@ fn a_refused_increment_or_set_changes_nothing(rt: HostRuntime) {
         Here(Triggered(SET_PAST, FIRST, 0), Refused(CountFull)),
     ];
     const SCRIPTS: &[&[Step]] = &[BUSY, SCRIPT, LISTS_STAND, DEEDS_STAND];
-    play(&rt, SCRIPTS);
+    SCRIPTS
 }
 
-#[test]
-fn a_refused_triggered_start_changes_nothing(rt: HostRuntime) {
+fn a_refused_triggered_start_changes_nothing() -> &'static [&'static [Step]] {
     const SCRIPT: &[Step] = &[
         Here(Triggered(PUT_BYTE, NOTHING, 0), Refused(Stale)),
         Here(Triggered(PUT_STALE, FIRST, 0), Refused(Stale)),
@@ -49,11 +47,10 @@ fn a_refused_triggered_start_changes_nothing(rt: HostRuntime) {
         Here(Triggered(SUM_BEHIND, FIRST, 0), Refused(OutOfRegion)),
     ];
     const SCRIPTS: &[&[Step]] = &[BUSY, SCRIPT, LISTS_STAND, DEEDS_STAND];
-    play(&rt, SCRIPTS);
+    SCRIPTS
 }
 
-#[test]
-fn a_refused_triggered_fetch_changes_nothing(rt: HostRuntime) {
+fn a_refused_triggered_fetch_changes_nothing() -> &'static [&'static [Step]] {
     const SCRIPT: &[Step] = &[
         Here(Triggered(FETCH_BYTE, NOTHING, 0), Refused(Stale)),
         Here(Triggered(FETCH_STALE, FIRST, 0), Refused(Stale)),
@@ -67,11 +64,10 @@ fn a_refused_triggered_fetch_changes_nothing(rt: HostRuntime) {
         Here(Triggered(SWAP_BEHIND_BACK, FIRST, 0), Refused(OutOfRegion)),
     ];
     const SCRIPTS: &[&[Step]] = &[BUSY, SCRIPT, LISTS_STAND, DEEDS_STAND];
-    play(&rt, SCRIPTS);
+    SCRIPTS
 }
 
-#[test]
-fn a_refused_triggered_operation_uses_up_no_number(rt: HostRuntime) {
+fn a_refused_triggered_operation_uses_up_no_number() -> &'static [&'static [Step]] {
     const SCRIPT: &[Step] = &[
         Here(Triggered(RAISE, SECOND, 9), Number(2)),
         Here(Triggered(RAISE, SECOND, 9), Number(3)),
@@ -88,5 +84,15 @@ fn a_refused_triggered_operation_uses_up_no_number(rt: HostRuntime) {
         Here(CtCancel(SECOND), Number(1)),
     ];
     const SCRIPTS: &[&[Step]] = &[BUSY, SCRIPT, LISTS_STAND, DEEDS_STAND];
-    play(&rt, SCRIPTS);
+    SCRIPTS
+}
+
+#[test]
+fn each_script(rt: HostRuntime) {
+    plays!(&rt;
+        a_refused_increment_or_set_changes_nothing,
+        a_refused_triggered_start_changes_nothing,
+        a_refused_triggered_fetch_changes_nothing,
+        a_refused_triggered_operation_uses_up_no_number
+    );
 }

@@ -1,6 +1,6 @@
 //! Replies at the initiator (Portals 4.3, get and fetch-atomic).
 
-use crate::scene::play;
+use crate::scene::plays;
 use crate::steps::Answer::*;
 use crate::steps::Call::*;
 use crate::steps::Step::{self, *};
@@ -60,8 +60,7 @@ const FAILED: Event = Event {
     ..REPLY_TOLD
 };
 
-#[test]
-fn a_reply_is_written_counted_and_told(rt: HostRuntime) {
+fn a_reply_is_written_counted_and_told() -> &'static [&'static [Step]] {
     const SCRIPT: &[Step] = &[
         Here(EqAlloc(4), Made(0)),
         Here(CtAlloc, Made(0)),
@@ -86,11 +85,10 @@ fn a_reply_is_written_counted_and_told(rt: HostRuntime) {
         HereTells(FIRST, &[START_TOLD, FAILED]),
     ];
     const SCRIPTS: &[&[Step]] = &[TARGET, SCRIPT];
-    play(&rt, SCRIPTS);
+    SCRIPTS
 }
 
-#[test]
-fn a_fetching_start_counts_on_its_put_arguments_alone(rt: HostRuntime) {
+fn a_fetching_start_counts_on_its_put_arguments_alone() -> &'static [&'static [Step]] {
     const BYTE: PutArgs = PutArgs {
         length: 1,
         target: 1,
@@ -125,5 +123,13 @@ fn a_fetching_start_counts_on_its_put_arguments_alone(rt: HostRuntime) {
         Here(Awaits(SECOND), Number(0)),
     ];
     const SCRIPTS: &[&[Step]] = &[TARGET, SCRIPT];
-    play(&rt, SCRIPTS);
+    SCRIPTS
+}
+
+#[test]
+fn each_script(rt: HostRuntime) {
+    plays!(&rt;
+        a_reply_is_written_counted_and_told,
+        a_fetching_start_counts_on_its_put_arguments_alone
+    );
 }

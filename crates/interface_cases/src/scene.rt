@@ -14,24 +14,46 @@ const SETTING: &[Step] = &[
 ];
 
 /// The interfaces of ranks 0 and 1, and the message that is under way.
-#[derive(Drop)]
 struct Scene {
     here: End,
     there: End,
     wire: Option<Message>,
 }
 
-/// Plays scripts one after another, between two interfaces of 16 zero bytes. A failure names the script and the step, each
-/// counted from 0. A test hands on a constant list: one that is made when the test runs makes its proof a third longer.
-pub fn play<R: Abort + Alloc<A = Global>>(rt: &R, scripts: &[&[Step]]) {
-    let mut scene = Scene::open(rt, &[0; 16], &[0; 16]);
-    scene.script(rt, 0, SETTING);
-    scene.scripts(rt, scripts);
+// Written out, so that letting one go is one call: docs/DECISIONS.md, "Large types have a drop of their own".
+impl Drop for Scene {
+    fn drop(self) {
+        let Scene {
+            here: _,
+            there: _,
+            wire: _,
+        } = self;
+    }
 }
 
-/// Plays one script, as `play`.
-pub fn play_one<R: Abort + Alloc<A = Global>>(rt: &R, script: &[Step]) {
-    play(rt, &[script]);
+/// Plays what these functions give, each between two interfaces of its own. A function gives a constant list and does nothing else, since
+/// a list that is made when a test runs makes its proof longer; and one test plays all of a module, since each test has a proof of its own.
+macro_rules! plays {
+    ($rt:expr; $($scripts:ident),*) => {
+        $( $crate::scene::play($rt, stringify!($scripts), $scripts()); )*
+    };
+}
+
+pub(crate) use plays;
+
+/// Where a step stands: in what is played, in which of its scripts, and where there, both counted from 0.
+#[derive(Clone, Copy)]
+struct Place {
+    name: &'static str,
+    script: usize,
+    step: usize,
+}
+
+/// Plays scripts one after another, between two interfaces of 16 zero bytes. A failure names the script and the step.
+pub fn play<R: Abort + Alloc<A = Global>>(rt: &R, name: &'static str, scripts: &[&[Step]]) {
+    let mut scene = Scene::open(rt, &[0; 16], &[0; 16]);
+    scene.script(rt, name, 0, SETTING);
+    scene.scripts(rt, name, scripts);
 }
 
 /// Plays a script between two interfaces over regions of these bytes, with nothing made in them.
@@ -42,41 +64,79 @@ pub fn play_between<R: Abort + Alloc<A = Global>>(
     script: &[Step],
 ) {
     let mut scene = Scene::open(rt, here, there);
-    scene.script(rt, 0, script);
+    scene.script(rt, "between", 0, script);
 }
 
-/// Makes a call and compares its answer. Where it is refused, all that the interface tells is as it was.
-fn check<R: Abort + Alloc<A = Global>>(
+/// Makes a call and compares its answer.
+fn answers_so<R: Abort + Alloc<A = Global>>(
     rt: &R,
-    at: (usize, usize),
+    at: Place,
+    end: &mut End,
+    wire: &mut Option<Message>,
+    call: Call,
+    want: Answer,
+) {
+    let answer = end.ask(rt, wire, call);
+    answers(rt, at, answer, end.real(want));
+}
+
+/// Makes a call that is refused: all that the interface tells is as it was.
+fn refuses<R: Abort + Alloc<A = Global>>(
+    rt: &R,
+    at: Place,
     end: &mut End,
     wire: &mut Option<Message>,
     call: Call,
     want: Answer,
 ) {
     let before = end.seen();
-    let answer = end.ask(rt, wire, call);
-    answers(rt, at, answer, end.real(want));
-    if matches!(answer, Answer::Refused(_)) {
-        changed_nothing(rt, at, end.seen() == before);
+    answers_so(rt, at, end, wire, call, want);
+    changed_nothing(rt, at, end.seen() == before);
+}
+
+/// Makes a call, and compares what the interface tells before and after it where it is to be refused.
+fn check<R: Abort + Alloc<A = Global>>(
+    rt: &R,
+    at: Place,
+    end: &mut End,
+    wire: &mut Option<Message>,
+    call: Call,
+    want: Answer,
+) {
+    if matches!(want, Answer::Refused(_)) {
+        refuses(rt, at, end, wire, call, want);
+    } else {
+        answers_so(rt, at, end, wire, call, want);
     }
 }
 
-fn answers(rt: &impl Abort, at: (usize, usize), answer: Answer, want: Answer) {
-    assert_eq!(rt; answer, want, "script {}, step {}", at.0, at.1);
+fn answers(rt: &impl Abort, at: Place, answer: Answer, want: Answer) {
+    assert_eq!(rt;
+        answer,
+        want,
+        "{}: script {}, step {}",
+        at.name, at.script, at.step
+    );
 }
 
-fn changed_nothing(rt: &impl Abort, at: (usize, usize), stays: bool) {
+fn changed_nothing(rt: &impl Abort, at: Place, stays: bool) {
     assert!(rt;
         stays,
-        "a refused call changed something: script {}, step {}",
-        at.0, at.1
+        "a refused call changed something: {}: script {}, step {}",
+        at.name, at.script, at.step
     );
 }
 
 /// The region has these bytes.
-fn holds(rt: &impl Abort, at: (usize, usize), end: &End, bytes: &[u8]) {
-    assert_eq!(rt; end.memory(), bytes, "script {}, step {}", at.0, at.1);
+fn holds(rt: &impl Abort, at: Place, end: &End, bytes: &[u8]) {
+    assert_eq!(rt;
+        end.memory(),
+        bytes,
+        "{}: script {}, step {}",
+        at.name,
+        at.script,
+        at.step
+    );
 }
 
 impl Scene {
@@ -88,19 +148,30 @@ impl Scene {
         }
     }
 
-    fn scripts<R: Abort + Alloc<A = Global>>(&mut self, rt: &R, scripts: &[&[Step]]) {
+    fn scripts<R: Abort + Alloc<A = Global>>(
+        &mut self,
+        rt: &R,
+        name: &'static str,
+        scripts: &[&[Step]],
+    ) {
         for (number, script) in scripts.iter().enumerate() {
-            self.script(rt, number, script);
+            self.script(rt, name, number, script);
         }
     }
 
-    fn script<R: Abort + Alloc<A = Global>>(&mut self, rt: &R, number: usize, script: &[Step]) {
-        for (place, step) in script.iter().enumerate() {
-            self.step(rt, (number, place), *step);
+    fn script<R: Abort + Alloc<A = Global>>(
+        &mut self,
+        rt: &R,
+        name: &'static str,
+        script: usize,
+        steps: &[Step],
+    ) {
+        for (step, made) in steps.iter().enumerate() {
+            self.step(rt, Place { name, script, step }, *made);
         }
     }
 
-    fn step<R: Abort + Alloc<A = Global>>(&mut self, rt: &R, at: (usize, usize), step: Step) {
+    fn step<R: Abort + Alloc<A = Global>>(&mut self, rt: &R, at: Place, step: Step) {
         match step {
             Step::Here(call, want) => self.here(rt, at, call, want),
             Step::There(call, want) => self.there(rt, at, call, want),
@@ -111,30 +182,18 @@ impl Scene {
         }
     }
 
-    fn here<R: Abort + Alloc<A = Global>>(
-        &mut self,
-        rt: &R,
-        at: (usize, usize),
-        call: Call,
-        want: Answer,
-    ) {
+    fn here<R: Abort + Alloc<A = Global>>(&mut self, rt: &R, at: Place, call: Call, want: Answer) {
         check(rt, at, &mut self.here, &mut self.wire, call, want);
     }
 
-    fn there<R: Abort + Alloc<A = Global>>(
-        &mut self,
-        rt: &R,
-        at: (usize, usize),
-        call: Call,
-        want: Answer,
-    ) {
+    fn there<R: Abort + Alloc<A = Global>>(&mut self, rt: &R, at: Place, call: Call, want: Answer) {
         check(rt, at, &mut self.there, &mut self.wire, call, want);
     }
 
     fn tells<R: Abort + Alloc<A = Global>>(
         &mut self,
         rt: &R,
-        at: (usize, usize),
+        at: Place,
         eq: Handle,
         events: &[Event],
     ) {
@@ -147,7 +206,7 @@ impl Scene {
     fn comes<R: Abort + Alloc<A = Global>>(
         &mut self,
         rt: &R,
-        at: (usize, usize),
+        at: Place,
         args: PutArgs,
         bytes: &'static [u8],
         outcome: Outcome,

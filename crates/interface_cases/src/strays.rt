@@ -1,7 +1,7 @@
 //! A reply that doesn't fit its descriptor, an answer of another kind than the awaited one, and refusals of which two hold at
 //! once.
 
-use crate::scene::play_one;
+use crate::scene::plays;
 use crate::steps::Answer::*;
 use crate::steps::Call::*;
 use crate::steps::Step::{self, *};
@@ -9,8 +9,7 @@ use crate::values::{DESCRIPTOR, FIRST, GET, NOTHING, ONE};
 use ptl_types::NiFault::{InUse, NoSpace, Stale};
 use ptl_types::{Descriptor, GetArgs, Outcome, TriggeredOp};
 
-#[test]
-fn a_reply_past_the_end_of_its_descriptor_is_dropped(rt: HostRuntime) {
+fn a_reply_past_the_end_of_its_descriptor_is_dropped() -> &'static [&'static [Step]] {
     const ASKS: GetArgs = GetArgs {
         length: 2,
         target: 1,
@@ -28,11 +27,11 @@ fn a_reply_past_the_end_of_its_descriptor_is_dropped(rt: HostRuntime) {
         Here(Deliver, Became(Outcome::Answered)),
         HereHolds(&[0, 0, 0, 0, 0, 0, 0, 0, 0, 0, 0, 0, 0, 0, 7, 8]),
     ];
-    play_one(&rt, SCRIPT);
+    const SCRIPTS: &[&[Step]] = &[SCRIPT];
+    SCRIPTS
 }
 
-#[test]
-fn an_acknowledgement_answers_for_an_awaited_reply(rt: HostRuntime) {
+fn an_acknowledgement_answers_for_an_awaited_reply() -> &'static [&'static [Step]] {
     const COUNTS: Descriptor = Descriptor {
         ct: Some(FIRST),
         count_ack: true,
@@ -59,11 +58,11 @@ fn an_acknowledgement_answers_for_an_awaited_reply(rt: HostRuntime) {
         Here(CtGet(FIRST), Counts(1, 0)),
         HereHolds(&[0, 0, 0, 0, 0, 0, 0, 0, 0, 0, 0, 0, 0, 0, 0, 0]),
     ];
-    play_one(&rt, SCRIPT);
+    const SCRIPTS: &[&[Step]] = &[SCRIPT];
+    SCRIPTS
 }
 
-#[test]
-fn a_stale_handle_is_told_before_all_else(rt: HostRuntime) {
+fn a_stale_handle_is_told_before_all_else() -> &'static [&'static [Step]] {
     const RAISE: TriggeredOp = TriggeredOp::Inc(FIRST, ONE);
     const STALE: TriggeredOp = TriggeredOp::Inc(NOTHING, ONE);
     const SCRIPT: &[Step] = &[
@@ -79,5 +78,15 @@ fn a_stale_handle_is_told_before_all_else(rt: HostRuntime) {
         Here(PtAlloc(0, Some(NOTHING)), Refused(Stale)),
         Here(PtAlloc(0, None), Refused(InUse)),
     ];
-    play_one(&rt, SCRIPT);
+    const SCRIPTS: &[&[Step]] = &[SCRIPT];
+    SCRIPTS
+}
+
+#[test]
+fn each_script(rt: HostRuntime) {
+    plays!(&rt;
+        a_reply_past_the_end_of_its_descriptor_is_dropped,
+        an_acknowledgement_answers_for_an_awaited_reply,
+        a_stale_handle_is_told_before_all_else
+    );
 }

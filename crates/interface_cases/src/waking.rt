@@ -1,7 +1,7 @@
 //! A triggered operation becomes ready by whatever raises its counting event: an arrival, a start, an answer, or an append
 //! that takes a header (Portals 4.3, triggered operations). By the firing of another: `firing`.
 
-use crate::scene::play;
+use crate::scene::plays;
 use crate::steps::Answer::*;
 use crate::steps::Call::*;
 use crate::steps::Step::{self, *};
@@ -24,8 +24,7 @@ const WOKEN: &[Step] = &[
     Here(CtGet(FIRST), Counts(2, 0)),
 ];
 
-#[test]
-fn by_an_arrival(rt: HostRuntime) {
+fn by_an_arrival() -> &'static [&'static [Step]] {
     const COUNTS: Entry = Entry {
         ct: Some(FIRST),
         count_comm: true,
@@ -37,11 +36,10 @@ fn by_an_arrival(rt: HostRuntime) {
         Comes(PUT, &[1], Outcome::Matched),
     ];
     const SCRIPTS: &[&[Step]] = &[WAITING, SCRIPT, WOKEN];
-    play(&rt, SCRIPTS);
+    SCRIPTS
 }
 
-#[test]
-fn by_an_append_that_takes_a_header(rt: HostRuntime) {
+fn by_an_append_that_takes_a_header() -> &'static [&'static [Step]] {
     const COUNTS: Entry = Entry {
         ct: Some(FIRST),
         count_overflow: true,
@@ -63,11 +61,10 @@ fn by_an_append_that_takes_a_header(rt: HostRuntime) {
         Here(MeAppend(0, List::Priority, COUNTS), Consumed(HEADER_TAKEN)),
     ];
     const SCRIPTS: &[&[Step]] = &[WAITING, SCRIPT, WOKEN];
-    play(&rt, SCRIPTS);
+    SCRIPTS
 }
 
-#[test]
-fn by_a_start(rt: HostRuntime) {
+fn by_a_start() -> &'static [&'static [Step]] {
     const COUNTS: Descriptor = Descriptor {
         ct: Some(FIRST),
         count_send: true,
@@ -79,11 +76,10 @@ fn by_a_start(rt: HostRuntime) {
         Here(Start(TriggeredOp::Put(PUT)), Sent),
     ];
     const SCRIPTS: &[&[Step]] = &[WAITING, SCRIPT, WOKEN];
-    play(&rt, SCRIPTS);
+    SCRIPTS
 }
 
-#[test]
-fn by_an_answer(rt: HostRuntime) {
+fn by_an_answer() -> &'static [&'static [Step]] {
     const COUNTS: Descriptor = Descriptor {
         ct: Some(FIRST),
         count_ack: true,
@@ -104,5 +100,15 @@ fn by_an_answer(rt: HostRuntime) {
         Here(Ready, Number(0)),
     ];
     const SCRIPTS: &[&[Step]] = &[WAITING, SCRIPT];
-    play(&rt, SCRIPTS);
+    SCRIPTS
+}
+
+#[test]
+fn each_script(rt: HostRuntime) {
+    plays!(&rt;
+        by_an_arrival,
+        by_an_append_that_takes_a_header,
+        by_a_start,
+        by_an_answer
+    );
 }

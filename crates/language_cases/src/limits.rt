@@ -5,6 +5,7 @@ use crate::texts::{
     Answer, NO_MEMORY, Part, add_data_line, add_parts, answer, answer_if, answer_to, numbered,
 };
 use std::alloc::Global;
+use std::process::Abort;
 
 /// One input on one rank: the lines 1 to 4.
 const ONE: &[u8] = b"coll 1\nranks 1\ninput a u8 1\n7\n";
@@ -274,11 +275,21 @@ fn repeated(alloc: Global, case: &Repeated) -> Answer {
     answer_to(alloc, &[(head, 1), (line, times), (last, 1), (b"end\n", 1)])
 }
 
+/// Stops the test where one of these is read otherwise.
+fn each_repeated(rt: &(impl Abort + AllocGlobal), cases: &[Repeated]) {
+    for (i, case) in cases.iter().enumerate() {
+        same(rt, "REPEATED", i, repeated(rt.alloc(), case), case.4);
+    }
+}
+
+// Each table has a function of its own: the proof of what names a table carries the whole of it from step to step.
+fn repeated_lines() -> &'static [Repeated] {
+    &REPEATED
+}
+
 #[test]
 fn steps_and_prints(rt: HostRuntime) {
-    for (i, case) in REPEATED.iter().enumerate() {
-        same(&rt, "REPEATED", i, repeated(rt.alloc(), case), case.4);
-    }
+    each_repeated(&rt, repeated_lines());
 }
 
 /// A head, a line before and after its number, how many of these stand there, the lines after them, and the answer.
@@ -485,14 +496,26 @@ fn numbered_case(alloc: Global, case: &Numbered) -> Answer {
     numbered(alloc, &[(head, 1)], line, times, last)
 }
 
-#[test]
-fn groups_and_buffers(rt: HostRuntime) {
-    for (i, case) in NUMBERED.iter().enumerate() {
-        same(&rt, "NUMBERED", i, numbered_case(rt.alloc(), case), case.4);
+/// Stops the test where one of these is read otherwise.
+fn each_numbered(rt: &(impl Abort + AllocGlobal), cases: &[Numbered]) {
+    for (i, case) in cases.iter().enumerate() {
+        same(rt, "NUMBERED", i, numbered_case(rt.alloc(), case), case.4);
     }
 }
 
-static RANKS: [(&[u8], Answer); 4] = [
+fn numbered_lines() -> &'static [Numbered] {
+    &NUMBERED
+}
+
+#[test]
+fn groups_and_buffers(rt: HostRuntime) {
+    each_numbered(&rt, numbered_lines());
+}
+
+/// What is written, and its answer.
+type Read = (&'static [u8], Answer);
+
+static RANKS: [Read; 4] = [
     (b"coll 1\nranks 64\nend\n", None),
     (b"coll 1\nranks 65\nend\n", Some((2, "BadRanks"))),
     (b"coll 2\nranks 256\nend\n", None),
@@ -593,7 +616,7 @@ fn bytes_of_a_text_of_version_2(rt: HostRuntime) {
 }
 
 /// After an input of 4096 elements at each of 64 ranks, on the lines 1 to 67.
-static ELEMENTS: [(&[u8], Answer); 5] = [
+static ELEMENTS: [Read; 5] = [
     (
         b"allgather a b\nallgather b c\ngather 0 c d\n",
         Some((70, "TooLarge")),
@@ -611,7 +634,7 @@ static ELEMENTS: [(&[u8], Answer); 5] = [
 ];
 
 /// Of version 2: after an input of 256 elements at each of 256 ranks and two groups, on the lines 1 to 261.
-static ELEMENTS_2: [(&[u8], Answer); 18] = [
+static ELEMENTS_2: [Read; 18] = [
     (
         b"allgather a b\nallgather b c\non two gather 0 c d\n",
         Some((264, "TooLarge")),
@@ -694,32 +717,44 @@ fn wide(alloc: Global, head: &[u8], count: u32, ranks: u32, last: &[u8]) -> Answ
     }
 }
 
-#[test]
-fn elements_of_a_buffer_and_of_all_prints(rt: HostRuntime) {
-    for (i, case) in ELEMENTS.iter().enumerate() {
-        let head = b"coll 1\nranks 64\ninput a u8 4096\n";
+fn elements() -> &'static [Read] {
+    &ELEMENTS
+}
+
+fn elements_2() -> &'static [Read] {
+    &ELEMENTS_2
+}
+
+/// Stops the test where one of these is read otherwise after the head and so many data lines of so many zeros.
+fn each_wide(
+    rt: &(impl Abort + AllocGlobal),
+    table: &str,
+    head: &[u8],
+    count: u32,
+    ranks: u32,
+    cases: &[Read],
+) {
+    for (i, case) in cases.iter().enumerate() {
         same(
-            &rt,
-            "ELEMENTS",
+            rt,
+            table,
             i,
-            wide(rt.alloc(), head, 4096, 64, case.0),
+            wide(rt.alloc(), head, count, ranks, case.0),
             case.1,
         );
     }
 }
 
 #[test]
+fn elements_of_a_buffer_and_of_all_prints(rt: HostRuntime) {
+    let head = b"coll 1\nranks 64\ninput a u8 4096\n";
+    each_wide(&rt, "ELEMENTS", head, 4096, 64, elements());
+}
+
+#[test]
 fn elements_on_256_ranks(rt: HostRuntime) {
-    for (i, case) in ELEMENTS_2.iter().enumerate() {
-        let head = b"coll 2\nranks 256\ngroup one 0\ngroup two 0 1\ninput a u8 256\n";
-        same(
-            &rt,
-            "ELEMENTS_2",
-            i,
-            wide(rt.alloc(), head, 256, 256, case.0),
-            case.1,
-        );
-    }
+    let head = b"coll 2\nranks 256\ngroup one 0\ngroup two 0 1\ninput a u8 256\n";
+    each_wide(&rt, "ELEMENTS_2", head, 256, 256, elements_2());
 }
 
 /// So many allgathers of one byte on 64 ranks.
