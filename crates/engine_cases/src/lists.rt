@@ -1,6 +1,8 @@
 //! Two lists of one index, from a first append to the last unlink.
 
-ghost use Rattle.std.specs.Prelude.{◌≡◌};
+ghost use Rattle.std.specs.Prelude.{◌≡◌, ◌+◌, ◌<◌, [], IfOk};
+ghost use Rattle.match_lists.specs.Lists.{both};
+ghost use Rattle.engine_cases.specs.Few.{HadFew};
 
 use crate::answers::gives;
 use chain_list::Steps;
@@ -39,12 +41,26 @@ const THIRD: Handle = Handle { slot: 2, stamp: 2 };
 
 const FOURTH: Handle = Handle { slot: 3, stamp: 3 };
 
-/// Two entries, one in each list.
-fn two_lists<L: Ledger>(alloc: Global, steps: &mut Steps<L>) -> Result<Lists, Fail> {
-    let mut lists = Lists::open(alloc, 2, 3)?;
-    lists.append(List::Priority, FIRST, entry(5, 4), steps);
-    lists.append(List::Overflow, SECOND, entry(5, 9), steps);
-    Ok(lists)
+/// Two empty lists.
+fn opened(alloc: Global, limit: u32, slots: u32) -> Result<Lists, Fail>
+    ensures few { IfOk result (λ l. HadFew 0 l) }
+    ensures limit { IfOk result (λ l. l.limit ≡ limit) }
+    ensures slots { IfOk result (λ l. l.slots ≡ slots) }
+{
+    Ok(Lists::open(alloc, limit, slots)?)
+}
+
+/// Links an entry under the slot after those of the earlier ones. All that a test then knows of the lists is how many there were.
+fn links<L: Ledger>(lists: &mut Lists, list: List, slot: u32, entry: Entry, steps: &mut Steps<L>)
+    requires few { HadFew slot lists.old }
+    requires limit { slot < lists.old.limit }
+    requires slots { slot < lists.old.slots }
+    ensures few { HadFew (slot + 1) lists.new }
+    ensures limit { lists.new.limit ≡ lists.old.limit }
+    ensures slots { lists.new.slots ≡ lists.old.slots }
+{
+    let stamp = slot as u64;
+    lists.append(list, Handle { slot, stamp }, entry, steps);
 }
 
 /// Such two are found, and unlinked by handle.
@@ -68,16 +84,35 @@ fn begin_empty(rt: &impl Abort, alloc: Global) -> Result<(), Fail> {
     Ok(())
 }
 
+/// Two entries, one in each list.
+fn one_in_each<L: Ledger>(rt: &impl Abort, lists: &mut Lists, steps: &mut Steps<L>)
+    requires few { HadFew 0 lists.old }
+    requires limit { lists.old.limit ≡ 2 }
+    requires slots { lists.old.slots ≡ 3 }
+{
+    links(lists, List::Priority, 0, entry(5, 4), steps);
+    links(lists, List::Overflow, 1, entry(5, 9), steps);
+    found_and_unlinked(rt, lists, steps);
+}
+
+fn in_two_lists<L: Ledger>(
+    rt: &impl Abort,
+    alloc: Global,
+    steps: &mut Steps<L>,
+) -> Result<(), Fail> {
+    begin_empty(rt, alloc)?;
+    let mut lists = opened(alloc, 2, 3)?;
+    one_in_each(rt, &mut lists, steps);
+    Ok(())
+}
+
 fn two_entries<L: Ledger>(rt: &impl Abort, alloc: Global, blank: Blank) -> Result<(), Fail>
     requires name { blank.name ≡ L.name }
     requires parts { blank.parts ≡ L.parts }
     requires one { blank.parts ≡ 1 }
 {
     let mut steps = Steps::<L>::start(blank);
-    begin_empty(rt, alloc)?;
-    let mut lists = two_lists(alloc, &mut steps)?;
-    found_and_unlinked(rt, &mut lists, &mut steps);
-    Ok(())
+    in_two_lists(rt, alloc, &mut steps)
 }
 
 /// An entry of four bytes that ignores these bits.
@@ -89,23 +124,38 @@ fn ignoring(match_bits: u64, ignore_bits: u64) -> Entry {
 }
 
 /// 2, those below 8, 5.
-fn three_lists<L: Ledger>(alloc: Global, steps: &mut Steps<L>) -> Result<Lists, Fail> {
-    let mut lists = Lists::open(alloc, 4, 4)?;
-    lists.append(List::Priority, FIRST, entry(2, 4), steps);
-    lists.append(List::Priority, SECOND, ignoring(0, 7), steps);
-    lists.append(List::Priority, THIRD, entry(5, 4), steps);
-    Ok(lists)
+fn link_three<L: Ledger>(lists: &mut Lists, steps: &mut Steps<L>)
+    requires few { HadFew 0 lists.old }
+    requires limit { lists.old.limit ≡ 4 }
+    requires slots { lists.old.slots ≡ 4 }
+    ensures few { HadFew 3 lists.new }
+    ensures limit { lists.new.limit ≡ 4 }
+    ensures slots { lists.new.slots ≡ 4 }
+{
+    links(lists, List::Priority, 0, entry(2, 4), steps);
+    links(lists, List::Priority, 1, ignoring(0, 7), steps);
+    links(lists, List::Priority, 2, entry(5, 4), steps);
+}
+
+/// Without the second of three.
+fn unlink_second<L: Ledger>(lists: &mut Lists, steps: &mut Steps<L>)
+    requires few { HadFew 3 lists.old }
+    ensures few { HadFew 3 lists.new }
+    ensures limit { lists.new.limit ≡ lists.old.limit }
+    ensures slots { lists.new.slots ≡ lists.old.slots }
+{
+    let _older = lists.unlink(SECOND, steps);
 }
 
 /// The same without those below 8, and then with them after the others.
-fn turned_lists<L: Ledger>(alloc: Global, steps: &mut Steps<L>) -> Result<Lists, Fail> {
-    let mut lists = Lists::open(alloc, 4, 4)?;
-    lists.append(List::Priority, FIRST, entry(2, 4), steps);
-    lists.append(List::Priority, SECOND, ignoring(0, 7), steps);
-    lists.append(List::Priority, THIRD, entry(5, 4), steps);
-    let _older = lists.unlink(SECOND, steps);
-    lists.append(List::Priority, FOURTH, ignoring(0, 7), steps);
-    Ok(lists)
+fn link_turned<L: Ledger>(lists: &mut Lists, steps: &mut Steps<L>)
+    requires few { HadFew 0 lists.old }
+    requires limit { lists.old.limit ≡ 4 }
+    requires slots { lists.old.slots ≡ 4 }
+{
+    link_three(lists, steps);
+    unlink_second(lists, steps);
+    links(lists, List::Priority, 3, ignoring(0, 7), steps);
 }
 
 /// Looks for a message of so many match bits.
@@ -116,36 +166,55 @@ fn gives_first<L: Ledger>(
     first: Option<Handle>,
     steps: &mut Steps<L>,
 ) {
+    let wanted = match first {
+        Some(handle) => Some((List::Priority, handle)),
+        None => None,
+    };
     let found = lists.find(&header(match_bits, 3), false, steps);
-    gives!(rt; found, first.map(|handle| (List::Priority, handle)));
+    gives!(rt; found, wanted);
 }
 
 /// Of 2, those below 8, 5 the first takes the message.
-fn first_of_three<L: Ledger>(
+fn first_of_three<L: Ledger>(rt: &impl Abort, lists: &mut Lists, steps: &mut Steps<L>) {
+    gives_first(rt, lists, 2, Some(FIRST), steps);
+    gives_first(rt, lists, 5, Some(SECOND), steps);
+    gives_first(rt, lists, 10, None, steps);
+    gives!(rt; lists.unlink(SECOND, steps).is_some(), true);
+}
+
+fn in_three_lists<L: Ledger>(
     rt: &impl Abort,
     alloc: Global,
     steps: &mut Steps<L>,
 ) -> Result<(), Fail> {
-    let mut lists = three_lists(alloc, steps)?;
-    gives_first(rt, &lists, 2, Some(FIRST), steps);
-    gives_first(rt, &lists, 5, Some(SECOND), steps);
-    gives_first(rt, &lists, 10, None, steps);
-    gives!(rt; lists.unlink(SECOND, steps).is_some(), true);
+    let mut lists = opened(alloc, 4, 4)?;
+    link_three(&mut lists, steps);
+    first_of_three(rt, &mut lists, steps);
     Ok(())
 }
 
 /// So it does where those below 8 stand after the others, and then without 5.
-fn first_of_turned<L: Ledger>(
+fn first_of_turned<L: Ledger>(rt: &impl Abort, lists: &mut Lists, steps: &mut Steps<L>) {
+    gives_first(rt, lists, 5, Some(THIRD), steps);
+    gives_first(rt, lists, 6, Some(FOURTH), steps);
+    gives!(rt; lists.unlink(THIRD, steps).is_some(), true);
+    gives_first(rt, lists, 5, Some(FOURTH), steps);
+}
+
+fn in_turned_lists<L: Ledger>(
     rt: &impl Abort,
     alloc: Global,
     steps: &mut Steps<L>,
 ) -> Result<(), Fail> {
-    let mut lists = turned_lists(alloc, steps)?;
-    gives_first(rt, &lists, 5, Some(THIRD), steps);
-    gives_first(rt, &lists, 6, Some(FOURTH), steps);
-    gives!(rt; lists.unlink(THIRD, steps).is_some(), true);
-    gives_first(rt, &lists, 5, Some(FOURTH), steps);
+    let mut lists = opened(alloc, 4, 4)?;
+    link_turned(&mut lists, steps);
+    first_of_turned(rt, &mut lists, steps);
     Ok(())
+}
+
+fn in_both<L: Ledger>(rt: &impl Abort, alloc: Global, steps: &mut Steps<L>) -> Result<(), Fail> {
+    in_three_lists(rt, alloc, steps)?;
+    in_turned_lists(rt, alloc, steps)
 }
 
 fn wild_entries<L: Ledger>(rt: &impl Abort, alloc: Global, blank: Blank) -> Result<(), Fail>
@@ -154,43 +223,100 @@ fn wild_entries<L: Ledger>(rt: &impl Abort, alloc: Global, blank: Blank) -> Resu
     requires one { blank.parts ≡ 1 }
 {
     let mut steps = Steps::<L>::start(blank);
-    first_of_three(rt, alloc, &mut steps)?;
-    first_of_turned(rt, alloc, &mut steps)
+    in_both(rt, alloc, &mut steps)
 }
 
 /// Four entries, one after the other.
-fn four_lists<L: Ledger>(
-    alloc: Global,
-    entries: [Entry; 4],
-    steps: &mut Steps<L>,
-) -> Result<Lists, Fail> {
-    let mut lists = Lists::open(alloc, 4, 4)?;
-    lists.append(List::Priority, FIRST, entries[0], steps);
-    lists.append(List::Priority, SECOND, entries[1], steps);
-    lists.append(List::Priority, THIRD, entries[2], steps);
-    lists.append(List::Priority, FOURTH, entries[3], steps);
-    Ok(lists)
+fn link_four<L: Ledger>(lists: &mut Lists, entries: &[Entry; 4], steps: &mut Steps<L>)
+    requires few { HadFew 0 lists.old }
+    requires limit { lists.old.limit ≡ 4 }
+    requires slots { lists.old.slots ≡ 4 }
+{
+    links(lists, List::Priority, 0, entries[0], steps);
+    links(lists, List::Priority, 1, entries[1], steps);
+    links(lists, List::Priority, 2, entries[2], steps);
+    links(lists, List::Priority, 3, entries[3], steps);
 }
 
 /// Four entries, each of which takes the message: they take it in the order in which they were linked.
-fn taken_in_turn<L: Ledger>(
+fn take_in_turn<L: Ledger>(
     rt: &impl Abort,
-    alloc: Global,
-    entries: [Entry; 4],
+    lists: &mut Lists,
     header: &Header,
     steps: &mut Steps<L>,
-) -> Result<(), Fail> {
-    let mut lists = four_lists(alloc, entries, steps)?;
+) {
     for handle in [FIRST, SECOND, THIRD, FOURTH] {
         let found = lists.find(header, false, steps);
         gives!(rt; found, Some((List::Priority, handle)));
         gives!(rt; lists.unlink(handle, steps).is_some(), true);
     }
     gives!(rt; lists.find(header, false, steps).is_none(), true);
+}
+
+fn taken_in_turn<L: Ledger>(
+    rt: &impl Abort,
+    alloc: Global,
+    entries: &[Entry; 4],
+    header: &Header,
+    steps: &mut Steps<L>,
+) -> Result<(), Fail> {
+    let mut lists = opened(alloc, 4, 4)?;
+    link_four(&mut lists, entries, steps);
+    take_in_turn(rt, &mut lists, header, steps);
     Ok(())
 }
 
-/// One entry ignores no bits, one the lowest 16, one the lowest 40, one the highest: in each order the first takes the message.
+const WHOLE: Entry = Entry {
+    length: 4,
+    match_bits: 0x0123_4567_89AB_CDEF,
+    manage_local: true,
+    no_truncate: true,
+    ..Entry::PLAIN
+};
+
+const UPPER_48: Entry = Entry {
+    match_bits: 0x0123_4567_89AB_0000,
+    ignore_bits: 0xFFFF,
+    ..WHOLE
+};
+
+const UPPER_24: Entry = Entry {
+    match_bits: 0x0123_4500_0000_0000,
+    ignore_bits: 0xFF_FFFF_FFFF,
+    ..WHOLE
+};
+
+const OTHER: Entry = Entry {
+    match_bits: 0x8123_4567_89AB_CDEF,
+    ignore_bits: 1 << 63,
+    ..WHOLE
+};
+
+/// One entry ignores no bits, one the lowest 16, one the lowest 40, one the highest.
+static ORDERS: [[Entry; 4]; 4] = [
+    [WHOLE, UPPER_48, UPPER_24, OTHER],
+    [UPPER_48, UPPER_24, OTHER, WHOLE],
+    [UPPER_24, OTHER, WHOLE, UPPER_48],
+    [OTHER, WHOLE, UPPER_48, UPPER_24],
+];
+
+fn orders() -> &'static [[Entry; 4]] {
+    &ORDERS
+}
+
+/// In each order the first takes the message.
+fn in_each_order<L: Ledger>(
+    rt: &impl Abort,
+    alloc: Global,
+    steps: &mut Steps<L>,
+) -> Result<(), Fail> {
+    let header = header(0x0123_4567_89AB_CDEF, 3);
+    for entries in orders() {
+        taken_in_turn(rt, alloc, entries, &header, steps)?;
+    }
+    Ok(())
+}
+
 fn kinds_of_ignored_bits<L: Ledger>(
     rt: &impl Abort,
     alloc: Global,
@@ -201,58 +327,40 @@ fn kinds_of_ignored_bits<L: Ledger>(
     requires one { blank.parts ≡ 1 }
 {
     let mut steps = Steps::<L>::start(blank);
-    let header = header(0x0123_4567_89AB_CDEF, 3);
-    let whole = entry(0x0123_4567_89AB_CDEF, 4);
-    let upper_48 = ignoring(0x0123_4567_89AB_0000, 0xFFFF);
-    let upper_24 = ignoring(0x0123_4500_0000_0000, 0xFF_FFFF_FFFF);
-    let other = ignoring(0x8123_4567_89AB_CDEF, 1 << 63);
-    taken_in_turn(
-        rt,
-        alloc,
-        [whole, upper_48, upper_24, other],
-        &header,
-        &mut steps,
-    )?;
-    taken_in_turn(
-        rt,
-        alloc,
-        [upper_48, upper_24, other, whole],
-        &header,
-        &mut steps,
-    )?;
-    taken_in_turn(
-        rt,
-        alloc,
-        [upper_24, other, whole, upper_48],
-        &header,
-        &mut steps,
-    )?;
-    taken_in_turn(
-        rt,
-        alloc,
-        [other, whole, upper_48, upper_24],
-        &header,
-        &mut steps,
-    )
+    in_each_order(rt, alloc, &mut steps)
 }
 
-/// One entry comes and goes a thousand times, each time with other match bits.
+/// One entry comes and goes.
+fn comes_and_goes<L: Ledger>(rt: &impl Abort, lists: &mut Lists, turn: u64, steps: &mut Steps<L>)
+    requires empty { lists.old ≡ both [] [] 1 1 turn }
+    requires turn { turn < 1000 }
+    ensures empty { lists.new ≡ both [] [] 1 1 (turn + 1) }
+{
+    lists.append(List::Priority, FIRST, entry(turn, 4), steps);
+    let header = header(turn, 3);
+    let found = lists.find(&header, true, steps);
+    gives!(rt; found, Some((List::Priority, FIRST)));
+    gives!(rt; lists.unlink(FIRST, steps).is_some(), true);
+    gives!(rt; lists.find(&header, true, steps).is_none(), true);
+}
+
+/// It does so a thousand times, each time with other match bits.
+fn a_thousand_times<L: Ledger>(rt: &impl Abort, lists: &mut Lists, steps: &mut Steps<L>)
+    requires empty { lists.old ≡ both [] [] 1 1 0 }
+{
+    for turn in 0..1000u64 {
+        comes_and_goes(rt, lists, turn, steps);
+    }
+}
+
 fn in_one_place<L: Ledger>(rt: &impl Abort, alloc: Global, blank: Blank) -> Result<(), Fail>
     requires name { blank.name ≡ L.name }
     requires parts { blank.parts ≡ L.parts }
     requires one { blank.parts ≡ 1 }
 {
-    let mut steps = Steps::<L>::start(blank);
     let mut lists = Lists::open(alloc, 1, 1)?;
-    let only = Handle { slot: 0, stamp: 0 };
-    for turn in 0..1000u64 {
-        lists.append(List::Priority, only, entry(turn, 4), &mut steps);
-        let found = lists.find(&header(turn, 3), true, &mut steps);
-        gives!(rt; found, Some((List::Priority, only)));
-        gives!(rt; lists.unlink(only, &mut steps).is_some(), true);
-        let found = lists.find(&header(turn, 3), true, &mut steps);
-        gives!(rt; found.is_none(), true);
-    }
+    let mut steps = Steps::<L>::start(blank);
+    a_thousand_times(rt, &mut lists, &mut steps);
     Ok(())
 }
 
