@@ -34,7 +34,7 @@ pub fn edges(ty: ElemType) -> [u64; 6] {
 }
 
 /// The rows of min.
-pub static MIN: [Row; 8] = [
+pub const MIN: &[Row] = &[
     Row {
         op: AtomicOp::Min,
         ty: ElemType::U8,
@@ -108,7 +108,7 @@ pub static MIN: [Row; 8] = [
 ];
 
 /// The rows of max.
-pub static MAX: [Row; 8] = [
+pub const MAX: &[Row] = &[
     Row {
         op: AtomicOp::Max,
         ty: ElemType::U8,
@@ -196,7 +196,7 @@ pub static MAX: [Row; 8] = [
 ];
 
 /// The rows of sum.
-pub static SUM: [Row; 8] = [
+pub const SUM: &[Row] = &[
     Row {
         op: AtomicOp::Sum,
         ty: ElemType::U8,
@@ -286,7 +286,7 @@ pub static SUM: [Row; 8] = [
 ];
 
 /// The rows of prod.
-pub static PROD: [Row; 8] = [
+pub const PROD: &[Row] = &[
     Row {
         op: AtomicOp::Prod,
         ty: ElemType::U8,
@@ -360,7 +360,7 @@ pub static PROD: [Row; 8] = [
 ];
 
 /// The rows of lor.
-pub static LOR: [Row; 8] = [
+pub const LOR: &[Row] = &[
     Row {
         op: AtomicOp::Lor,
         ty: ElemType::U8,
@@ -420,7 +420,7 @@ pub static LOR: [Row; 8] = [
 ];
 
 /// The rows of land.
-pub static LAND: [Row; 8] = [
+pub const LAND: &[Row] = &[
     Row {
         op: AtomicOp::Land,
         ty: ElemType::U8,
@@ -480,7 +480,7 @@ pub static LAND: [Row; 8] = [
 ];
 
 /// The rows of bor.
-pub static BOR: [Row; 8] = [
+pub const BOR: &[Row] = &[
     Row {
         op: AtomicOp::Bor,
         ty: ElemType::U8,
@@ -572,7 +572,7 @@ pub static BOR: [Row; 8] = [
 ];
 
 /// The rows of band.
-pub static BAND: [Row; 8] = [
+pub const BAND: &[Row] = &[
     Row {
         op: AtomicOp::Band,
         ty: ElemType::U8,
@@ -632,7 +632,7 @@ pub static BAND: [Row; 8] = [
 ];
 
 /// The rows of lxor.
-pub static LXOR: [Row; 8] = [
+pub const LXOR: &[Row] = &[
     Row {
         op: AtomicOp::Lxor,
         ty: ElemType::U8,
@@ -692,7 +692,7 @@ pub static LXOR: [Row; 8] = [
 ];
 
 /// The rows of bxor.
-pub static BXOR: [Row; 8] = [
+pub const BXOR: &[Row] = &[
     Row {
         op: AtomicOp::Bxor,
         ty: ElemType::U8,

@@ -78,14 +78,14 @@ fn rows_hold(rows: &[Row]) -> bool {
 
 #[test]
 fn edge_values_of_every_type(rt: HostRuntime) {
-    gives!(rt; rows_hold(&MIN), true);
-    gives!(rt; rows_hold(&MAX), true);
-    gives!(rt; rows_hold(&SUM), true);
-    gives!(rt; rows_hold(&PROD), true);
-    gives!(rt; rows_hold(&LOR), true);
-    gives!(rt; rows_hold(&LAND), true);
-    gives!(rt; rows_hold(&BOR), true);
-    gives!(rt; rows_hold(&BAND), true);
-    gives!(rt; rows_hold(&LXOR), true);
-    gives!(rt; rows_hold(&BXOR), true);
+    gives!(rt; rows_hold(MIN), true);
+    gives!(rt; rows_hold(MAX), true);
+    gives!(rt; rows_hold(SUM), true);
+    gives!(rt; rows_hold(PROD), true);
+    gives!(rt; rows_hold(LOR), true);
+    gives!(rt; rows_hold(LAND), true);
+    gives!(rt; rows_hold(BOR), true);
+    gives!(rt; rows_hold(BAND), true);
+    gives!(rt; rows_hold(LXOR), true);
+    gives!(rt; rows_hold(BXOR), true);
 }

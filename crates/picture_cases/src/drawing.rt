@@ -58,7 +58,7 @@ fn orders_have(rt: &(impl Abort + AllocGlobal), orders: &str, words: &[Word]) {
     has_words(rt, picture.as_str(), words);
 }
 
-static WHOLE: [Word; 15] = [
+const WHOLE: &[Word] = &[
     ("id=\"cell-0\"", 1),
     ("id=\"cell-1\"", 1),
     ("id=\"cell-2\"", 1),
@@ -78,10 +78,10 @@ static WHOLE: [Word; 15] = [
 
 #[test]
 fn a_plan_is_drawn_whole(rt: HostRuntime) {
-    plan_has(&rt, ONE_RANK, &WHOLE);
+    plan_has(&rt, ONE_RANK, WHOLE);
 }
 
-static STEPS: [Word; 6] = [
+const STEPS: &[Word] = &[
     (">step 1<", 1),
     (">step 2<", 1),
     ("class=\"band-1\"", 1),
@@ -92,13 +92,13 @@ static STEPS: [Word; 6] = [
 
 #[test]
 fn steps_are_told_apart(rt: HostRuntime) {
-    plan_has(&rt, TWO_STEPS, &STEPS);
+    plan_has(&rt, TWO_STEPS, STEPS);
 }
 
 /// The local steps of the plan of one rank.
 const ORDERS: &str = "b 0 7\nrest\norder 0 s f0 f4 f1 f2 f5 r0 f3 f6 r0 f7\n";
 
-static ALONE: [Word; 5] = [
+const ALONE: &[Word] = &[
     ("id=\"step-0-", 11),
     ("id=\"step-0-1\"", 1),
     ("id=\"step-0-11\"", 1),
@@ -106,7 +106,7 @@ static ALONE: [Word; 5] = [
     ("<path class=\"put\"", 0),
 ];
 
-static WITH_PLAN: [Word; 4] = [
+const WITH_PLAN: &[Word] = &[
     ("id=\"step-0-", 11),
     ("<path class=\"put\"", 2),
     ("from rank 0, step 5 to rank 0, step 7<", 1),
@@ -115,9 +115,9 @@ static WITH_PLAN: [Word; 4] = [
 
 #[test]
 fn orders_are_drawn_whole(rt: HostRuntime) -> Result<(), Fail> {
-    orders_have(&rt, ORDERS, &ALONE);
+    orders_have(&rt, ORDERS, ALONE);
     let both = format!(in rt.alloc(); "{ONE_RANK}{ORDERS}")?;
-    orders_have(&rt, both.as_str(), &WITH_PLAN);
+    orders_have(&rt, both.as_str(), WITH_PLAN);
     Ok(())
 }
 

@@ -81,7 +81,7 @@ fn orders_are_read(rt: HostRuntime) {
 }
 
 /// Texts of plans, and the line and the name of the refusal of each.
-static NO_PLANS: [(&str, usize, Refusal); 15] = [
+const NO_PLANS: &[(&str, usize, Refusal)] = &[
     ("", 1, Refusal::NotAPlan),
     ("plan 1 4 4 local", 1, Refusal::NotAPlan),
     ("plan 0 4 4 local\n", 1, Refusal::NotAPlan),
@@ -141,7 +141,7 @@ fn other_plans_are_refused(rt: HostRuntime) {
 }
 
 /// Texts of orders, and the line of the refusal of each.
-static NO_ORDERS: [(&str, usize); 8] = [
+const NO_ORDERS: &[(&str, usize)] = &[
     ("rest\n", 2),
     ("order 1 s\n", 1),
     ("order 0 s x\n", 1),

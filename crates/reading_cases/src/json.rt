@@ -87,7 +87,7 @@ fn cases_give(rt: &(impl Abort + AllocGlobal), table: &str, cases: &[Case]) {
 }
 
 /// Each the value of a whole description, and its line text.
-static DESCRIBED: [(&str, &str); 8] = [
+const DESCRIBED: &[(&str, &str)] = &[
     // One broadcast of a 7.
     (
         r#"{"coll":1,"ranks":1,"inputs":[{"name":"a","type":"u8","rows":[[7]]}],"steps":[["broadcast",0,"a","b"]],"prints":["b"]}"#,
@@ -132,11 +132,11 @@ static DESCRIBED: [(&str, &str); 8] = [
 
 #[test]
 fn a_value_describes_what_its_line_text_describes(rt: HostRuntime) {
-    each_describes(&rt, "DESCRIBED", &DESCRIBED);
+    each_describes(&rt, "DESCRIBED", DESCRIBED);
 }
 
 /// No JSON, by the reading of `serde_json`.
-static NO_JSON: [&str; 15] = [
+const NO_JSON: &[&str] = &[
     "",
     " ",
     r#"{"coll":1"#,
@@ -156,7 +156,7 @@ static NO_JSON: [&str; 15] = [
 
 #[test]
 fn what_is_no_json(rt: HostRuntime) {
-    each_gives(&rt, "NO_JSON", &NO_JSON, Some((0, "BadJson")));
+    each_gives(&rt, "NO_JSON", NO_JSON, Some((0, "BadJson")));
     same_answer(
         &rt,
         "no text",
@@ -167,7 +167,7 @@ fn what_is_no_json(rt: HostRuntime) {
 }
 
 /// JSON, but no value of the form.
-static NO_FORM: [&str; 49] = [
+const NO_FORM: &[&str] = &[
     "[]",
     "null",
     "1",
@@ -221,11 +221,11 @@ static NO_FORM: [&str; 49] = [
 
 #[test]
 fn what_is_not_of_the_form(rt: HostRuntime) {
-    each_gives(&rt, "NO_FORM", &NO_FORM, Some((0, "BadForm")));
+    each_gives(&rt, "NO_FORM", NO_FORM, Some((0, "BadForm")));
 }
 
 /// Values of the form, refused at a line of their line text.
-static REFUSED: [Case; 20] = [
+const REFUSED: &[Case] = &[
     (
         r#"{"coll":1,"ranks":1,"inputs":[{"name":"a","type":"u8","rows":[[256]]}],"steps":[["broadcast",0,"a","b"]],"prints":["b"]}"#,
         Some((4, "BadNumber")),
@@ -295,11 +295,11 @@ static REFUSED: [Case; 20] = [
 
 #[test]
 fn what_the_language_refuses(rt: HostRuntime) {
-    cases_give(&rt, "REFUSED", &REFUSED);
+    cases_give(&rt, "REFUSED", REFUSED);
 }
 
 /// Members of one name: the last one stands, and each must be a value.
-static REPEATED: [Case; 7] = [
+const REPEATED: &[Case] = &[
     (
         r#"{"coll":1,"ranks":2.5,"remote":true,"ranks":1,"remote":false}"#,
         None,
@@ -320,7 +320,7 @@ static REPEATED: [Case; 7] = [
 
 #[test]
 fn the_last_of_two_members_of_one_name_stands(rt: HostRuntime) {
-    cases_give(&rt, "REPEATED", &REPEATED);
+    cases_give(&rt, "REPEATED", REPEATED);
     let json = r#"{"coll":1,"ranks":2.5,"remote":true,"ranks":1,"remote":false}"#;
     holds(
         &rt,
@@ -331,7 +331,7 @@ fn the_last_of_two_members_of_one_name_stands(rt: HostRuntime) {
 }
 
 /// The first two members, and what reading answers to them before a broadcast.
-static NUMBERS: [Case; 9] = [
+const NUMBERS: &[Case] = &[
     (r#""coll":1,"ranks":1"#, None),
     (r#""coll":1,"ranks":1.0"#, Some((0, "BadForm"))),
     (r#""coll":1,"ranks":1e0"#, Some((0, "BadForm"))),
@@ -403,7 +403,7 @@ fn whole_numbers_of_many_digits(rt: HostRuntime) {
 }
 
 /// The rows of two ranks, and what reading answers.
-static ROWS: [Case; 7] = [
+const ROWS: &[Case] = &[
     ("[[1,2],[3,4]]", None),
     ("[[1,2],[3]]", Some((5, "BadLine"))),
     ("[[1],[2,3]]", Some((5, "BadLine"))),
@@ -540,7 +540,7 @@ fn lines_of_a_value_that_describes_nothing(rt: HostRuntime) {
 }
 
 /// The examples that stand in both spellings: the JSON, and the text.
-static EXAMPLES: [(&str, &str); 3] = [
+const EXAMPLES: &[(&str, &str)] = &[
     (
         r#"{
   "coll": 1,
@@ -584,5 +584,5 @@ static EXAMPLES: [(&str, &str); 3] = [
 
 #[test]
 fn examples_in_both_spellings(rt: HostRuntime) {
-    each_describes(&rt, "EXAMPLES", &EXAMPLES);
+    each_describes(&rt, "EXAMPLES", EXAMPLES);
 }

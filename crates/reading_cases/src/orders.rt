@@ -17,7 +17,7 @@ fn answer(alloc: Global, text: &[u8]) -> Answer {
     }
 }
 
-static INPUTS: [(&[u8], Answer); 17] = [
+const INPUTS: &[(&[u8], Answer)] = &[
     (b"coll 1\nranks 1\nbarrier\nend\norder 0\n", None),
     (
         b"coll 1\nranks 1\nbarrier\nend\norder 0 x\n",

@@ -21,7 +21,7 @@ fn answer(alloc: Global, text: &[u8]) -> Answer {
     }
 }
 
-static TEXTS: [(&[u8], Answer); 8] = [
+const TEXTS: &[(&[u8], Answer)] = &[
     (b"coll 2\nranks 256\nbarrier\nend\n", None),
     (b"coll 1\nranks 65\nbarrier\nend\n", Some((2, "BadRanks"))),
     (
@@ -48,7 +48,7 @@ fn texts_and_their_refusals(rt: HostRuntime) {
     }
 }
 
-static PRINTED: [&[u8]; 6] = [
+const PRINTED: &[&[u8]] = &[
     b"coll 1\nranks 1\ncomplete remote\ninput a u8 1\n7\nbroadcast 0 a b\nprint b\nend\n",
     b"coll 1\nranks 3\ninput a i8 1\n-128\n127\n0\nreduce 1 min a b\nbroadcast 1 b c\nprint c\nend\n",
     b"coll 1\nranks 2\ninput a i64 2\n-9223372036854775808 9223372036854775807\n0 -1\nscan max a b\nallreduce lxor b c\nend\n",

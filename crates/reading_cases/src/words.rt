@@ -9,7 +9,7 @@ use ptl_types::ElemType;
 use std::alloc::{AllocError, Global};
 use std::process::Abort;
 
-static NUMBERS: [(&[u8], Number); 15] = [
+const NUMBERS: &[(&[u8], Number)] = &[
     (b"0", Number::Small(0)),
     (b"7", Number::Small(7)),
     (b"10", Number::Small(10)),
@@ -42,7 +42,7 @@ fn numbers_have_one_spelling(rt: HostRuntime) {
 }
 
 /// Words, and their numbers from 1 to 64.
-static BETWEEN: [(&[u8], Option<u32>); 5] = [
+const BETWEEN: &[(&[u8], Option<u32>)] = &[
     (b"1", Some(1)),
     (b"64", Some(64)),
     (b"65", None),
@@ -59,7 +59,7 @@ fn numbers_between_two(rt: &impl Abort) {
 }
 
 /// Least and greatest values, and the values one past each.
-static EDGES: [(ElemType, &[u8], Option<u64>); 32] = [
+const EDGES: &[(ElemType, &[u8], Option<u64>)] = &[
     (ElemType::U8, b"0", Some(0)),
     (ElemType::U8, b"255", Some(0xff)),
     (ElemType::U8, b"-1", None),
@@ -107,7 +107,7 @@ static EDGES: [(ElemType, &[u8], Option<u64>); 32] = [
 ];
 
 /// Words that are values of no type.
-static NO_VALUES: [&[u8]; 11] = [
+const NO_VALUES: &[&[u8]] = &[
     b"",
     b"-",
     b"-0",
@@ -144,7 +144,7 @@ fn values_end_at_the_least_and_the_greatest(rt: HostRuntime) {
 /// A type and a number of values, a line, and its bytes or its flaw.
 type Line = (ElemType, u64, &'static [u8], Result<&'static [u8], Flaw>);
 
-static LINES: [Line; 19] = [
+const LINES: &[Line] = &[
     (ElemType::U8, 3, b"1 2 3", Ok(&[1, 2, 3])),
     (ElemType::I16, 2, b"-1 258", Ok(&[0xff, 0xff, 2, 1])),
     (ElemType::U32, 1, b"16909060", Ok(&[4, 3, 2, 1])),
@@ -194,7 +194,7 @@ fn a_data_line_has_just_the_values_that_are_due(rt: HostRuntime) {
 }
 
 /// Bytes, their first line, and what is behind it.
-static CUTS: [(&[u8], &[u8], Option<&[u8]>); 5] = [
+const CUTS: &[(&[u8], &[u8], Option<&[u8]>)] = &[
     (b"ab", b"ab", None),
     (b"ab\n", b"ab", Some(b"")),
     (b"\n\n", b"", Some(b"\n")),
@@ -222,9 +222,9 @@ fn words_are_cut(rt: &impl Abort) {
     gives!(rt; read.next(), None);
 }
 
-static NAMES: [&[u8]; 4] = [b"a", b"z9", b"a_b_0", b"abcdefghijklmno0"];
+const NAMES: &[&[u8]] = &[b"a", b"z9", b"a_b_0", b"abcdefghijklmno0"];
 
-static NO_NAMES: [&[u8]; 7] = [
+const NO_NAMES: &[&[u8]] = &[
     b"",
     b"9a",
     b"_a",
