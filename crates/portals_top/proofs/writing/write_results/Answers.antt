@@ -1,0 +1,27 @@
+use Rattle.std.proofs.Common.{◌<◌, get_or, length, subst}
+use Rattle.coll_shape.specs.Meaning.{meaning_of}
+use Rattle.coll_shape.specs.Outline.{Outline}
+use Rattle.run_text.specs.Lines.{text_of}
+use Rattle.run_text.specs.Putting.{EndsWith}
+use Rattle.portals_top.proofs.writing.write_results.Goals as goal
+
+pub write_result-requires : goal.write_result-requires
+write_result-requires g c =
+    let shape = c.shape_of-shape.result.now in
+    let told = c.shape_of-shape.ensures.value in
+    record {
+      empty = c.requires.empty;
+      gives = λ i r l k. (
+        c.requires.resting,
+        subst (λ (o : Outline). get_or shape.prints i 0 < length o.buffers) told (c.shape_of-shape.ensures.formed.shape.printed i l),
+        subst (λ (o : Outline). r < o.ranks) told k,
+      );
+    }
+
+pub returns : goal.returns
+returns g c =
+    let w = c.args.rested.now.0 in
+    let o = c.args.rested.now.1.now in
+    subst (λ (q : Outline). EndsWith (g.K.Sink.outflow c.args.sink.now) (g.K.Sink.outflow c.write_result.new.sink)
+    (text_of q (meaning_of o w.inputs)) c.write_result.result)
+    c.shape_of-shape.ensures.value c.write_result.ensures.ends
