@@ -82,3 +82,6 @@ ends ty out = ap (λ (l : List ℕ). Ok l) (append-nil out)
 pub ends_bad : (ty : ElemType) (out : List ℕ) → left_over ty 0 true out [] ≡ Err NoValue
 unfolding left_over
 ends_bad ty out = refl
+
+-- a data line from its first word to its end
+pub ruleset word_by_word = (begins, takes, spoils, stops_at_empty, stops_past_count, ends_short, ends, ends_bad)

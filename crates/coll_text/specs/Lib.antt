@@ -3,3 +3,4 @@ pub mod Cuts
 pub mod Elements
 pub mod Values
 pub mod Answers
+pub mod Named

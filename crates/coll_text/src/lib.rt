@@ -3,12 +3,14 @@
 //! A text is cut at each LF (0x0A) and a line at each space (0x20). Only the values of a data line take memory.
 #![tactic(auto)]
 
+mod named;
 mod names;
 mod numerals;
 mod splitting;
 mod values;
 mod writing;
 
+pub use named::{op_named, type_named};
 pub use names::{is, is_name};
 pub use numerals::{Number, number_at, number_between};
 pub use splitting::{Words, cut};

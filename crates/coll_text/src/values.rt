@@ -222,7 +222,7 @@ pub fn push_value(out: &mut Vec<u8>, ty: ElemType, n: u64) -> Result<(), AllocEr
 /// # Errors
 ///
 /// The line's flaw, or that there was no memory for the values.
-#[tactic(auto, using(crate::proofs::Data::begins, crate::proofs::Data::takes, crate::proofs::Data::spoils, crate::proofs::Data::stops_at_empty, crate::proofs::Data::stops_past_count, crate::proofs::Data::ends_short, crate::proofs::Data::ends, crate::proofs::Data::ends_bad))]
+#[tactic(auto, using(crate::proofs::Data::word_by_word))]
 pub fn data_line(
     alloc: Global,
     ty: ElemType,

@@ -4,8 +4,9 @@ use Rattle.std.specs.Prelude.{option_and_then, option_map, if◌then◌else◌, 
 use Rattle.std.specs.Str.{bytes_eq}
 use Rattle.ptl_types.specs.declared.elements.AtomicOp.{AtomicOp}
 use Rattle.coll_text.specs.Text.{number_between, number_of}
+use Rattle.coll_text.specs.Named.{op_named, type_named}
 use Rattle.coll_shape.specs.declared.types.Buffer.{Buffer}
-use Rattle.coll_lang.specs.Forms.{◌>>=◌, op_of, type_of}
+use Rattle.coll_lang.specs.Forms.{◌>>=◌}
 use Rattle.coll_lang.specs.Language.{buffer_number}
 use Rattle.plan_core.specs.declared.Cell.{Cell}
 use Rattle.plan_core.specs.declared.Link.{Link}
@@ -43,7 +44,7 @@ remote_of word =
 
 -- a cell's operation; `-` stands for none
 abbrev pub cell_op_of : List ℕ → Option (Option AtomicOp)
-cell_op_of word = if bytes_eq word (codes "-") then Some None else option_map (λ o. Some o) (op_of word)
+cell_op_of word = if bytes_eq word (codes "-") then Some None else option_map (λ o. Some o) (op_named word)
 
 -- ---- lines
 
@@ -70,7 +71,7 @@ counts_of ranks least words = headed (codes "plan") ranks words >>= counts_in le
 abbrev pub cell_with : List ℕ → List ℕ → List ℕ → List ℕ → List ℕ → Option Cell
 cell_with rank ty op length needs = do
   r ← short_of rank
-  t ← type_of ty
+  t ← type_named ty
   o ← cell_op_of op
   l ← long_of length
   n ← long_of needs

@@ -7,8 +7,8 @@ ghost use Rattle.given_lines.specs.Words.{cell_in, cell_of, cell_with, done_in, 
 
 use crate::fault::{GivenFault, GivenRefusal};
 use crate::lines::Lines;
-use crate::words::{cell_op_of, headed, kind_of, long_of, short_of, type_of};
-use coll_text::Words;
+use crate::words::{cell_op_of, headed, kind_of, long_of, short_of};
+use coll_text::{Words, type_named};
 use plan_core::{Cell, Link};
 use std::alloc::Global;
 
@@ -18,7 +18,7 @@ fn cell_with(rank: &[u8], ty: &[u8], op: &[u8], length: &[u8], needs: &[u8]) -> 
 {
     Some(Cell {
         rank: short_of(rank)?,
-        ty: type_of(ty)?,
+        ty: type_named(ty)?,
         op: cell_op_of(op)?,
         length: long_of(length)?,
         needs: long_of(needs)?,

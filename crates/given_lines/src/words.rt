@@ -1,12 +1,11 @@
 //! The words of a line of a given plan.
 
 ghost use Rattle.std.specs.Prelude.{◌≡◌};
-ghost use Rattle.coll_lang.specs.Forms.{op_of, type_of};
 ghost use Rattle.given_lines.specs.Words.{cell_op_of, headed, kind_of, long_of, remote_of, short_of};
 
-use coll_text::{Number, Words, is, number_at, number_between};
+use coll_text::{Number, Words, is, number_at, number_between, op_named};
 use plan_core::LinkKind;
-use ptl_types::{AtomicOp, ElemType};
+use ptl_types::AtomicOp;
 
 /// A number below 2^64.
 pub(crate) fn long_of(word: &[u8]) -> Option<u64>
@@ -25,60 +24,6 @@ pub(crate) fn short_of(word: &[u8]) -> Option<u32>
     number_between(0, u32::MAX, word)
 }
 
-/// The type that the word names.
-pub(crate) fn type_of(word: &[u8]) -> Option<ElemType>
-    ensures { result ≡ type_of word.now }
-{
-    if is(word, b"u8") {
-        Some(ElemType::U8)
-    } else if is(word, b"i8") {
-        Some(ElemType::I8)
-    } else if is(word, b"u16") {
-        Some(ElemType::U16)
-    } else if is(word, b"i16") {
-        Some(ElemType::I16)
-    } else if is(word, b"u32") {
-        Some(ElemType::U32)
-    } else if is(word, b"i32") {
-        Some(ElemType::I32)
-    } else if is(word, b"u64") {
-        Some(ElemType::U64)
-    } else if is(word, b"i64") {
-        Some(ElemType::I64)
-    } else {
-        None
-    }
-}
-
-/// The operation that the word names.
-fn op_of(word: &[u8]) -> Option<AtomicOp>
-    ensures { result ≡ op_of word.now }
-{
-    if is(word, b"min") {
-        Some(AtomicOp::Min)
-    } else if is(word, b"max") {
-        Some(AtomicOp::Max)
-    } else if is(word, b"sum") {
-        Some(AtomicOp::Sum)
-    } else if is(word, b"prod") {
-        Some(AtomicOp::Prod)
-    } else if is(word, b"lor") {
-        Some(AtomicOp::Lor)
-    } else if is(word, b"land") {
-        Some(AtomicOp::Land)
-    } else if is(word, b"bor") {
-        Some(AtomicOp::Bor)
-    } else if is(word, b"band") {
-        Some(AtomicOp::Band)
-    } else if is(word, b"lxor") {
-        Some(AtomicOp::Lxor)
-    } else if is(word, b"bxor") {
-        Some(AtomicOp::Bxor)
-    } else {
-        None
-    }
-}
-
 /// A cell's operation; `-` stands for none.
 pub(crate) fn cell_op_of(word: &[u8]) -> Option<Option<AtomicOp>>
     ensures { result ≡ cell_op_of word.now }
@@ -86,7 +31,7 @@ pub(crate) fn cell_op_of(word: &[u8]) -> Option<Option<AtomicOp>>
     if is(word, b"-") {
         return Some(None);
     }
-    let op = op_of(word)?;
+    let op = op_named(word)?;
     Some(Some(op))
 }
 

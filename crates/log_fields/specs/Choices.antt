@@ -4,11 +4,10 @@ use Rattle.std.specs.Str.{bytes_eq}
 use Rattle.ptl_types.specs.declared.entries.List.{List as EntryList}
 use Rattle.ptl_types.specs.declared.entries.List.TheVariants as lists
 use Rattle.ptl_types.specs.declared.elements.ElemType.{ElemType}
-use Rattle.ptl_types.specs.declared.elements.ElemType.TheVariants as types
 use Rattle.ptl_types.specs.declared.elements.AtomicOp.{AtomicOp}
-use Rattle.ptl_types.specs.declared.elements.AtomicOp.TheVariants as ops
 use Rattle.ptl_types.specs.declared.elements.SwapOp.{SwapOp}
 use Rattle.ptl_types.specs.declared.elements.SwapOp.TheVariants as swaps
+use Rattle.coll_text.specs.Named.{op_named, type_named}
 use Rattle.log_words.specs.Words.{Word, Rest}
 use Rattle.log_words.specs.Reading.{Taken, next_as}
 use Rattle.log_words.specs.declared.faults.Flaw.TheVariants.{BadWord}
@@ -27,32 +26,6 @@ unfoldable pub deletes_named : List ℕ → Option Bool
 deletes_named w =
     if bytes_eq w (codes "keep") then Some false
     else if bytes_eq w (codes "delete") then Some true
-    else None
-
-unfoldable pub type_named : List ℕ → Option ElemType
-type_named w =
-    if bytes_eq w (codes "u8") then Some types.U8
-    else if bytes_eq w (codes "i8") then Some types.I8
-    else if bytes_eq w (codes "u16") then Some types.U16
-    else if bytes_eq w (codes "i16") then Some types.I16
-    else if bytes_eq w (codes "u32") then Some types.U32
-    else if bytes_eq w (codes "i32") then Some types.I32
-    else if bytes_eq w (codes "u64") then Some types.U64
-    else if bytes_eq w (codes "i64") then Some types.I64
-    else None
-
-unfoldable pub op_named : List ℕ → Option AtomicOp
-op_named w =
-    if bytes_eq w (codes "min") then Some ops.Min
-    else if bytes_eq w (codes "max") then Some ops.Max
-    else if bytes_eq w (codes "sum") then Some ops.Sum
-    else if bytes_eq w (codes "prod") then Some ops.Prod
-    else if bytes_eq w (codes "lor") then Some ops.Lor
-    else if bytes_eq w (codes "land") then Some ops.Land
-    else if bytes_eq w (codes "bor") then Some ops.Bor
-    else if bytes_eq w (codes "band") then Some ops.Band
-    else if bytes_eq w (codes "lxor") then Some ops.Lxor
-    else if bytes_eq w (codes "bxor") then Some ops.Bxor
     else None
 
 unfoldable pub swap_named : List ℕ → Option SwapOp

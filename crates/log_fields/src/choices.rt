@@ -2,11 +2,11 @@
 
 ghost use Rattle.std.specs.Prelude.{◌≡◌};
 ghost use Rattle.log_words.specs.Reading.{yielded};
-ghost use Rattle.log_fields.specs.Choices.{deletes_named, deletes_next, list_named, list_next, op_named, op_next, start_named, swap_named};
-ghost use Rattle.log_fields.specs.Choices.{swap_next, type_named, type_next};
+ghost use Rattle.log_fields.specs.Choices.{deletes_named, deletes_next, list_named, list_next, op_next, start_named, swap_named};
+ghost use Rattle.log_fields.specs.Choices.{swap_next, type_next};
 
 use crate::said::StartName;
-use coll_text::is;
+use coll_text::{is, op_named, type_named};
 use log_words::{Flaw, LineFault, Rest, at};
 use ptl_types::{AtomicOp, ElemType, List, SwapOp};
 
@@ -70,36 +70,6 @@ pub fn deletes_in(words: &mut Rest) -> Result<bool, LineFault>
     }
 }
 
-/// The operation that a word names.
-#[tactic(auto, unfolding(crate::specs::Choices::op_named))]
-fn op_named(text: &[u8]) -> Option<AtomicOp>
-    ensures { result ≡ op_named text.now }
-{
-    if is(text, b"min") {
-        Some(AtomicOp::Min)
-    } else if is(text, b"max") {
-        Some(AtomicOp::Max)
-    } else if is(text, b"sum") {
-        Some(AtomicOp::Sum)
-    } else if is(text, b"prod") {
-        Some(AtomicOp::Prod)
-    } else if is(text, b"lor") {
-        Some(AtomicOp::Lor)
-    } else if is(text, b"land") {
-        Some(AtomicOp::Land)
-    } else if is(text, b"bor") {
-        Some(AtomicOp::Bor)
-    } else if is(text, b"band") {
-        Some(AtomicOp::Band)
-    } else if is(text, b"lxor") {
-        Some(AtomicOp::Lxor)
-    } else if is(text, b"bxor") {
-        Some(AtomicOp::Bxor)
-    } else {
-        None
-    }
-}
-
 /// The operation that the next word names.
 ///
 /// # Errors
@@ -145,32 +115,6 @@ pub fn swap_in(words: &mut Rest) -> Result<SwapOp, LineFault>
     match swap_named(word.text()) {
         Some(meaning) => Ok(meaning),
         None => Err(at(word.column(), Flaw::BadWord)),
-    }
-}
-
-/// The type that a word names.
-#[tactic(auto, unfolding(crate::specs::Choices::type_named))]
-fn type_named(text: &[u8]) -> Option<ElemType>
-    ensures { result ≡ type_named text.now }
-{
-    if is(text, b"u8") {
-        Some(ElemType::U8)
-    } else if is(text, b"i8") {
-        Some(ElemType::I8)
-    } else if is(text, b"u16") {
-        Some(ElemType::U16)
-    } else if is(text, b"i16") {
-        Some(ElemType::I16)
-    } else if is(text, b"u32") {
-        Some(ElemType::U32)
-    } else if is(text, b"i32") {
-        Some(ElemType::I32)
-    } else if is(text, b"u64") {
-        Some(ElemType::U64)
-    } else if is(text, b"i64") {
-        Some(ElemType::I64)
-    } else {
-        None
     }
 }
 
