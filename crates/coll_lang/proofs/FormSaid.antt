@@ -9,11 +9,12 @@ use Rattle.ptl_types.specs.declared.elements.ElemType.TheVariants as types
 use Rattle.ptl_types.specs.declared.elements.AtomicOp.{AtomicOp}
 use Rattle.ptl_types.specs.declared.elements.AtomicOp.TheVariants as ops
 use Rattle.coll_text.specs.Text.{is_name, is_empty}
+use Rattle.coll_text.specs.Named.{op_named, type_named}
 use Rattle.coll_text.proofs.Spelled.{both, chosen, mapped, then, same}
-use Rattle.coll_shape.specs.declared.kinds.StepKind.{StepKind}
-use Rattle.coll_shape.specs.Kinds.{all_kinds, kind_named, kind_word, named_among, takes_buffers, takes_op, takes_root}
+use Rattle.coll_shape.specs.declared.collectives.StepKind.{StepKind}
+use Rattle.coll_shape.specs.Collectives.{all_kinds, kind_named, kind_word, named_among, takes_buffers, takes_op, takes_root}
 use Rattle.coll_lang.specs.Words.{type_word, op_word, choice_word}
-use Rattle.coll_lang.specs.Forms.{Form, StepWords, complete, group, input, step, choice, print, last, type_of, op_of, op_in, root_in}
+use Rattle.coll_lang.specs.Forms.{Form, StepWords, complete, group, input, step, choice, print, last, op_in, root_in}
 use Rattle.coll_lang.specs.Forms.{names_in, step_in, on_in, group_in, input_in, name_in, complete_in, alone, form_of}
 use Rattle.coll_lang.specs.declared.choices.ChoiceKind.TheVariants.{Elect, Tickets}
 
@@ -83,7 +84,7 @@ link P true t o x h first others = subst P (some_is t x h) (first refl)
     some_is a b e = cc
 link P false t o x h first others = others h
 
-type_spelled : (w : List ℕ) (t : ElemType) → type_of w ≡ Some t → w ≡ type_word t
+type_spelled : (w : List ℕ) (t : ElemType) → type_named w ≡ Some t → w ≡ type_word t
 type_spelled w t h =
     let P : ElemType → Type 0 = λ t. w ≡ type_word t in
     link P (bytes_eq w (codes "u8")) types.U8 _ t h (same w (codes "u8")) (λ h1.
@@ -98,7 +99,7 @@ type_spelled w t h =
     never : (t : ElemType) → None ≡ Some t → ⊥
     never t h = cc
 
-op_spelled : (w : List ℕ) (t : AtomicOp) → op_of w ≡ Some t → w ≡ op_word t
+op_spelled : (w : List ℕ) (t : AtomicOp) → op_named w ≡ Some t → w ≡ op_word t
 op_spelled w t h =
     let P : AtomicOp → Type 0 = λ t. w ≡ op_word t in
     link P (bytes_eq w (codes "min")) ops.Min _ t h (same w (codes "min")) (λ h1.
@@ -138,8 +139,8 @@ input_said key [] f e h = cc
 input_said key (name ∷ []) f e h = cc
 input_said key (name ∷ ty ∷ []) f e h = cc
 input_said key (name ∷ ty ∷ count ∷ []) f e h =
-    let p = chosen (is_name name && not (is_empty count)) (option_map (λ t. input name t count) (type_of ty)) f h in
-    let m = mapped (λ t. input name t count) (type_of ty) f p.1 in
+    let p = chosen (is_name name && not (is_empty count)) (option_map (λ t. input name t count) (type_named ty)) f h in
+    let m = mapped (λ t. input name t count) (type_named ty) f p.1 in
     let q = both (is_name name) (not (is_empty count)) p.0 in
     subst (λ f. FormSaid (key ∷ name ∷ ty ∷ count ∷ []) f) m.2 (record {
       spelled = ap (λ (x : List ℕ). x ∷ name ∷ ty ∷ count ∷ []) e
@@ -197,7 +198,7 @@ op_said false ws o h =
     subst (λ (o : AtomicOp × List (List ℕ)). OpSaid false ws o) (some_is (ops.Sum, ws) o h) (record { spelled = refl; none = λ e. refl })
 op_said true [] o h = cc
 op_said true (w ∷ ws) o h =
-    let m = mapped (λ op. (op, ws)) (op_of w) o h in
+    let m = mapped (λ op. (op, ws)) (op_named w) o h in
     record {
       spelled = ap (λ x. x ∷ ws) (op_spelled w m.0 m.1) ∙ ap (λ (o : AtomicOp × List (List ℕ)). op_word o.0 ∷ o.1) m.2;
       none = λ e. cc;

@@ -1,8 +1,10 @@
 -- The words of a line are read as its form.
-use Rattle.std.proofs.Common.{◌≡◌, ℕ, ◌<◌, ◌≤◌, ◌^◌, List, [], ◌∷◌, ◌++◌, length, Option, Some, None, Bool, true, false, cond, ◌&&◌, refl}
+use Rattle.std.proofs.Common.{◌≡◌, ℕ, ◌<◌, ◌≤◌, ◌^◌, List, [], ◌∷◌, ◌++◌, length, Option, Some, None, Bool, true, false, cond, ◌&&◌, not}
+use Rattle.std.proofs.Common.{refl}
 use Rattle.std.proofs.Common.{sym, ap, ◌∙◌, arith, codes}
 use Rattle.std.specs.Prelude.{nat_le, ◌==◌, option_and_then}
 use Rattle.std.specs.List.{list_all}
+use Rattle.std.specs.Str.{bytes_eq}
 use Rattle.std.specs.Fmt.{decimal}
 use Rattle.std.proofs.lemmas.Bool.Decides.{nat_tests}
 use Rattle.std.proofs.lemmas.Fmt.{decimal_nonempty}
@@ -11,18 +13,18 @@ use Rattle.ptl_types.specs.declared.elements.ElemType.TheVariants as types
 use Rattle.ptl_types.specs.declared.elements.AtomicOp.{AtomicOp}
 use Rattle.ptl_types.specs.declared.elements.AtomicOp.TheVariants as ops
 use Rattle.coll_text.specs.Text.{is_name, is_letter, is_name_byte, is_empty, number_between}
+use Rattle.coll_text.specs.Named.{op_named, type_named}
 use Rattle.coll_text.proofs.Spelled.{both}
 use Rattle.coll_text.proofs.ReadBack.{passes_too, number_read}
 use Rattle.coll_text.proofs.WordsBack.{is_solid}
 use Rattle.coll_lang.specs.Words.{type_word, op_word}
 use Rattle.std.specs.Prelude.{is_some, option_map}
 use Rattle.std.specs.List.{list_any, AllByRecursion}
-use Rattle.coll_shape.specs.declared.kinds.StepKind.{StepKind}
-use Rattle.coll_shape.specs.declared.kinds.StepKind.TheVariants.{Barrier, Broadcast, Reduce, Allreduce, Gather, Allgather, Alltoall, Scan}
-use Rattle.coll_shape.specs.declared.kinds.StepKind.TheVariants.{Scatter, Reducescatter, Exscan, Gatherv}
-use Rattle.coll_shape.specs.Kinds.{kind_named, kind_word, takes_buffers, takes_op, takes_root}
+use Rattle.coll_shape.specs.declared.collectives.StepKind.{StepKind}
+use Rattle.coll_shape.specs.Collectives.{all_kinds, kind_word, takes_buffers, takes_op, takes_root}
+use Rattle.coll_shape.proofs.ByCollective.{every_kind, kind_back}
 use Rattle.coll_lang.specs.Words.{choice_word}
-use Rattle.coll_lang.specs.Forms.{StepWords, complete, group, input, step, choice, print, last, type_of, op_of, op_in, root_in, names_in}
+use Rattle.coll_lang.specs.Forms.{StepWords, complete, group, input, step, choice, print, last, op_in, root_in, names_in}
 use Rattle.coll_lang.specs.Forms.{step_in, on_in, group_in, input_in, name_in, complete_in, form_of}
 use Rattle.coll_lang.specs.declared.choices.ChoiceKind.{ChoiceKind}
 use Rattle.coll_lang.specs.declared.choices.ChoiceKind.TheVariants.{Elect, Tickets}
@@ -64,7 +66,7 @@ op_solid ops.Band = refl
 op_solid ops.Lxor = refl
 op_solid ops.Bxor = refl
 
-type_back : (ty : ElemType) → type_of (type_word ty) ≡ Some ty
+pub type_back : (ty : ElemType) → type_named (type_word ty) ≡ Some ty
 type_back types.U8 = refl
 type_back types.I8 = refl
 type_back types.U16 = refl
@@ -74,7 +76,7 @@ type_back types.I32 = refl
 type_back types.U64 = refl
 type_back types.I64 = refl
 
-op_back : (op : AtomicOp) → op_of (op_word op) ≡ Some op
+op_back : (op : AtomicOp) → op_named (op_word op) ≡ Some op
 op_back ops.Min = refl
 op_back ops.Max = refl
 op_back ops.Sum = refl
@@ -134,20 +136,6 @@ unfolding form_of group_in
 group_back name member members named full = rw (named, none_empty (member ∷ members) full) refl
 
 -- ---- steps
-kind_back : (k : StepKind) → kind_named (kind_word k) ≡ Some k
-kind_back Barrier = refl
-kind_back Broadcast = refl
-kind_back Reduce = refl
-kind_back Allreduce = refl
-kind_back Gather = refl
-kind_back Allgather = refl
-kind_back Alltoall = refl
-kind_back Scan = refl
-kind_back Scatter = refl
-kind_back Reducescatter = refl
-kind_back Exscan = refl
-kind_back Gatherv = refl
-
 -- a step's words have what its kind takes, spelled so
 abbrev pub RootFull : Option (List ℕ) → Type 0
 RootFull None = Unit {0}
@@ -197,20 +185,28 @@ step_back w h =
       names_back (takes_buffers w.kind) w.names h.names h.named,
     ) refl
 
+-- the word of a kind is none of the other first words of lines
+apart : (k : StepKind) (word : List ℕ) → list_all (λ k. not (bytes_eq (kind_word k) word)) all_kinds ≡ true
+    → bytes_eq (kind_word k) word ≡ false
+apart k word h = of (bytes_eq (kind_word k) word) (every_kind (λ k. not (bytes_eq (kind_word k) word)) h k)
+  where
+    of : (b : Bool) → not b ≡ true → b ≡ false
+    of true e = cc
+    of false e = refl
+
 plain_back : (k : StepKind) (ws : List (List ℕ)) → form_of (kind_word k ∷ ws) ≡ option_map (step None) (step_in (kind_word k) ws)
 unfolding form_of
-plain_back Barrier ws = refl
-plain_back Broadcast ws = refl
-plain_back Reduce ws = refl
-plain_back Allreduce ws = refl
-plain_back Gather ws = refl
-plain_back Allgather ws = refl
-plain_back Alltoall ws = refl
-plain_back Scan ws = refl
-plain_back Scatter ws = refl
-plain_back Reducescatter ws = refl
-plain_back Exscan ws = refl
-plain_back Gatherv ws = refl
+plain_back k ws =
+    rw (
+      apart k (codes "complete") refl,
+      apart k (codes "group") refl,
+      apart k (codes "input") refl,
+      apart k (codes "on") refl,
+      apart k (codes "elect") refl,
+      apart k (codes "tickets") refl,
+      apart k (codes "print") refl,
+      apart k (codes "end") refl,
+    ) refl
 
 -- a group that is named
 abbrev pub NameFull : Option (List ℕ) → Type 0

@@ -160,3 +160,6 @@ ends_none ranks least broken (x ∷ xs) none = absurd (omega (arith, none))
 pub ends_broken : (ranks least : ℕ) (done : List ℕ) → left_over ranks true done least [] ≡ Ok None
 unfolding left_over
 ends_broken ranks least done = refl
+
+-- a group's members from the first word to the last
+pub ruleset word_by_word = (begins, takes, breaks, fails, ends, ends_none, ends_broken)

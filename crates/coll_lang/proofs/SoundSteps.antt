@@ -21,10 +21,11 @@ use Rattle.coll_shape.specs.declared.types.Group.{Group}
 use Rattle.coll_shape.specs.declared.types.CollStep.{CollStep}
 use Rattle.coll_shape.specs.declared.types.CollStep.TheVariants.{Barrier}
 use Rattle.coll_shape.specs.Outline.{Outline, no_buffer, no_group, buffer_at, read_buffer}
-use Rattle.coll_shape.specs.Kinds.{kind_since, step_of, takes_buffers, takes_root}
+use Rattle.coll_shape.specs.Collectives.{kind_since, step_of, takes_buffers, takes_root}
 use Rattle.coll_shape.specs.Collectives.{buffer_after, IsPlace, Reads, can_read, made_length, named, result_of, source_of}
 use Rattle.coll_shape.specs.WellFormed.{StandsIn, AreMembers, IsGroup, and_one, StepFits, elements_of, printed_elements}
 use Rattle.coll_shape.proofs.Asking.{reads-can}
+use Rattle.coll_shape.proofs.ByCollective.{OfKind, made_after, of_kind}
 use Rattle.coll_shape.specs.declared.limits.TheConstants.{MOST_RANKS, MOST_BUFFERS, MOST_STEPS, MOST_PRINTS, MOST_ELEMENTS}
 use Rattle.coll_lang.specs.Forms.{StepWords, step, print}
 use Rattle.coll_lang.specs.Language.{Past, form_since, or_refuse, stands_in, holds_of, is_taken, group_number, buffer_number, buffer_named}
@@ -41,7 +42,7 @@ use Rattle.coll_lang.proofs.InputLists.{Filled}
 use Rattle.coll_lang.proofs.Facts.{Facts, made_most}
 use Rattle.coll_lang.proofs.Growing.{longer, each_more, old_at, new_at, read_stays}
 use Rattle.coll_lang.proofs.Lines.{IsStep, grown, step_facts, spelled_more, distinct_more, with_print, print_facts}
-use Rattle.coll_lang.proofs.StepRows.{OfKind, of_kind, made_after, words_of_step}
+use Rattle.coll_lang.proofs.StepRows.{words_of_step}
 use Rattle.coll_lang.proofs.Sound.{outline, tail, body, AtSteps, AtPrints, ok_of, some_of, passed, ok_is, room, not_above, not_not}
 use Rattle.coll_lang.proofs.Sound.{new_name, behind_tail}
 use Rattle.coll_lang.proofs.SoundEarly.{Goes}

@@ -10,11 +10,10 @@ use Rattle.coll_text.proofs.Writes.{join_spaced}
 use Rattle.coll_shape.specs.declared.types.Buffer.{Buffer}
 use Rattle.coll_shape.specs.declared.types.Group.{Group}
 use Rattle.coll_shape.specs.declared.types.CollStep.{CollStep}
-use Rattle.coll_shape.specs.declared.types.CollStep.TheVariants.{Barrier}
-use Rattle.coll_shape.specs.declared.types.CollStep.TheVariants as steps
 use Rattle.coll_shape.specs.Outline.{no_group}
-use Rattle.coll_shape.specs.Kinds.{kind_of, kind_word}
-use Rattle.coll_shape.specs.Collectives.{word_of, root_of, op_of, source_of, result_of}
+use Rattle.coll_shape.proofs.ByCollective.{has_kind}
+use Rattle.coll_shape.specs.Collectives.{kind_of, kind_word}
+use Rattle.coll_shape.specs.Collectives.{root_of, op_of, source_of, result_of}
 use Rattle.coll_lang.specs.Words.{op_word}
 use Rattle.coll_shape.specs.Rows.{joined}
 use Rattle.coll_lang.specs.Program.{Program}
@@ -65,20 +64,6 @@ first_more : (groups : List Group) (on : Option ℕ) (word : List ℕ) (zs : Lis
 first_more groups None word zs = join_more word [] zs
 first_more groups (Some i) word zs = join_more (codes "on") ((get_or groups i no_group).name ∷ word ∷ []) zs
 
-kind_is : (s : CollStep) → kind_word (kind_of s) ≡ word_of s
-kind_is steps.Barrier = refl
-kind_is (steps.Broadcast root a b) = refl
-kind_is (steps.Reduce root o a b) = refl
-kind_is (steps.Allreduce o a b) = refl
-kind_is (steps.Gather root a b) = refl
-kind_is (steps.Allgather a b) = refl
-kind_is (steps.Alltoall a b) = refl
-kind_is (steps.Scan o a b) = refl
-kind_is (steps.Scatter root a b) = refl
-kind_is (steps.Reducescatter o a b) = refl
-kind_is (steps.Exscan o a b) = refl
-kind_is (steps.Gatherv root a b) = refl
-
 five : (o f r p a b : List ℕ) → ((((((o ++ f) ++ r) ++ p) ++ a) ++ b) ++ 10 ∷ []) ≡ o ++ ((f ++ (r ++ (p ++ (a ++ b)))) ++ 10 ∷ [])
 five o f r p a b = simp append_assoc
 
@@ -102,7 +87,7 @@ step_line out groups bs s on =
     ∙ ap (λ (x : List ℕ). out ++ ((join_with_byte 32 (on_words groups on ++ kind_word (kind_of s) ∷ []) ++ x) ++ 10 ∷ []))
     (sym (flat_map-append (λ w. 32 ∷ w) r (o ++ (a ++ b))))
     ∙ ap (λ (x : List ℕ). out ++ (x ++ 10 ∷ [])) (sym (first_more groups on (kind_word (kind_of s)) (r ++ (o ++ (a ++ b)))))
-    ∙ ap (λ (w : List ℕ). out ++ line (on_words groups on ++ w ∷ (r ++ (o ++ (a ++ b))))) (kind_is s)
+    ∙ ap (λ (w : List ℕ). out ++ line (on_words groups on ++ w ∷ (r ++ (o ++ (a ++ b))))) (sym (has_kind s).word)
 
 -- all parts after what stands there
 pub all_parts : (o h m g i s p c e : List ℕ)

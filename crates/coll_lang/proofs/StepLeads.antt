@@ -6,8 +6,7 @@ use Rattle.std.specs.List.{AllByRecursion, list_all}
 use Rattle.ptl_types.specs.declared.elements.AtomicOp.{AtomicOp}
 use Rattle.coll_text.specs.Text.{is_name, line}
 use Rattle.coll_text.proofs.WordsBack.{is_solid, number_solid}
-use Rattle.coll_shape.specs.declared.kinds.StepKind.{StepKind}
-use Rattle.coll_shape.specs.declared.kinds.StepKind.TheVariants as kinds
+use Rattle.coll_shape.specs.declared.collectives.StepKind.{StepKind}
 use Rattle.coll_shape.specs.declared.types.Version.{Version}
 use Rattle.coll_shape.specs.declared.types.Version.TheVariants.{One, Two}
 use Rattle.coll_shape.specs.declared.types.Buffer.{Buffer}
@@ -15,10 +14,11 @@ use Rattle.coll_shape.specs.declared.types.Group.{Group}
 use Rattle.coll_shape.specs.declared.types.CollStep.{CollStep}
 use Rattle.coll_shape.specs.declared.types.CollStep.TheVariants.{Barrier}
 use Rattle.coll_shape.specs.Outline.{no_buffer, no_group, buffer_at, read_buffer}
-use Rattle.coll_shape.specs.Kinds.{kind_of, kind_since, kind_word, step_of, takes_op}
+use Rattle.coll_shape.specs.Collectives.{kind_of, kind_since, kind_word, step_of, takes_op}
 use Rattle.coll_shape.specs.Collectives.{IsPlace, Reads, buffer_after, can_read, made_length, named, result_of, since, source_of, root_of}
 use Rattle.coll_shape.specs.WellFormed.{StandsIn, StepFits}
 use Rattle.coll_shape.proofs.Asking.{can-reads}
+use Rattle.coll_shape.proofs.ByCollective.{again, every_kind, has_kind, made_after, or_else, place_of}
 use Rattle.coll_shape.specs.declared.limits.TheConstants.{MOST_RANKS, MOST_BUFFERS, MOST_STEPS, MOST_ELEMENTS}
 use Rattle.coll_lang.specs.Forms.{StepWords, step}
 use Rattle.coll_lang.specs.Language.{Past, form_line, form_since, source_named, buffer_named, is_taken, group_named, members_in, new_buffer}
@@ -32,8 +32,7 @@ use Rattle.coll_lang.proofs.Leading.{Leads, Wider, form_leads}
 use Rattle.coll_lang.proofs.Leaders.{isnt_above, isnt_full, name_found}
 use Rattle.coll_lang.proofs.InputsBack.{Parts, fresh, longer, comes_next, named_there}
 use Rattle.coll_lang.proofs.Sound.{outline}
-use Rattle.coll_lang.proofs.StepRows.{made_after, of_kind}
-use Rattle.coll_lang.proofs.StepsBack.{again, if_word, oper_of, or_else, pair_of, place_of, root_below, root_said, spelled_of, step_taken}
+use Rattle.coll_lang.proofs.StepsBack.{if_word, pair_of, root_below, root_said, spelled_of, step_taken}
 use Rattle.coll_lang.proofs.StepsBack.{words_of, words_said}
 
 -- ---- the group that a step names
@@ -67,8 +66,7 @@ stands Two One h = absurd h
 stands Two Two h = refl
 
 pub since_kind : (s : CollStep) → kind_since (kind_of s) ≡ since s
-since_kind s = sym (of_kind (kind_of s) (place_of s) (oper_of s) (or_else 0 (source_of s)) (or_else 0 (result_of s))).since
-    ∙ ap since (sym (again s))
+since_kind s = sym (has_kind s).since
 
 pub form_stands : (gs : List Group) (v : Version) (k : Option ℕ) (bs : List Buffer) (s : CollStep) → IsOn gs v k → StandsIn (since s) v
     → stands_in (form_since (step (on_name gs k) (words_of bs s))) v ≡ true
@@ -87,18 +85,7 @@ source_found past na nb a x new found = rw (new, found) refl
 
 -- ---- its words are seen bytes
 kind_solid : (k : StepKind) → list_all is_solid (kind_word k) ≡ true
-kind_solid kinds.Barrier = refl
-kind_solid kinds.Broadcast = refl
-kind_solid kinds.Reduce = refl
-kind_solid kinds.Allreduce = refl
-kind_solid kinds.Gather = refl
-kind_solid kinds.Allgather = refl
-kind_solid kinds.Alltoall = refl
-kind_solid kinds.Scan = refl
-kind_solid kinds.Scatter = refl
-kind_solid kinds.Reducescatter = refl
-kind_solid kinds.Exscan = refl
-kind_solid kinds.Gatherv = refl
+kind_solid = every_kind (λ k. list_all is_solid (kind_word k)) refl
 
 abbrev Solid : List (List ℕ) → Type 0
 Solid ws = AllByRecursion (λ w. list_all is_solid w ≡ true) ws

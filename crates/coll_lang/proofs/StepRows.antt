@@ -1,65 +1,17 @@
--- What the rows say of a step by its kind, and the words of a step.
+-- The words of a step, by its kind.
 use Rattle.std.proofs.Common.{◌≡◌, ℕ, ◌<◌, ◌^◌, List, [], ◌∷◌, ◌++◌, Option, Some, None, Bool, true, false, cond, refl, sym, ap, ◌∙◌}
 use Rattle.std.specs.Prelude.{is_some}
 use Rattle.std.specs.Fmt.{decimal}
 use Rattle.ptl_types.specs.declared.elements.AtomicOp.{AtomicOp}
 use Rattle.coll_text.proofs.Spelled.{number_spelled}
 use Rattle.coll_shape.specs.declared.types.Buffer.{Buffer}
-use Rattle.coll_shape.specs.declared.types.CollStep.{CollStep}
-use Rattle.coll_shape.specs.declared.types.CollStep.TheVariants as steps
-use Rattle.coll_shape.specs.declared.kinds.StepKind.{StepKind}
-use Rattle.coll_shape.specs.declared.kinds.StepKind.TheVariants.{Barrier, Broadcast, Reduce, Allreduce, Gather, Allgather, Alltoall, Scan}
-use Rattle.coll_shape.specs.declared.kinds.StepKind.TheVariants.{Scatter, Reducescatter, Exscan, Gatherv}
-use Rattle.coll_shape.specs.Kinds.{kind_since, kind_word, step_of, takes_buffers, takes_op, takes_root}
-use Rattle.coll_shape.specs.Collectives.{buffer_after, like, made_holders, made_length, op_of, result_of, root_of, since, source_of}
-use Rattle.coll_shape.specs.Collectives.{word_of}
+use Rattle.coll_shape.specs.Collectives.{kind_word, step_of, takes_buffers, takes_op, takes_root}
+use Rattle.coll_shape.proofs.ByCollective.{of_kind}
 use Rattle.coll_lang.specs.Words.{op_word}
 use Rattle.coll_lang.specs.Forms.{StepWords}
 use Rattle.coll_lang.specs.Language.{root_number}
 use Rattle.coll_lang.specs.Spelling.{if_there, name_at, step_words}
 use Rattle.coll_lang.proofs.FormSaid.{Takes, names_there, op_there, said_words, word_there}
-
--- a step of a kind has what the kind has
-pub record OfKind (k : StepKind) (place : ℕ) (o : AtomicOp) (a b : ℕ) : Type 0 where
-  pub word : word_of (step_of k place o a b) ≡ kind_word k
-  pub since : since (step_of k place o a b) ≡ kind_since k
-  pub root : root_of (step_of k place o a b) ≡ cond (takes_root k) (Some place) None
-  pub op : op_of (step_of k place o a b) ≡ cond (takes_op k) (Some o) None
-  pub source : source_of (step_of k place o a b) ≡ cond (takes_buffers k) (Some a) None
-  pub result : result_of (step_of k place o a b) ≡ cond (takes_buffers k) (Some b) None
-
-pub of_kind : (k : StepKind) (root : ℕ) (o : AtomicOp) (a b : ℕ) → OfKind k root o a b
-of_kind Barrier root o a b = record { word = refl; since = refl; root = refl; op = refl; source = refl; result = refl }
-of_kind Broadcast root o a b = record { word = refl; since = refl; root = refl; op = refl; source = refl; result = refl }
-of_kind Reduce root o a b = record { word = refl; since = refl; root = refl; op = refl; source = refl; result = refl }
-of_kind Allreduce root o a b = record { word = refl; since = refl; root = refl; op = refl; source = refl; result = refl }
-of_kind Gather root o a b = record { word = refl; since = refl; root = refl; op = refl; source = refl; result = refl }
-of_kind Allgather root o a b = record { word = refl; since = refl; root = refl; op = refl; source = refl; result = refl }
-of_kind Alltoall root o a b = record { word = refl; since = refl; root = refl; op = refl; source = refl; result = refl }
-of_kind Scan root o a b = record { word = refl; since = refl; root = refl; op = refl; source = refl; result = refl }
-of_kind Scatter root o a b = record { word = refl; since = refl; root = refl; op = refl; source = refl; result = refl }
-of_kind Reducescatter root o a b = record { word = refl; since = refl; root = refl; op = refl; source = refl; result = refl }
-of_kind Exscan root o a b = record { word = refl; since = refl; root = refl; op = refl; source = refl; result = refl }
-of_kind Gatherv root o a b = record { word = refl; since = refl; root = refl; op = refl; source = refl; result = refl }
-
--- what a step makes of x
-pub made_after : (g : List ℕ) (s : CollStep) (x : Buffer) (b : ℕ) → result_of s ≡ Some b
-    → buffer_after g s x ≡ like x (made_length g s x) (made_holders g s)
-made_after g steps.Barrier x b e = absurd (clash e)
-  where
-    clash : (let o : Option ℕ = None in o ≡ Some b) → ⊥
-    clash e = cc
-made_after g (steps.Broadcast root a c) x b e = refl
-made_after g (steps.Reduce root o a c) x b e = refl
-made_after g (steps.Allreduce o a c) x b e = refl
-made_after g (steps.Gather root a c) x b e = refl
-made_after g (steps.Allgather a c) x b e = refl
-made_after g (steps.Alltoall a c) x b e = refl
-made_after g (steps.Scan o a c) x b e = refl
-made_after g (steps.Scatter root a c) x b e = refl
-made_after g (steps.Reducescatter o a c) x b e = refl
-made_after g (steps.Exscan o a c) x b e = refl
-made_after g (steps.Gatherv root a c) x b e = refl
 
 -- ---- words
 word_is : (root : Option (List ℕ)) (due : Bool) (n : ℕ) → n < 2 ^ 64 → is_some root ≡ due → root_number root ≡ Some n

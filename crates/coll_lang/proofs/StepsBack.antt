@@ -1,5 +1,6 @@
 -- The line of a step is read as the step that it was written of.
-use Rattle.std.proofs.Common.{◌≡◌, ℕ, ◌<◌, ◌^◌, List, [], ◌∷◌, ◌++◌, length, Option, Some, None, Ok, true, false, ◌&&◌, refl, inl, inr, ◌⊎◌}
+use Rattle.std.proofs.Common.{◌≡◌, ℕ, ◌<◌, ◌^◌, List, [], ◌∷◌, ◌++◌, length, Option, Some, None, Ok, true, false, ◌&&◌, refl}
+use Rattle.std.proofs.Common.{sym, ap, ◌∙◌}
 use Rattle.std.specs.Prelude.{nat_lt, nat_le, is_some}
 use Rattle.std.specs.Fmt.{decimal}
 use Rattle.ptl_types.specs.declared.elements.AtomicOp.{AtomicOp}
@@ -8,60 +9,19 @@ use Rattle.coll_text.specs.Text.{is_name}
 use Rattle.coll_text.proofs.ReadBack.{number_read}
 use Rattle.coll_shape.specs.declared.types.Buffer.{Buffer}
 use Rattle.coll_shape.specs.declared.types.CollStep.{CollStep}
-use Rattle.coll_shape.specs.declared.types.CollStep.TheVariants.{Barrier, Broadcast, Reduce, Allreduce, Gather, Allgather, Alltoall, Scan}
-use Rattle.coll_shape.specs.declared.types.CollStep.TheVariants.{Scatter, Reducescatter, Exscan, Gatherv}
-use Rattle.coll_shape.specs.Kinds.{kind_of, step_of}
+use Rattle.coll_shape.specs.Collectives.{kind_of, kind_word, step_of, takes_op}
+use Rattle.coll_shape.proofs.ByCollective.{has_kind, oper_of, or_else}
 use Rattle.coll_shape.specs.Collectives.{IsPlace, can_read, made_length, op_of, result_of, root_of, source_of}
 use Rattle.coll_shape.specs.declared.limits.TheConstants.{MOST_BUFFERS, MOST_STEPS, MOST_ELEMENTS}
 use Rattle.coll_lang.specs.Forms.{StepWords, step}
 use Rattle.coll_lang.specs.Language.{Past, form_line, step_line, rooted_line, step_on, root_number, source_named, group_named, members_in}
 use Rattle.coll_lang.specs.Language.{with_made}
-use Rattle.coll_lang.specs.Spelling.{name_at, step_words}
+use Rattle.coll_lang.specs.Words.{op_word}
+use Rattle.coll_lang.specs.Spelling.{if_there, name_at, step_words}
 use Rattle.coll_lang.specs.declared.stage.Stage.TheVariants.{Steps}
-use Rattle.coll_lang.proofs.FormSaid.{said_words}
-use Rattle.coll_lang.proofs.FormsBack.{IsSpelled, number_full}
+use Rattle.coll_lang.proofs.FormSaid.{names_there, op_there, said_words, word_there}
+use Rattle.coll_lang.proofs.FormsBack.{IsSpelled, NamesFull, RootFull, number_full}
 use Rattle.coll_lang.proofs.Leaders.{isnt_full}
-
--- ---- what a step has, by its row
-abbrev pub or_else : {A : Type 0} → A → Option A → A
-or_else d None = d
-or_else d (Some x) = x
-
-abbrev pub place_of : CollStep → ℕ
-place_of s = or_else 0 (root_of s)
-
-abbrev pub oper_of : CollStep → AtomicOp
-oper_of s = or_else ops.Sum (op_of s)
-
--- a step is the step of its kind with what it has
-pub again : (s : CollStep) → s ≡ step_of (kind_of s) (place_of s) (oper_of s) (or_else 0 (source_of s)) (or_else 0 (result_of s))
-again Barrier = refl
-again (Broadcast r a b) = refl
-again (Reduce r o a b) = refl
-again (Allreduce o a b) = refl
-again (Gather r a b) = refl
-again (Allgather a b) = refl
-again (Alltoall a b) = refl
-again (Scan o a b) = refl
-again (Scatter r a b) = refl
-again (Reducescatter o a b) = refl
-again (Exscan o a b) = refl
-again (Gatherv r a b) = refl
-
--- a step reads and makes a buffer, or is a barrier
-pub has_both : (s : CollStep) → (s ≡ Barrier) ⊎ ((a : ℕ) × (b : ℕ) × (source_of s ≡ Some a) × (result_of s ≡ Some b))
-has_both Barrier = inl refl
-has_both (Broadcast r a b) = inr (a, b, refl, refl)
-has_both (Reduce r o a b) = inr (a, b, refl, refl)
-has_both (Allreduce o a b) = inr (a, b, refl, refl)
-has_both (Gather r a b) = inr (a, b, refl, refl)
-has_both (Allgather a b) = inr (a, b, refl, refl)
-has_both (Alltoall a b) = inr (a, b, refl, refl)
-has_both (Scan o a b) = inr (a, b, refl, refl)
-has_both (Scatter r a b) = inr (a, b, refl, refl)
-has_both (Reducescatter o a b) = inr (a, b, refl, refl)
-has_both (Exscan o a b) = inr (a, b, refl, refl)
-has_both (Gatherv r a b) = inr (a, b, refl, refl)
 
 -- ---- its words
 abbrev pub if_word : Option ℕ → Option (List ℕ)
@@ -76,48 +36,77 @@ pair_of bs (Some a) (Some b) = Some (name_at bs a, name_at bs b)
 abbrev pub words_of : List Buffer → CollStep → StepWords
 words_of bs s = record { kind = kind_of s; root = if_word (root_of s); op = oper_of s; names = pair_of bs (source_of s) (result_of s) }
 
+root_words : (o : Option ℕ) → if_there decimal o ≡ word_there (if_word o)
+root_words None = refl
+root_words (Some r) = refl
+
+op_words : (o : Option AtomicOp) → if_there op_word o ≡ op_there (is_some o) (or_else ops.Sum o)
+op_words None = refl
+op_words (Some o) = refl
+
+-- A and B are both there, or none of them
+abbrev pub Both : Option ℕ → Option ℕ → Type 0
+Both a b = is_some a ≡ is_some b
+
+both : (s : CollStep) → Both (source_of s) (result_of s)
+both s = let k = has_kind s in k.source ∙ sym k.result
+
+buffer_words : (bs : List Buffer) (a b : Option ℕ) → Both a b
+    → if_there (name_at bs) a ++ if_there (name_at bs) b ≡ names_there (pair_of bs a b)
+buffer_words bs None None e = refl
+buffer_words bs None (Some b) e = cc
+buffer_words bs (Some a) None e = cc
+buffer_words bs (Some a) (Some b) e = refl
+
 pub words_said : (bs : List Buffer) (s : CollStep) → step_words bs s ≡ said_words (words_of bs s)
 unfolding step_words
-words_said bs Barrier = refl
-words_said bs (Broadcast r a b) = refl
-words_said bs (Reduce r o a b) = refl
-words_said bs (Allreduce o a b) = refl
-words_said bs (Gather r a b) = refl
-words_said bs (Allgather a b) = refl
-words_said bs (Alltoall a b) = refl
-words_said bs (Scan o a b) = refl
-words_said bs (Scatter r a b) = refl
-words_said bs (Reducescatter o a b) = refl
-words_said bs (Exscan o a b) = refl
-words_said bs (Gatherv r a b) = refl
-
-never : {A : Type 0} → true ≡ false → A
-never e = absurd (clash e)
-  where
-    clash : true ≡ false → ⊥
-    clash e = cc
+words_said bs s =
+    let k = has_kind s in
+    let names = if_there (name_at bs) (source_of s) ++ if_there (name_at bs) (result_of s) in
+    ap (λ (w : List ℕ). w ∷ (if_there decimal (root_of s) ++ (if_there op_word (op_of s) ++ names))) k.word
+    ∙ ap (λ (x : List (List ℕ)). kind_word (kind_of s) ∷ (x ++ (if_there op_word (op_of s) ++ names))) (root_words (root_of s))
+    ∙ ap (λ (x : List (List ℕ)). kind_word (kind_of s) ∷ (word_there (if_word (root_of s)) ++ (x ++ names)))
+    (op_words (op_of s) ∙ ap (λ b. op_there b (oper_of s)) k.op)
+    ∙ ap (λ (x : List (List ℕ)). kind_word (kind_of s)
+    ∷ (word_there (if_word (root_of s)) ++ (op_there (takes_op (kind_of s)) (oper_of s) ++ x)))
+    (buffer_words bs (source_of s) (result_of s) (both s))
 
 -- they are spelled as words of a step are
+root_full : (o : Option ℕ) → ((r : ℕ) → o ≡ Some r → r < 2 ^ 64) → RootFull (if_word o)
+root_full None h = tt
+root_full (Some r) h = number_full r (h r refl)
+
+root_there : (o : Option ℕ) → is_some (if_word o) ≡ is_some o
+root_there None = refl
+root_there (Some r) = refl
+
+no_op : (o : Option AtomicOp) → is_some o ≡ false → or_else ops.Sum o ≡ ops.Sum
+no_op None e = refl
+no_op (Some o) e = cc
+
+pair_there : (bs : List Buffer) (a b : Option ℕ) → Both a b → is_some (pair_of bs a b) ≡ is_some a
+pair_there bs None b e = refl
+pair_there bs (Some a) None e = cc
+pair_there bs (Some a) (Some b) e = refl
+
+pair_full : (bs : List Buffer) (a b : Option ℕ) → ((i : ℕ) → a ≡ Some i → is_name (name_at bs i) ≡ true)
+    → ((i : ℕ) → b ≡ Some i → is_name (name_at bs i) ≡ true) → NamesFull (pair_of bs a b)
+pair_full bs None b n m = tt
+pair_full bs (Some a) None n m = tt
+pair_full bs (Some a) (Some b) n m = (n a refl, m b refl)
+
 pub spelled_of : (bs : List Buffer) (s : CollStep) → ((r : ℕ) → root_of s ≡ Some r → r < 2 ^ 64)
     → ((a : ℕ) → source_of s ≡ Some a → is_name (name_at bs a) ≡ true) → ((b : ℕ) → result_of s ≡ Some b → is_name (name_at bs b) ≡ true)
     → IsSpelled (words_of bs s)
-spelled_of bs Barrier h n m = record { root = refl; op = λ e. refl; names = refl; full = tt; named = tt }
-spelled_of bs (Broadcast r a b) h n m =
-    record { root = refl; op = λ e. refl; names = refl; full = number_full r (h r refl); named = (n a refl, m b refl) }
-spelled_of bs (Reduce r o a b) h n m =
-    record { root = refl; op = λ e. never e; names = refl; full = number_full r (h r refl); named = (n a refl, m b refl) }
-spelled_of bs (Allreduce o a b) h n m = record { root = refl; op = λ e. never e; names = refl; full = tt; named = (n a refl, m b refl) }
-spelled_of bs (Gather r a b) h n m =
-    record { root = refl; op = λ e. refl; names = refl; full = number_full r (h r refl); named = (n a refl, m b refl) }
-spelled_of bs (Allgather a b) h n m = record { root = refl; op = λ e. refl; names = refl; full = tt; named = (n a refl, m b refl) }
-spelled_of bs (Alltoall a b) h n m = record { root = refl; op = λ e. refl; names = refl; full = tt; named = (n a refl, m b refl) }
-spelled_of bs (Scan o a b) h n m = record { root = refl; op = λ e. never e; names = refl; full = tt; named = (n a refl, m b refl) }
-spelled_of bs (Scatter r a b) h n m =
-    record { root = refl; op = λ e. refl; names = refl; full = number_full r (h r refl); named = (n a refl, m b refl) }
-spelled_of bs (Reducescatter o a b) h n m = record { root = refl; op = λ e. never e; names = refl; full = tt; named = (n a refl, m b refl) }
-spelled_of bs (Exscan o a b) h n m = record { root = refl; op = λ e. never e; names = refl; full = tt; named = (n a refl, m b refl) }
-spelled_of bs (Gatherv r a b) h n m =
-    record { root = refl; op = λ e. refl; names = refl; full = number_full r (h r refl); named = (n a refl, m b refl) }
+spelled_of bs s h n m =
+    let k = has_kind s in
+    record {
+      root = root_there (root_of s) ∙ k.root;
+      op = λ e. no_op (op_of s) (k.op ∙ e);
+      names = pair_there bs (source_of s) (result_of s) (both s) ∙ k.source;
+      full = root_full (root_of s) h;
+      named = pair_full bs (source_of s) (result_of s) n m;
+    }
 
 -- ---- the tests of its line
 pub root_said : (o : Option ℕ) → ((r : ℕ) → o ≡ Some r → r < 2 ^ 64) → root_number (if_word o) ≡ Some (or_else 0 o)

@@ -8,6 +8,7 @@ use Rattle.coll_shape.specs.declared.types.Buffer.{Buffer}
 use Rattle.coll_shape.specs.declared.types.CollStep.{CollStep}
 use Rattle.coll_shape.specs.declared.types.CollStep.TheVariants.{Barrier}
 use Rattle.coll_shape.specs.Outline.{group_at, step_at}
+use Rattle.coll_shape.proofs.ByCollective.{has_both}
 use Rattle.coll_shape.specs.Collectives.{result_of, since, source_of}
 use Rattle.coll_shape.specs.WellFormed.{FitsVersion, IsGroup, IsWellFormed, StandsIn, StepFits, and_one, made_upto}
 use Rattle.coll_shape.specs.declared.limits.TheConstants.{MOST_STEPS, MOST_ELEMENTS}
@@ -23,7 +24,6 @@ use Rattle.coll_lang.proofs.Leading.{Leads, Wider, then}
 use Rattle.coll_lang.proofs.NamesBack.{AreNames}
 use Rattle.coll_lang.proofs.Sound.{outline}
 use Rattle.coll_lang.proofs.StepLeads.{IsOn, makes_leads, meets_leads}
-use Rattle.coll_lang.proofs.StepsBack.{has_both}
 
 -- before the prints
 abbrev pub unprinted : Past → Past

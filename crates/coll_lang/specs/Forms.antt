@@ -4,12 +4,12 @@ use Rattle.std.specs.Prelude.{option_map}
 use Rattle.std.specs.List.{list_any}
 use Rattle.std.specs.Str.{bytes_eq}
 use Rattle.coll_text.specs.Text.{is_name, is_empty}
+use Rattle.coll_text.specs.Named.{op_named, type_named}
 use Rattle.ptl_types.specs.declared.elements.ElemType.{ElemType}
-use Rattle.ptl_types.specs.declared.elements.ElemType.TheVariants as types
 use Rattle.ptl_types.specs.declared.elements.AtomicOp.{AtomicOp}
 use Rattle.ptl_types.specs.declared.elements.AtomicOp.TheVariants as ops
-use Rattle.coll_shape.specs.declared.kinds.StepKind.{StepKind}
-use Rattle.coll_shape.specs.Kinds.{kind_named, takes_root, takes_op, takes_buffers}
+use Rattle.coll_shape.specs.declared.collectives.StepKind.{StepKind}
+use Rattle.coll_shape.specs.Collectives.{kind_named, takes_root, takes_op, takes_buffers}
 use Rattle.coll_lang.specs.declared.choices.ChoiceKind.{ChoiceKind}
 use Rattle.coll_lang.specs.declared.choices.ChoiceKind.TheVariants.{Elect, Tickets}
 
@@ -31,32 +31,6 @@ pub data Form : Type 0 where
   print : (name : List ℕ) → Form
   last : Form
 
-abbrev pub type_of : List ℕ → Option ElemType
-type_of word =
-    if bytes_eq word (codes "u8") then Some types.U8
-    else if bytes_eq word (codes "i8") then Some types.I8
-    else if bytes_eq word (codes "u16") then Some types.U16
-    else if bytes_eq word (codes "i16") then Some types.I16
-    else if bytes_eq word (codes "u32") then Some types.U32
-    else if bytes_eq word (codes "i32") then Some types.I32
-    else if bytes_eq word (codes "u64") then Some types.U64
-    else if bytes_eq word (codes "i64") then Some types.I64
-    else None
-
-abbrev pub op_of : List ℕ → Option AtomicOp
-op_of word =
-    if bytes_eq word (codes "min") then Some ops.Min
-    else if bytes_eq word (codes "max") then Some ops.Max
-    else if bytes_eq word (codes "sum") then Some ops.Sum
-    else if bytes_eq word (codes "prod") then Some ops.Prod
-    else if bytes_eq word (codes "lor") then Some ops.Lor
-    else if bytes_eq word (codes "land") then Some ops.Land
-    else if bytes_eq word (codes "bor") then Some ops.Bor
-    else if bytes_eq word (codes "band") then Some ops.Band
-    else if bytes_eq word (codes "lxor") then Some ops.Lxor
-    else if bytes_eq word (codes "bxor") then Some ops.Bxor
-    else None
-
 infixl 10 ◌>>=◌
 abbrev pub ◌>>=◌ : {A B : Type 0} → Option A → (A → Option B) → Option B
 o >>= f = option_and_then f o
@@ -71,7 +45,7 @@ root_in true (word ∷ ws) = if is_empty word then None else Some (Some word, ws
 unfoldable pub op_in : Bool → List (List ℕ) → Option (AtomicOp × List (List ℕ))
 op_in false ws = Some (ops.Sum, ws)
 op_in true [] = None
-op_in true (word ∷ ws) = option_map (λ op. (op, ws)) (op_of word)
+op_in true (word ∷ ws) = option_map (λ op. (op, ws)) (op_named word)
 
 -- two names where they are due, and no more
 unfoldable pub names_in : Bool → List (List ℕ) → Option (Option (List ℕ × List ℕ))
@@ -108,7 +82,8 @@ unfoldable pub input_in : List (List ℕ) → Option Form
 input_in [] = None
 input_in (name ∷ []) = None
 input_in (name ∷ ty ∷ []) = None
-input_in (name ∷ ty ∷ count ∷ []) = if is_name name && not (is_empty count) then option_map (λ t. input name t count) (type_of ty) else None
+input_in (name ∷ ty ∷ count ∷ []) =
+    if is_name name && not (is_empty count) then option_map (λ t. input name t count) (type_named ty) else None
 input_in (name ∷ ty ∷ count ∷ w ∷ ws) = None
 
 -- a name alone

@@ -12,7 +12,7 @@ use Rattle.coll_text.specs.declared.values.Flaw.{Flaw}
 use Rattle.coll_text.specs.declared.values.Flaw.TheVariants.{Malformed, NoValue}
 use Rattle.coll_shape.specs.Outline.{no_buffer, members_of}
 use Rattle.coll_shape.specs.Rows.{in_rows}
-use Rattle.coll_shape.specs.Kinds.{step_of, kind_since}
+use Rattle.coll_shape.specs.Collectives.{step_of, kind_since}
 use Rattle.coll_shape.specs.Collectives.{can_read, made_length, made_holders}
 use Rattle.coll_shape.specs.WellFormed.{most_ranks, elements_of}
 use Rattle.coll_shape.specs.declared.types.Version.{Version}

@@ -3,13 +3,13 @@
 ghost use Rattle.std.specs.Prelude.{◌≡◌, option_map, IfSome, IfNone, Some, None};
 ghost use Rattle.std.specs.List.{list_any};
 ghost use Rattle.coll_text.specs.Text.{words, is_empty};
-ghost use Rattle.coll_lang.specs.Forms.{choice, last, print, step, type_of, op_of, op_in, root_in, names_in, step_in, on_in, group_in};
+ghost use Rattle.coll_lang.specs.Forms.{choice, last, print, step, op_in, root_in, names_in, step_in, on_in, group_in};
 ghost use Rattle.coll_lang.specs.Forms.{input_in, name_in, complete_in, form_of, alone};
 ghost use Rattle.coll_lang.specs.Seen.{form, now, both_now, step_seen};
 
 use crate::choices::ChoiceKind;
 use coll_shape::StepKind;
-use coll_text::{Words, is, is_name};
+use coll_text::{Words, is, is_name, op_named, type_named};
 use ptl_types::{AtomicOp, ElemType};
 
 /// A line after the first two. Numbers are still words.
@@ -56,60 +56,6 @@ pub struct StepLine<'a> {
     pub names: Option<(&'a [u8], &'a [u8])>,
 }
 
-/// The type that TYPE names.
-fn type_of(word: &[u8]) -> Option<ElemType>
-    ensures { result ≡ type_of word.now }
-{
-    if is(word, b"u8") {
-        Some(ElemType::U8)
-    } else if is(word, b"i8") {
-        Some(ElemType::I8)
-    } else if is(word, b"u16") {
-        Some(ElemType::U16)
-    } else if is(word, b"i16") {
-        Some(ElemType::I16)
-    } else if is(word, b"u32") {
-        Some(ElemType::U32)
-    } else if is(word, b"i32") {
-        Some(ElemType::I32)
-    } else if is(word, b"u64") {
-        Some(ElemType::U64)
-    } else if is(word, b"i64") {
-        Some(ElemType::I64)
-    } else {
-        None
-    }
-}
-
-/// The operation that OP names.
-fn op_of(word: &[u8]) -> Option<AtomicOp>
-    ensures { result ≡ op_of word.now }
-{
-    if is(word, b"min") {
-        Some(AtomicOp::Min)
-    } else if is(word, b"max") {
-        Some(AtomicOp::Max)
-    } else if is(word, b"sum") {
-        Some(AtomicOp::Sum)
-    } else if is(word, b"prod") {
-        Some(AtomicOp::Prod)
-    } else if is(word, b"lor") {
-        Some(AtomicOp::Lor)
-    } else if is(word, b"land") {
-        Some(AtomicOp::Land)
-    } else if is(word, b"bor") {
-        Some(AtomicOp::Bor)
-    } else if is(word, b"band") {
-        Some(AtomicOp::Band)
-    } else if is(word, b"lxor") {
-        Some(AtomicOp::Lxor)
-    } else if is(word, b"bxor") {
-        Some(AtomicOp::Bxor)
-    } else {
-        None
-    }
-}
-
 /// OP as the next word, where the kind takes one.
 #[tactic(auto, unfolding(crate::specs::Forms::op_in))]
 fn op_in(is_due: bool, words: &mut Words) -> Option<AtomicOp>
@@ -117,7 +63,7 @@ fn op_in(is_due: bool, words: &mut Words) -> Option<AtomicOp>
     ensures none { IfNone result (op_in is_due words.old ≡ None) }
 {
     if is_due {
-        op_of(words.next()?)
+        op_named(words.next()?)
     } else {
         Some(AtomicOp::Sum)
     }
@@ -232,7 +178,7 @@ fn input_in<'a>(mut words: Words<'a>) -> Option<Line<'a>>
     if words.next().is_some() || !is_name(name) || count.is_empty() {
         return None;
     }
-    let ty = type_of(ty)?;
+    let ty = type_named(ty)?;
     Some(Line::Input { name, ty, count })
 }
 

@@ -155,7 +155,7 @@ fn rank_at(ranks: u32, least: u32, word: &[u8]) -> Result<Option<Rank>, LineFaul
 }
 
 /// The members that the words are. `None`: one isn't a rank, or they don't rise.
-#[tactic(auto, using(crate::proofs::Members::begins, crate::proofs::Members::takes, crate::proofs::Members::breaks, crate::proofs::Members::fails, crate::proofs::Members::ends, crate::proofs::Members::ends_none, crate::proofs::Members::ends_broken))]
+#[tactic(auto, using(crate::proofs::Members::word_by_word))]
 fn members_said(
     alloc: Global,
     ranks: u32,

@@ -1,3 +1,4 @@
 pub mod Asking
 pub mod Formed
 pub mod Rows
+pub mod ByCollective

@@ -1,9 +1,11 @@
 -- The collectives (the MPI standard's collective communication), one row each: the word, the version from which on it stands, the
 -- root and the operation, the buffers, what is asked of A, who holds B and how long it is, and what each place gets of it.
 use Rattle.std.specs.Prelude.{ℕ, suc, ◌*◌, ◌/◌, ◌<◌, ◌≡◌, ◌%◌, ◌==◌, ◌&&◌, ◌||◌, Bool, true, false, List, Option, Some, None, [], ◌∷◌}
-use Rattle.std.specs.Prelude.{if◌then◌else◌, length, filter, get_or, codes}
+use Rattle.std.specs.Prelude.{if◌then◌else◌, length, filter, get_or, codes, is_some}
 use Rattle.std.specs.List.{list_all, list_any}
+use Rattle.std.specs.Str.{bytes_eq}
 use Rattle.ptl_types.specs.declared.elements.AtomicOp.{AtomicOp}
+use Rattle.ptl_types.specs.declared.elements.AtomicOp.TheVariants.{Sum}
 use Rattle.ptl_types.specs.declared.elements.ElemType.{ElemType}
 use Rattle.ptl_types.specs.declared.elements.ElemType.TheVariants.{U8}
 use Rattle.number_lists.specs.Members.{In}
@@ -15,6 +17,10 @@ use Rattle.coll_shape.specs.declared.types.Buffer.{Buffer}
 use Rattle.coll_shape.specs.declared.types.CollStep.{CollStep}
 use Rattle.coll_shape.specs.declared.types.CollStep.TheVariants.{Barrier, Broadcast, Reduce, Allreduce, Gather, Allgather, Alltoall, Scan}
 use Rattle.coll_shape.specs.declared.types.CollStep.TheVariants.{Scatter, Reducescatter, Exscan, Gatherv}
+use Rattle.coll_shape.specs.declared.collectives.StepKind.{StepKind}
+use Rattle.coll_shape.specs.declared.collectives.StepKind.TheVariants as kinds
+use Rattle.coll_shape.specs.declared.collectives.Need.{Need}
+use Rattle.coll_shape.specs.declared.collectives.Need.TheVariants as needs
 
 -- What is asked of A. In blocks: its length is a multiple of the number of members.
 pub data Asked : Type 0 where
@@ -249,3 +255,78 @@ buffer_after g step x = row (λ c. made_of g x c c.result) step
 -- under its own name
 abbrev pub named : List ℕ → Buffer → Buffer
 named name x = record { name = name; ty = x.ty; spread = x.spread }
+
+-- ---- the kinds of steps. What a kind has is what the row of any step of it has.
+
+-- the step of a kind, where it takes them with this root, this operation and these buffers
+abbrev pub step_of : StepKind → ℕ → AtomicOp → ℕ → ℕ → CollStep
+step_of kinds.Barrier root o a b = Barrier
+step_of kinds.Broadcast root o a b = Broadcast root a b
+step_of kinds.Reduce root o a b = Reduce root o a b
+step_of kinds.Allreduce root o a b = Allreduce o a b
+step_of kinds.Gather root o a b = Gather root a b
+step_of kinds.Allgather root o a b = Allgather a b
+step_of kinds.Alltoall root o a b = Alltoall a b
+step_of kinds.Scan root o a b = Scan o a b
+step_of kinds.Scatter root o a b = Scatter root a b
+step_of kinds.Reducescatter root o a b = Reducescatter o a b
+step_of kinds.Exscan root o a b = Exscan o a b
+step_of kinds.Gatherv root o a b = Gatherv root a b
+
+abbrev pub kind_of : CollStep → StepKind
+kind_of Barrier = kinds.Barrier
+kind_of (Broadcast root a b) = kinds.Broadcast
+kind_of (Reduce root o a b) = kinds.Reduce
+kind_of (Allreduce o a b) = kinds.Allreduce
+kind_of (Gather root a b) = kinds.Gather
+kind_of (Allgather a b) = kinds.Allgather
+kind_of (Alltoall a b) = kinds.Alltoall
+kind_of (Scan o a b) = kinds.Scan
+kind_of (Scatter root a b) = kinds.Scatter
+kind_of (Reducescatter o a b) = kinds.Reducescatter
+kind_of (Exscan o a b) = kinds.Exscan
+kind_of (Gatherv root a b) = kinds.Gatherv
+
+-- some step of the kind
+abbrev pub some_step : StepKind → CollStep
+some_step kind = step_of kind 0 Sum 0 0
+
+abbrev pub kind_word : StepKind → List ℕ
+kind_word kind = word_of (some_step kind)
+
+abbrev pub kind_since : StepKind → Version
+kind_since kind = since (some_step kind)
+
+abbrev pub takes_root : StepKind → Bool
+takes_root kind = is_some (root_of (some_step kind))
+
+abbrev pub takes_op : StepKind → Bool
+takes_op kind = is_some (op_of (some_step kind))
+
+abbrev pub takes_buffers : StepKind → Bool
+takes_buffers kind = is_some (source_of (some_step kind))
+
+abbrev pub all_kinds : List StepKind
+all_kinds =
+    kinds.Barrier ∷ kinds.Broadcast ∷ kinds.Reduce ∷ kinds.Allreduce ∷ kinds.Gather ∷ kinds.Allgather ∷ kinds.Alltoall ∷ kinds.Scan
+    ∷ kinds.Scatter ∷ kinds.Reducescatter ∷ kinds.Exscan ∷ kinds.Gatherv ∷ []
+
+abbrev pub named_among : List ℕ → List StepKind → Option StepKind
+named_among word [] = None
+named_among word (kind ∷ others) = if bytes_eq word (kind_word kind) then Some kind else named_among word others
+
+-- the kind of that word
+abbrev pub kind_named : List ℕ → Option StepKind
+kind_named word = named_among word all_kinds
+
+-- what is asked of A, whatever place the root is
+abbrev pub need_in : Asked → Option Need
+need_in Nothing = None
+need_in (HeldAt root) = Some needs.Root
+need_in (HeldAtInBlocks root) = Some needs.RootInBlocks
+need_in HeldByAll = Some needs.All
+need_in HeldByAllInBlocks = Some needs.AllInBlocks
+need_in HeldBySome = Some needs.Some
+
+abbrev pub kind_need : StepKind → Option Need
+kind_need kind = need_in (asks_of (some_step kind))

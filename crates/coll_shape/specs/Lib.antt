@@ -2,7 +2,6 @@ pub mod Folding
 pub mod Rows
 pub mod Outline
 pub mod Collectives
-pub mod Kinds
 pub mod WellFormed
 pub mod Meaning
 pub mod Said

@@ -1,17 +1,230 @@
-//! What the rows of the collectives say, as code.
+//! What the rows of the collectives say, as code, and the kinds of steps.
 
 ghost use Rattle.std.specs.Prelude.{◌≡◌, ◌≤◌, ◌*◌, ◌%◌, ◌==◌, ◌<◌, length, get_or, IfOk};
 ghost use Rattle.std.specs.List.{list_all, list_any};
 ghost use Rattle.coll_shape.specs.Collectives.{can_read, holding_places, is_in, made_holders, made_length, op_of, result_of, root_of};
 ghost use Rattle.coll_shape.specs.Collectives.{source_of, spread_so};
+ghost use Rattle.coll_shape.specs.Collectives.{kind_named, kind_need, kind_of, kind_since, kind_word, named_among, step_of, takes_buffers};
+ghost use Rattle.coll_shape.specs.Collectives.{takes_op, takes_root};
 ghost use Rattle.coll_shape.specs.declared.limits.TheConstants.{MOST_ELEMENTS, MOST_RANKS};
 
 use crate::lists::RankList;
-use crate::types::CollStep;
+use crate::types::{CollStep, Version};
+use coll_text::is;
 use ptl_types::{AtomicOp, Rank};
 use std::alloc::{AllocError, Global};
 
+/// What a step does, apart from its root, its operation and its buffers.
+#[derive(Clone, Copy, Debug, PartialEq, Eq)]
+pub enum StepKind {
+    /// `barrier`
+    Barrier,
+    /// `broadcast`
+    Broadcast,
+    /// `reduce`
+    Reduce,
+    /// `allreduce`
+    Allreduce,
+    /// `gather`
+    Gather,
+    /// `allgather`
+    Allgather,
+    /// `alltoall`
+    Alltoall,
+    /// `scan`
+    Scan,
+    /// `scatter`
+    Scatter,
+    /// `reducescatter`
+    Reducescatter,
+    /// `exscan`
+    Exscan,
+    /// `gatherv`
+    Gatherv,
+}
+
+/// All kinds of steps.
+pub const STEP_KINDS: [StepKind; 12] = [
+    StepKind::Barrier,
+    StepKind::Broadcast,
+    StepKind::Reduce,
+    StepKind::Allreduce,
+    StepKind::Gather,
+    StepKind::Allgather,
+    StepKind::Alltoall,
+    StepKind::Scan,
+    StepKind::Scatter,
+    StepKind::Reducescatter,
+    StepKind::Exscan,
+    StepKind::Gatherv,
+];
+
+/// Who has to hold the buffer that a step reads. In blocks: its length is a multiple of the number of members.
+#[derive(Clone, Copy, Debug, PartialEq, Eq)]
+pub enum Need {
+    /// The root holds it.
+    Root,
+    /// The root holds it, in blocks for the members.
+    RootInBlocks,
+    /// Every member holds it.
+    All,
+    /// Every member holds it, in blocks for the members.
+    AllInBlocks,
+    /// Some member holds it.
+    Some,
+}
+
+/// The kind of these that has that word.
+fn named_among(word: &[u8], kinds: &[StepKind]) -> Option<StepKind>
+    ensures { result ≡ named_among word.now kinds.now }
+{
+    match kinds {
+        [] => None,
+        [kind, others @ ..] => {
+            if is(word, kind.word()) {
+                Some(*kind)
+            } else {
+                named_among(word, others)
+            }
+        }
+    }
+}
+
+impl StepKind {
+    /// The kind that the first word of a step names.
+    pub fn named(word: &[u8]) -> Option<StepKind>
+        ensures { result ≡ kind_named word.now }
+    {
+        named_among(word, &STEP_KINDS)
+    }
+
+    /// The first word of a step of this kind.
+    pub fn word(self) -> &'static [u8]
+        ensures { result.now ≡ kind_word self }
+    {
+        match self {
+            StepKind::Barrier => b"barrier",
+            StepKind::Broadcast => b"broadcast",
+            StepKind::Reduce => b"reduce",
+            StepKind::Allreduce => b"allreduce",
+            StepKind::Gather => b"gather",
+            StepKind::Allgather => b"allgather",
+            StepKind::Alltoall => b"alltoall",
+            StepKind::Scan => b"scan",
+            StepKind::Scatter => b"scatter",
+            StepKind::Reducescatter => b"reducescatter",
+            StepKind::Exscan => b"exscan",
+            StepKind::Gatherv => b"gatherv",
+        }
+    }
+
+    /// The version from which on it stands.
+    pub fn since(self) -> Version
+        ensures { result ≡ kind_since self }
+    {
+        match self {
+            StepKind::Scatter | StepKind::Reducescatter | StepKind::Exscan | StepKind::Gatherv =>
+                Version::Two,
+            _ => Version::One,
+        }
+    }
+
+    /// Whether it takes a root.
+    pub fn takes_root(self) -> bool
+        ensures { result ≡ takes_root self }
+    {
+        matches!(
+            self,
+            StepKind::Broadcast
+                | StepKind::Reduce
+                | StepKind::Gather
+                | StepKind::Scatter
+                | StepKind::Gatherv
+        )
+    }
+
+    /// Whether it takes an operation.
+    pub fn takes_op(self) -> bool
+        ensures { result ≡ takes_op self }
+    {
+        matches!(
+            self,
+            StepKind::Reduce
+                | StepKind::Allreduce
+                | StepKind::Scan
+                | StepKind::Reducescatter
+                | StepKind::Exscan
+        )
+    }
+
+    /// Whether it reads a buffer and makes one.
+    pub fn takes_buffers(self) -> bool
+        ensures { result ≡ takes_buffers self }
+    {
+        !matches!(self, StepKind::Barrier)
+    }
+
+    /// What it asks of the buffer that it reads. `None`: it reads none.
+    pub fn need(self) -> Option<Need>
+        ensures { result ≡ kind_need self }
+    {
+        match self {
+            StepKind::Barrier => None,
+            StepKind::Broadcast => Some(Need::Root),
+            StepKind::Scatter => Some(Need::RootInBlocks),
+            StepKind::Alltoall | StepKind::Reducescatter => Some(Need::AllInBlocks),
+            StepKind::Gatherv => Some(Need::Some),
+            StepKind::Reduce
+            | StepKind::Allreduce
+            | StepKind::Gather
+            | StepKind::Allgather
+            | StepKind::Scan
+            | StepKind::Exscan => Some(Need::All),
+        }
+    }
+
+    /// The step of this kind with the root, the operation and the buffers, as far as the kind takes them.
+    pub fn step(self, root: Rank, op: AtomicOp, a: u32, b: u32) -> CollStep
+        ensures { result ≡ step_of self root op a b }
+    {
+        match self {
+            StepKind::Barrier => CollStep::Barrier,
+            StepKind::Broadcast => CollStep::Broadcast { root, a, b },
+            StepKind::Reduce => CollStep::Reduce { root, op, a, b },
+            StepKind::Allreduce => CollStep::Allreduce { op, a, b },
+            StepKind::Gather => CollStep::Gather { root, a, b },
+            StepKind::Allgather => CollStep::Allgather { a, b },
+            StepKind::Alltoall => CollStep::Alltoall { a, b },
+            StepKind::Scan => CollStep::Scan { op, a, b },
+            StepKind::Scatter => CollStep::Scatter { root, a, b },
+            StepKind::Reducescatter => CollStep::Reducescatter { op, a, b },
+            StepKind::Exscan => CollStep::Exscan { op, a, b },
+            StepKind::Gatherv => CollStep::Gatherv { root, a, b },
+        }
+    }
+}
+
 impl CollStep {
+    /// What the step does.
+    pub fn kind(&self) -> StepKind
+        ensures { result ≡ kind_of self.now }
+    {
+        match *self {
+            CollStep::Barrier => StepKind::Barrier,
+            CollStep::Broadcast { .. } => StepKind::Broadcast,
+            CollStep::Reduce { .. } => StepKind::Reduce,
+            CollStep::Allreduce { .. } => StepKind::Allreduce,
+            CollStep::Gather { .. } => StepKind::Gather,
+            CollStep::Allgather { .. } => StepKind::Allgather,
+            CollStep::Alltoall { .. } => StepKind::Alltoall,
+            CollStep::Scan { .. } => StepKind::Scan,
+            CollStep::Scatter { .. } => StepKind::Scatter,
+            CollStep::Reducescatter { .. } => StepKind::Reducescatter,
+            CollStep::Exscan { .. } => StepKind::Exscan,
+            CollStep::Gatherv { .. } => StepKind::Gatherv,
+        }
+    }
+
     /// The buffer that the step reads. `None`: a barrier reads none.
     pub fn source(&self) -> Option<u32>
         ensures { result ≡ source_of self.now }

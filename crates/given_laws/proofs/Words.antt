@@ -6,16 +6,13 @@ use Rattle.std.specs.List.{list_all, AllByRecursion}
 use Rattle.std.specs.Fmt.{decimal}
 use Rattle.std.specs.Str.{bytes_eq}
 use Rattle.std.proofs.lemmas.Bool.Decides.{nat_tests}
-use Rattle.ptl_types.specs.declared.elements.ElemType.{ElemType}
-use Rattle.ptl_types.specs.declared.elements.ElemType.TheVariants as types
 use Rattle.ptl_types.specs.declared.elements.AtomicOp.{AtomicOp}
 use Rattle.ptl_types.specs.declared.elements.AtomicOp.TheVariants as ops
 use Rattle.coll_text.specs.Text.{line, number_between}
 use Rattle.coll_text.proofs.ReadBack.{number_read}
 use Rattle.coll_text.proofs.WordsBack.{is_solid, number_solid}
-use Rattle.coll_lang.specs.Forms.{type_of}
 use Rattle.coll_lang.specs.Words.{type_word}
-use Rattle.coll_lang.proofs.FormsBack.{between_read, op_solid, type_solid}
+use Rattle.coll_lang.proofs.FormsBack.{between_read, op_solid, type_back, type_solid}
 use Rattle.plan_core.specs.declared.Cell.{Cell}
 use Rattle.plan_core.specs.declared.Link.{Link}
 use Rattle.plan_core.specs.declared.LinkKind.{LinkKind}
@@ -40,16 +37,6 @@ long_read : (n : ℕ) → n < 2 ^ 64 → long_of (decimal n) ≡ Some n
 long_read n small =
     ap (option_and_then (λ n. cond (nat_lt n (2 ^ 64)) (Some n) None)) (number_read n small)
     ∙ ap (λ t. cond t (Some n) None) (is_below n (2 ^ 64) small)
-
-type_read : (ty : ElemType) → type_of (type_word ty) ≡ Some ty
-type_read types.U8 = refl
-type_read types.I8 = refl
-type_read types.U16 = refl
-type_read types.I16 = refl
-type_read types.U32 = refl
-type_read types.I32 = refl
-type_read types.U64 = refl
-type_read types.I64 = refl
 
 cell_op_read : (op : Option AtomicOp) → cell_op_of (op_or_none op) ≡ Some op
 cell_op_read None = refl
@@ -114,7 +101,7 @@ cell_words c = decimal c.rank ∷ type_word c.ty ∷ op_or_none c.op ∷ decimal
 cell_read : (c : Cell) → IsCellOfWords c → cell_in (cell_words c) ≡ Some c
 unfolding cell_in
 cell_read c fits =
-    rw (short_read c.rank fits.rank, type_read c.ty, cell_op_read c.op, long_read c.length fits.bytes, long_read c.needs fits.needs) refl
+    rw (short_read c.rank fits.rank, type_back c.ty, cell_op_read c.op, long_read c.length fits.bytes, long_read c.needs fits.needs) refl
 
 pub cell_row : (n : ℕ) (c : Cell) → n < 2 ^ 64 → IsCellOfWords c → IsRow cell_of n (plan_line (CellLine n c)) c
 cell_row n c small fits = record {

@@ -11,7 +11,7 @@ use Rattle.coll_text.specs.Values.{data_line}
 use Rattle.number_lists.specs.Numbers.{from_to}
 use Rattle.coll_shape.specs.Outline.{no_buffer, no_group}
 use Rattle.coll_shape.specs.Collectives.{can_read, made_length}
-use Rattle.coll_shape.specs.Kinds.{step_of}
+use Rattle.coll_shape.specs.Collectives.{step_of}
 use Rattle.coll_shape.specs.WellFormed.{most_ranks, elements_of}
 use Rattle.coll_shape.specs.declared.types.Buffer.{Buffer}
 use Rattle.coll_shape.specs.declared.types.Group.{Group}
@@ -60,7 +60,7 @@ grown bs c (i ∷ is) h =
     ∙ (ap (λ n. elements_of (get_or bs i no_buffer) + n) (grown bs c is h.1)
     ∙ sym (sum_by-cons (λ b. elements_of (get_or bs b no_buffer)) i is)))
 
-pub record BufferCells (past : Past) : Type 0 where
+pub record Held (past : Past) : Type 0 where
   pub counted : past.printed ≡ elements past.buffers past.prints
   pub below : Below (length past.buffers) past.prints
   pub some_ranks : 1 ≤ past.ranks
@@ -70,7 +70,7 @@ everyone : (n : ℕ) → 1 ≤ n → 1 ≤ length (from_to 0 n)
 everyone zero l = absurd (omega (arith, l))
 everyone (suc n) l = omega arith
 
-pub counts_of : (past : Past) → BufferCells past → Counts past
+pub counts_of : (past : Past) → Held past → Counts past
 counts_of past h = record { counted = h.counted; peopled = λ on g e. some g on e }
   where
     some : (g : Option ℕ) (on : Option (List ℕ)) → group_named past.groups on ≡ Some g → 1 ≤ length (members_in past g)
@@ -79,7 +79,7 @@ counts_of past h = record { counted = h.counted; peopled = λ on g e. some g on 
 
 -- what holds of a past that is answered
 abbrev Of : Result Past Refusal → Type 0
-Of (Ok past) = BufferCells past
+Of (Ok past) = Held past
 Of (Err name) = Unit {0}
 
 of_or : {A : Type 0} (name : Refusal) (o : Option A) (f : A → Result Past Refusal) → ((x : A) → o ≡ Some x → Of (f x))
@@ -100,17 +100,17 @@ of_if true name r h = h
 of_if false name r h = tt
 
 -- more buffers
-counted_with : (past : Past) (c : List Buffer) → BufferCells past → past.printed ≡ elements (past.buffers ++ c) past.prints
+counted_with : (past : Past) (c : List Buffer) → Held past → past.printed ≡ elements (past.buffers ++ c) past.prints
 counted_with past c h = h.counted ∙ sym (grown past.buffers c past.prints h.below)
 
-below_with : (past : Past) (b : Buffer) → BufferCells past → Below (length (past.buffers ++ b ∷ [])) past.prints
+below_with : (past : Past) (b : Buffer) → Held past → Below (length (past.buffers ++ b ∷ [])) past.prints
 below_with past b h = let l = longer past.buffers b in below_more (length past.buffers) (length (past.buffers ++ b ∷ [])) past.prints
     (omega (arith, l)) h.below
 
 some_members : (ms : List ℕ) → nat_lt 0 (length ms) ≡ true → 1 ≤ length ms
 some_members ms h = grind (arith, nat_tests)
 
-groups_held : (past : Past) (name : List ℕ) (members : List (List ℕ)) → BufferCells past → Of (group_line past name members)
+groups_held : (past : Past) (name : List ℕ) (members : List (List ℕ)) → Held past → Of (group_line past name members)
 unfolding group_line
 groups_held past name members h =
     of_or BadNumber (all_numbers members) _ (λ ms _.
@@ -125,7 +125,7 @@ groups_held past name members h =
           (some_members ms (both_true _ _ (not_not (are_members past.ranks ms) right)).1);
     }))))
 
-inputs_held : (past : Past) (name : List ℕ) (ty : ElemType) (count : List ℕ) → BufferCells past → Of (input_line past name ty count)
+inputs_held : (past : Past) (name : List ℕ) (ty : ElemType) (count : List ℕ) → Held past → Of (input_line past name ty count)
 unfolding input_line
 inputs_held past name ty count h =
     of_or BadNumber (number_between 1 MOST_GIVEN count) _ (λ len _.
@@ -133,14 +133,14 @@ inputs_held past name ty count h =
     of_refuse (nat_le MOST_BUFFERS (length past.buffers)) TooMany _ (λ _.
     record { counted = counted_with past _ h; below = below_with past _ h; some_ranks = h.some_ranks; peopled = h.peopled })))
 
-choices_held : (past : Past) (kind : ChoiceKind) (name : List ℕ) → BufferCells past → Of (choice_line past kind name)
+choices_held : (past : Past) (kind : ChoiceKind) (name : List ℕ) → Held past → Of (choice_line past kind name)
 unfolding choice_line
 choices_held past kind name h =
     of_refuse (is_taken past name) NameTaken _ (λ _.
     of_refuse (nat_le MOST_STEPS (length past.choices) || nat_le MOST_BUFFERS (length past.buffers)) TooMany _ (λ _.
     record { counted = counted_with past _ h; below = below_with past _ h; some_ranks = h.some_ranks; peopled = h.peopled }))
 
-prints_held : (past : Past) (name : List ℕ) → BufferCells past → Of (print_line past name)
+prints_held : (past : Past) (name : List ℕ) → Held past → Of (print_line past name)
 unfolding print_line
 prints_held past name h =
     of_or UnknownBuffer (buffer_named past.buffers name) _ (λ from is.
@@ -156,7 +156,7 @@ prints_held past name h =
       peopled = h.peopled;
     })))
 
-steps_held : (past : Past) (on : Option (List ℕ)) (words : StepWords) → BufferCells past → Of (step_line past on words)
+steps_held : (past : Past) (on : Option (List ℕ)) (words : StepWords) → Held past → Of (step_line past on words)
 unfolding step_line rooted_line step_on
 steps_held past on words h =
     of_or BadNumber (root_number words.root) _ (λ root _.
@@ -185,7 +185,7 @@ steps_held past on words h =
     below None g s x = h.below
     below (Some n) g s x = below_with past _ h
 
-forms_held : (past : Past) (form : Form) → BufferCells past → Of (form_line past form)
+forms_held : (past : Past) (form : Form) → Held past → Of (form_line past form)
 unfolding form_line
 forms_held past complete h = record { counted = h.counted; below = h.below; some_ranks = h.some_ranks; peopled = h.peopled }
 forms_held past (group name members) h = groups_held past name members h
@@ -195,13 +195,13 @@ forms_held past (choice kind name) h = choices_held past kind name h
 forms_held past (print name) h = prints_held past name h
 forms_held past last h = record { counted = h.counted; below = h.below; some_ranks = h.some_ranks; peopled = h.peopled }
 
-later_held : (past : Past) (line : List ℕ) → BufferCells past → Of (later_line past line)
+later_held : (past : Past) (line : List ℕ) → Held past → Of (later_line past line)
 unfolding later_line
 later_held past line h =
     of_or BadLine (form_of (words line)) _
     (λ form _. of_refuse (not (may_stand past.version past.stage form)) BadLine _ (λ _. forms_held past form h))
 
-values_held : (past : Past) (left : ℕ) (ty : ElemType) (count : ℕ) (line : List ℕ) → BufferCells past →
+values_held : (past : Past) (left : ℕ) (ty : ElemType) (count : ℕ) (line : List ℕ) → Held past →
     Of (values_line past left ty count line)
 unfolding values_line
 values_held past left ty count line h =
@@ -238,7 +238,7 @@ some_ranks_in most (key ∷ w ∷ []) n h = some_number 1 most w n (kept _ (numb
     kept false o e = cc
 some_ranks_in most (key ∷ w ∷ v ∷ ws) n h = cc
 
-at_held : (stage : Stage) (past : Past) (line : List ℕ) → BufferCells past → Of (line_at stage past line)
+at_held : (stage : Stage) (past : Past) (line : List ℕ) → Held past → Of (line_at stage past line)
 unfolding line_at
 at_held Header past line h = of_or BadHeader (version_of line) _
     (λ v _. record { counted = h.counted; below = h.below; some_ranks = h.some_ranks; peopled = h.peopled })
@@ -260,30 +260,30 @@ at_held Choosing past line h = later_held past line h
 at_held Prints past line h = later_held past line h
 at_held Finished past line h = tt
 
-judge_held : (past : Past) (line : List ℕ) → BufferCells past → Of (judge past line)
+judge_held : (past : Past) (line : List ℕ) → Held past → Of (judge past line)
 unfolding judge
 judge_held past line h = of_if (list_all is_allowed line) BadByte (line_at past.stage past line) (at_held past.stage past line h)
 
 -- a line that is taken
-pub held_on : (past next : Past) (line : List ℕ) → BufferCells past → judge past line ≡ Ok next → BufferCells next
+pub held_on : (past next : Past) (line : List ℕ) → Held past → judge past line ≡ Ok next → Held next
 held_on past next line h e = at (judge past line) (judge_held past line h) e
   where
-    at : (r : Result Past Refusal) → Of r → r ≡ Ok next → BufferCells next
+    at : (r : Result Past Refusal) → Of r → r ≡ Ok next → Held next
     at r o e = subst Of e o
 
-pub held_first : BufferCells nothing
+pub held_first : Held nothing
 held_first = record { counted = refl; below = tt; some_ranks = omega arith; peopled = λ i l. absurd (omega (arith, l)) }
 
 -- lines that are taken
-held_by : (past end : Past) (lines : List (List ℕ)) → BufferCells past → said_by past lines ≡ Some end → BufferCells end
-held_by past end [] h e = subst BufferCells (some_is past end e) h
+held_by : (past end : Past) (lines : List (List ℕ)) → Held past → said_by past lines ≡ Some end → Held end
+held_by past end [] h e = subst Held (some_is past end e) h
   where
     some_is : (x y : Past) → Some x ≡ Some y → x ≡ y
     some_is x y e = cc
 held_by past end (line ∷ lines) h e = on (judge past line) (λ next is. held_by next end lines (held_on past next line h is)) e
   where
-    on : (r : Result Past Refusal) → ((next : Past) → r ≡ Ok next → said_by next lines ≡ Some end → BufferCells end)
-        → option_and_then (λ next. said_by next lines) (taken r) ≡ Some end → BufferCells end
+    on : (r : Result Past Refusal) → ((next : Past) → r ≡ Ok next → said_by next lines ≡ Some end → Held end)
+        → option_and_then (λ next. said_by next lines) (taken r) ≡ Some end → Held end
     on (Ok next) f e = f next refl e
     on (Err name) f e = cc
 

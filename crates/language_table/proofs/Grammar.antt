@@ -7,12 +7,13 @@ use Rattle.std.specs.Str.{bytes_eq}
 use Rattle.ptl_types.specs.declared.elements.ElemType.{ElemType}
 use Rattle.ptl_types.specs.declared.elements.AtomicOp.{AtomicOp}
 use Rattle.coll_text.specs.Text.{is_name, is_empty}
+use Rattle.coll_text.specs.Named.{op_named, type_named}
 use Rattle.coll_text.proofs.Spelled.{same}
 use Rattle.coll_shape.specs.declared.types.Version.{Version}
 use Rattle.coll_shape.specs.declared.types.Version.TheVariants.{One, Two}
-use Rattle.coll_shape.specs.declared.kinds.StepKind.{StepKind}
-use Rattle.coll_shape.specs.Kinds.{kind_named, kind_since, takes_root, takes_op, takes_buffers}
-use Rattle.coll_lang.specs.Forms.{Form, StepWords, complete, group, input, step, choice, print, last, type_of, op_of, root_in, op_in}
+use Rattle.coll_shape.specs.declared.collectives.StepKind.{StepKind}
+use Rattle.coll_shape.specs.Collectives.{kind_named, kind_since, takes_root, takes_op, takes_buffers}
+use Rattle.coll_lang.specs.Forms.{Form, StepWords, complete, group, input, step, choice, print, last, root_in, op_in}
 use Rattle.coll_lang.specs.Forms.{names_in, step_in, on_in, group_in, input_in, name_in, alone, complete_in, form_of}
 use Rattle.coll_lang.specs.Language.{holds_of, stands_in, stands_at, may_stand}
 use Rattle.coll_lang.specs.declared.choices.ChoiceKind.{ChoiceKind}
@@ -161,7 +162,7 @@ unfolding input_in
 input_fit m o h [] = refl
 input_fit m o h (n ∷ []) = refl
 input_fit m o h (n ∷ t ∷ []) = refl
-input_fit m o h (n ∷ t ∷ c ∷ []) = three_words m o (is_name n) (is_empty c) (type_of t) (λ t. input n t c) (λ t. h n t c)
+input_fit m o h (n ∷ t ∷ c ∷ []) = three_words m o (is_name n) (is_empty c) (type_named t) (λ t. input n t c) (λ t. h n t c)
 input_fit m o h (n ∷ t ∷ c ∷ w ∷ ws) = refl
 
 -- `NAME MEMBER ..`
@@ -224,7 +225,7 @@ ops_fit : (m : StepWords → Bool) (c due : Bool) (ps : List Place) (rest : Atom
 unfolding op_in
 ops_fit m c false ps rest h ws = h _ ws
 ops_fit m c true ps rest h [] = refl
-ops_fit m c true ps rest h (w ∷ ws) = one_op m c (all_fit ps ws) ws rest (op_of w) (λ o. h o ws)
+ops_fit m c true ps rest h (w ∷ ws) = one_op m c (all_fit ps ws) ws rest (op_named w) (λ o. h o ws)
 
 -- a root before the others
 one_root : (m : StepWords → Bool) (c e b : Bool) (rest : Option (List ℕ) × List (List ℕ) → Option StepWords)

@@ -11,7 +11,7 @@ use Rattle.ptl_types.specs.Elements.{little_endian}
 use Rattle.coll_text.specs.Text.{words, number_of, number_between, is_empty}
 use Rattle.coll_text.specs.Values.{value_of, all_values, or_no_value, data_line}
 use Rattle.coll_text.specs.declared.values.Flaw.TheVariants.{Malformed}
-use Rattle.coll_shape.specs.Kinds.{step_of}
+use Rattle.coll_shape.specs.Collectives.{step_of}
 use Rattle.coll_shape.specs.Collectives.{can_read, made_length}
 use Rattle.coll_shape.specs.WellFormed.{most_ranks, elements_of}
 use Rattle.coll_shape.specs.declared.types.Version.{Version}

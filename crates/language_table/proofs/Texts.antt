@@ -18,7 +18,7 @@ use Rattle.language_table.specs.Rows.{offends}
 use Rattle.language_table.specs.Texts.{said_by, piece_offends, IsRefusedAt, IsFirstRefusal, TextsByTheRows}
 use Rattle.language_table.proofs.Lowest.{way, first_of, all_names, lowest_of, first_is, refusal_in}
 use Rattle.language_table.proofs.Lines.{first_judged, name_is}
-use Rattle.language_table.proofs.Counting.{BufferCells, held_on, held_first, counts_of}
+use Rattle.language_table.proofs.Counting.{Held, held_on, held_first, counts_of}
 
 answered : (r : Result Past Refusal) → ((next : Past) × (r ≡ Ok next)) ⊎ ((name : Refusal) × (r ≡ Err name))
 answered (Ok next) = inl (next, refl)
@@ -119,7 +119,7 @@ said_more : (past next last : Past) (line : List ℕ) (before : List (List ℕ))
     → said_by past (line ∷ before) ≡ Some last
 said_more past next last line before e h = rw e h
 
-finds : (past : Past) (piece : List ℕ) (pieces : List (List ℕ)) (k j : ℕ) (name : Refusal) → BufferCells past
+finds : (past : Past) (piece : List ℕ) (pieces : List (List ℕ)) (k j : ℕ) (name : Refusal) → Held past
     → read_from past k (piece ∷ pieces) ≡ Err (j, name) → Found past (piece ∷ pieces) k j name
 unfolding read_from
 finds past piece [] k j name held h =
@@ -162,7 +162,7 @@ last_refused true true past k j name e h = cc
 last_refused true false past k j name e h = cc
 last_refused false empty past k j name e h = cc
 
-line_refused : (past : Past) (piece other : List ℕ) (pieces : List (List ℕ)) (k j : ℕ) (name : Refusal) → BufferCells past → j ≡ k
+line_refused : (past : Past) (piece other : List ℕ) (pieces : List (List ℕ)) (k j : ℕ) (name : Refusal) → Held past → j ≡ k
     → first_there past piece (other ∷ pieces) ≡ Some name
     → read_from past k (piece ∷ other ∷ pieces) ≡ refused j name
 unfolding read_from
@@ -194,7 +194,7 @@ goes_on past next k line before piece after e =
     let going = due past next line e in
     rw (some.2, going, e) refl
 
-refuses : (past last : Past) (before : List (List ℕ)) (piece : List ℕ) (after : List (List ℕ)) (k j : ℕ) (name : Refusal) → BufferCells past
+refuses : (past last : Past) (before : List (List ℕ)) (piece : List ℕ) (after : List (List ℕ)) (k j : ℕ) (name : Refusal) → Held past
     → j ≡ length before + k → said_by past before ≡ Some last
     → first_there last piece after ≡ Some name → read_from past k (before ++ piece ∷ after) ≡ Err (j, name)
 unfolding read_from

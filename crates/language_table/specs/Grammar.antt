@@ -4,11 +4,12 @@ use Rattle.std.specs.Prelude.{◌≡◌, ℕ, List, [], ◌∷◌, ◌++◌, Boo
 use Rattle.std.specs.List.{list_all, list_any}
 use Rattle.std.specs.Str.{bytes_eq}
 use Rattle.coll_text.specs.Text.{is_name, is_empty}
+use Rattle.coll_text.specs.Named.{op_named, type_named}
 use Rattle.coll_shape.specs.declared.types.Version.{Version}
 use Rattle.coll_shape.specs.declared.types.Version.TheVariants.{One, Two}
-use Rattle.coll_shape.specs.declared.kinds.StepKind.{StepKind}
-use Rattle.coll_shape.specs.Kinds.{kind_named, kind_since, takes_root, takes_op, takes_buffers}
-use Rattle.coll_lang.specs.Forms.{type_of, op_of, form_of}
+use Rattle.coll_shape.specs.declared.collectives.StepKind.{StepKind}
+use Rattle.coll_shape.specs.Collectives.{kind_named, kind_since, takes_root, takes_op, takes_buffers}
+use Rattle.coll_lang.specs.Forms.{form_of}
 use Rattle.coll_lang.specs.Language.{holds_of, stands_in, may_stand}
 use Rattle.coll_lang.specs.declared.stage.Stage.{Stage}
 use Rattle.coll_lang.specs.declared.stage.Stage.TheVariants.{Options, Groups, Inputs, Steps, Choosing, Prints}
@@ -23,8 +24,8 @@ pub data Place : Type 0 where
 
 abbrev pub fits : Place → List ℕ → Bool
 fits name word = is_name word
-fits type word = is_some (type_of word)
-fits op word = is_some (op_of word)
+fits type word = is_some (type_named word)
+fits op word = is_some (op_named word)
 fits number word = not (is_empty word)
 fits remote word = bytes_eq word (codes "remote")
 

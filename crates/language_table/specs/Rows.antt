@@ -7,7 +7,7 @@ use Rattle.ptl_types.specs.declared.elements.ElemType.{ElemType}
 use Rattle.coll_text.specs.Text.{words, number_of, number_between, is_empty}
 use Rattle.coll_text.specs.Values.{value_of}
 use Rattle.coll_shape.specs.Outline.{no_buffer}
-use Rattle.coll_shape.specs.Kinds.{step_of}
+use Rattle.coll_shape.specs.Collectives.{step_of}
 use Rattle.coll_shape.specs.Collectives.{can_read, made_length}
 use Rattle.coll_shape.specs.WellFormed.{most_ranks, elements_of, printed_elements}
 use Rattle.coll_shape.specs.declared.types.Buffer.{Buffer}

@@ -15,7 +15,7 @@ use Rattle.coll_text.specs.Values.{all_values, data_line, negative_of, or_no_val
 use Rattle.coll_text.specs.declared.values.Flaw.TheVariants.{Malformed}
 use Rattle.coll_text.proofs.ReadBack.{line_of, none_is}
 use Rattle.coll_text.proofs.Spelled.{same}
-use Rattle.coll_shape.specs.Kinds.{step_of}
+use Rattle.coll_shape.specs.Collectives.{step_of}
 use Rattle.coll_shape.specs.Collectives.{can_read, made_length}
 use Rattle.coll_shape.specs.WellFormed.{most_ranks, elements_of}
 use Rattle.coll_shape.specs.declared.limits.TheConstants.{MOST_GROUPS, MOST_BUFFERS, MOST_STEPS, MOST_PRINTS, MOST_GIVEN, MOST_ELEMENTS}
