@@ -46,3 +46,6 @@ written_whole n new old h k = same_lists _ _ (search (rules, places)) (λ i d l.
 pub length_of_combined : (o : AtomicOp) (ty : ElemType) (xs ys : List ℕ) → length xs % bytes_of ty ≡ 0 →
     length (combined o ty xs ys) ≡ length xs
 length_of_combined o ty xs ys h = length-combined o ty xs ys h
+
+-- a fold of one list more, of whole elements, as long as before
+pub ruleset fold_by_fold = (reduced_more, whole_reduced, same_reduced)

@@ -1,7 +1,7 @@
 -- What each collective makes is as long as its row says, and stands at the members that its row says.
 use Rattle.std.proofs.Common.{◌≡◌, ℕ, zero, suc, ◌+◌, ◌*◌, ◌/◌, ◌%◌, ◌<◌, ◌≤◌, false, cond, List, Option, Some, None, length, get_or, ap}
 use Rattle.std.proofs.Common.{sym, ◌∙◌, arith}
-use Rattle.std.specs.Prelude.{filter}
+use Rattle.std.specs.Prelude.{filter, is_some}
 use Rattle.number_lists.specs.Members.{In}
 use Rattle.number_lists.specs.Numbers.{from_to}
 use Rattle.ptl_types.specs.declared.elements.AtomicOp.{AtomicOp}
@@ -9,6 +9,7 @@ use Rattle.ptl_types.specs.Operations.{bytes_of}
 use Rattle.std.proofs.Math.Nat.{mul_assoc}
 use Rattle.op_laws.proofs.Bytes.{length-part}
 use Rattle.coll_shape.proofs.Asking.{In-is_in}
+use Rattle.coll_shape.proofs.ByCollective.{has_kind}
 use Rattle.coll_shape.specs.declared.types.Buffer.{Buffer}
 use Rattle.coll_shape.specs.declared.types.CollStep.{CollStep}
 use Rattle.coll_shape.specs.declared.types.CollStep.TheVariants.{Barrier, Broadcast, Reduce, Allreduce, Gather, Allgather, Alltoall, Scan}
@@ -136,15 +137,10 @@ BothOrNone (Some a) None = ⊥
 BothOrNone (Some a) (Some b) = Unit {0}
 
 pub both_or_none : (step : CollStep) → BothOrNone (source_of step) (result_of step)
-both_or_none Barrier = tt
-both_or_none (Broadcast root a b) = tt
-both_or_none (Reduce root o a b) = tt
-both_or_none (Allreduce o a b) = tt
-both_or_none (Gather root a b) = tt
-both_or_none (Allgather a b) = tt
-both_or_none (Alltoall a b) = tt
-both_or_none (Scan o a b) = tt
-both_or_none (Scatter root a b) = tt
-both_or_none (Reducescatter o a b) = tt
-both_or_none (Exscan o a b) = tt
-both_or_none (Gatherv root a b) = tt
+both_or_none step = of (source_of step) (result_of step) (let k = has_kind step in k.source ∙ sym k.result)
+  where
+    of : (a b : Option ℕ) → is_some a ≡ is_some b → BothOrNone a b
+    of None None e = tt
+    of None (Some b) e = cc
+    of (Some a) None e = cc
+    of (Some a) (Some b) e = tt

@@ -62,7 +62,7 @@ fn combine_next(op: AtomicOp, ty: ElemType, so_far: &mut Vec<u8>, list: &[u8])
 }
 
 /// The elementwise fold of all lists in order of places.
-#[tactic(auto, using(crate::proofs::Folds::reduced_more, crate::proofs::Folds::whole_reduced, crate::proofs::Folds::same_reduced))]
+#[tactic(auto, using(crate::proofs::Folds::fold_by_fold))]
 pub fn reduced(
     alloc: Global,
     op: AtomicOp,
@@ -80,7 +80,7 @@ pub fn reduced(
 }
 
 /// For each of the first `count` places the fold of the lists up to its own, after what is there.
-#[tactic(auto, using(crate::proofs::Rows::row_more, crate::proofs::Folds::reduced_more, crate::proofs::Folds::whole_reduced, crate::proofs::Folds::same_reduced))]
+#[tactic(auto, using(crate::proofs::Rows::row_more, crate::proofs::Folds::fold_by_fold))]
 pub fn push_folds(
     alloc: Global,
     op: AtomicOp,

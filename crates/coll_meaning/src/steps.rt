@@ -38,24 +38,6 @@ fn is_needed(kept: &[u32], later: &[CollStep], buffer: u32) -> bool
     is_in(buffer, kept) || is_read(later, buffer)
 }
 
-/// The buffer that a step makes of A on these members.
-fn made(
-    alloc: Global,
-    ranks: u32,
-    ty: ElemType,
-    step: CollStep,
-    held: &Buffers,
-    a: u32,
-    group: &[Rank],
-) -> Result<RankLists, AllocError>
-    requires members { AreMembers ranks group.now }
-    requires asked { AreAsked (asks_of step) ty (taken group.now (lists_of held.now a)) }
-    ensures { IfOk result (λ made. made ≡ made_lists ranks group.now ty step (lists_of held.now a)) }
-{
-    let form = form_of(alloc, ty, step, &Taken::of(held, a, group))?;
-    Ok(RankLists::of(form, places_of(alloc, ranks, group)?))
-}
-
 /// A step by its number.
 fn step_at(shape: &Shape, k: u32) -> CollStep
     requires { k < length shape.now.steps }
@@ -85,26 +67,38 @@ fn type_read(shape: &Shape, step: CollStep) -> ElemType
     }
 }
 
-/// The buffer that a step makes, where it is needed.
-fn made_if(
-    alloc: Global,
-    needed: bool,
+/// A step that is made in a job of so many ranks: it reads buffer `a`, whose elements have this type.
+#[derive(Clone, Copy)]
+struct Making {
     ranks: u32,
     ty: ElemType,
     step: CollStep,
-    held: &Buffers,
     a: u32,
+}
+
+/// The buffer that a step makes on these members, where it is needed.
+fn made(
+    alloc: Global,
+    needed: bool,
+    making: Making,
+    held: &Buffers,
     group: &[Rank],
 ) -> Result<RankLists, AllocError>
-    requires members { AreMembers ranks group.now }
-    requires asked { AreAsked (asks_of step) ty (taken group.now (lists_of held.now a)) }
-    ensures { IfOk result (λ made. needed ≡ true → made ≡ made_lists ranks group.now ty step (lists_of held.now a)) }
+    requires members { AreMembers making.ranks group.now }
+    requires asked { AreAsked (asks_of making.step) making.ty (taken group.now (lists_of held.now making.a)) }
+    ensures { IfOk result (λ made. needed ≡ true → made ≡ made_lists making.ranks group.now making.ty making.step
+        (lists_of held.now making.a)) }
 {
-    if needed {
-        made(alloc, ranks, ty, step, held, a, group)
-    } else {
-        Ok(RankLists::nothing(alloc))
+    if !needed {
+        return Ok(RankLists::nothing(alloc));
     }
+    let form = form_of(
+        alloc,
+        making.ty,
+        making.step,
+        &Taken::of(held, making.a, group),
+    )?;
+    Ok(RankLists::of(form, places_of(alloc, making.ranks, group)?))
 }
 
 /// Lets a buffer go that nothing needs.
@@ -139,7 +133,8 @@ pub fn take_step(
     let ty = type_read(shape, step);
     let after = later(shape, k);
     let needed = is_needed(kept, after, held.count() as u32);
-    let made = made_if(alloc, needed, ranks, ty, step, held, a, shape.group(k))?;
+    let making = Making { ranks, ty, step, a };
+    let made = made(alloc, needed, making, held, shape.group(k))?;
     keep_if_needed(alloc, held, kept, after, a);
     held.push(made)?;
     Ok(())

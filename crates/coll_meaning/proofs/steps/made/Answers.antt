@@ -4,5 +4,6 @@ use Rattle.coll_meaning.proofs.Made.{made_same}
 use Rattle.coll_meaning.proofs.steps.made.Goals as goal
 
 pub returns : goal.returns
-returns c = c.of-2.ensures ∙ made_same c.in_ok-form.form c.in_ok-places_of.field-0.items c.args.ranks c.args.group.now c.args.ty
-    c.args.step (lists_of c.args.held.now c.args.a) c.of.result c.of.ensures c.in_ok-form.ensures c.in_ok-places_of.ensures
+returns c = λ need.
+    c.of-2.ensures ∙ made_same c.in_ok-form.form c.in_ok-places_of.field-0.items c.args.making.ranks c.args.group.now c.args.making.ty
+    c.args.making.step (lists_of c.args.held.now c.args.making.a) c.of.result c.of.ensures c.in_ok-form.ensures c.in_ok-places_of.ensures
