@@ -14,8 +14,9 @@ use Rattle.cuts.specs.histories.Cut.{IsAtRest, IsCut}
 use Rattle.cuts.specs.histories.Plans.{CounterReached, IsComplete, system_of}
 use Rattle.cuts.specs.histories.System.{Histories, state_at}
 use Rattle.plan_steps.specs.Rounds.{rounds}
-use Rattle.shape_plans.specs.Drawing.{drawing_of, drawn_upto, plan_of, site}
-use Rattle.shape_plans.specs.Steps.{end_of}
+use Rattle.shape_plans.specs.Drawing.{drawing_of, drawn_upto, plan_of}
+use Rattle.plan_steps.specs.Drawing.{site}
+use Rattle.plan_steps.specs.Collectives.{end_of}
 use Rattle.shape_plans.specs.Footprint.{refusal}
 use Rattle.shape_plans.proofs.Final.{barrier-cells, barrier-rounds, fine-shape, inputs_fit, result-cell, sound, unheld-empty, value-held}
 use Rattle.step_laws.proofs.Chain.{entry_in, exit_in, leads_first, leads_next, leads_through}

@@ -9,7 +9,8 @@ use Rattle.coll_shape.specs.declared.types.CollStep.TheVariants.{Barrier}
 use Rattle.coll_shape.specs.Outline.{Outline, group_at, step_at}
 use Rattle.plan_steps.specs.StepContext.{in_row}
 use Rattle.plan_steps.specs.Rounds.{rounds}
-use Rattle.shape_plans.specs.Drawing.{drawn_upto, plan_of, site}
+use Rattle.shape_plans.specs.Drawing.{drawn_upto, plan_of}
+use Rattle.plan_steps.specs.Drawing.{site}
 use Rattle.step_laws.specs.Order.{IsAt, entry_cell, exit_cell}
 
 -- ---- a rank's steps

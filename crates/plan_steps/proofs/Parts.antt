@@ -1,4 +1,4 @@
--- Parts filled_by one after the other, in any order, make their concatenation.
+-- Parts that are filled one after the other, in any order, make their concatenation.
 use Rattle.std.proofs.Common.{ℕ, zero, suc, Bool, true, false, ◌+◌, ◌-◌, ◌*◌, ◌≡◌, ◌≤◌, ◌<◌, ◌⊎◌, List, [], ◌∷◌, ◌++◌, refl, length, map}
 use Rattle.std.proofs.Common.{flat_map, drop, ap, ap₂, ◌∙◌, sym, subst, inl, inr, arith, rules, append_assoc, length-append, append-nil}
 use Rattle.std.proofs.Math.Nat.{mul-le-mul_right}

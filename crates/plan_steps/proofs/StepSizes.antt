@@ -3,7 +3,7 @@ use Rattle.std.proofs.Common.{ℕ, zero, suc, Bool, true, false, cond, ◌+◌, 
 use Rattle.std.proofs.Common.{ap, ap₂, ◌∙◌, sym, arith, eq-eqb, eqb-true}
 use Rattle.plan_core.specs.Draw.{NewCell, links_of, bytes_in}
 use Rattle.plan_core.specs.Plan.{from_to}
-use Rattle.plan_steps.specs.Broadcast.{first_cell}
+use Rattle.plan_steps.specs.Collectives.Broadcast.{first_cell}
 use Rattle.plan_steps.specs.StepContext.{StepContext, count, places, entries, full_entry, bare_entry, row, rows}
 use Rattle.plan_steps.specs.Trees.{up, up_at}
 use Rattle.ptl_types.specs.declared.elements.AtomicOp.{AtomicOp}

@@ -1,7 +1,8 @@
 //! Allgather: a ring of the members.
 
 ghost use Rattle.std.specs.Prelude.{◌≡◌, ◌<◌};
-ghost use Rattle.plan_steps.specs.Allgather.{allgather_cells, allgather_end, collect_link, collected, ring_cell, ring_node, ring_source};
+ghost use Rattle.plan_steps.specs.Collectives.Allgather.{allgather_cells, allgather_end, collect_link, collected, ring_cell, ring_node};
+ghost use Rattle.plan_steps.specs.Collectives.Allgather.{ring_source};
 ghost use Rattle.plan_steps.specs.StepContext.{count};
 
 use crate::collective::Collective;
@@ -9,7 +10,7 @@ use crate::ends::{StepExit, giving};
 use crate::first_cells::FullEntries;
 use crate::incoming::{put, put_whole};
 use crate::row::{Rows, draw_row, draw_rows};
-use crate::site::StepContext;
+use crate::step_context::StepContext;
 use crate::wide::{Links, draw_wide};
 use plan_core::{Incoming, Plan};
 use ptl_types::NoMemory;

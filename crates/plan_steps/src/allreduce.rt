@@ -1,13 +1,13 @@
 //! Allreduce: the lists are combined up a tree, and the result goes down it.
 
-ghost use Rattle.plan_steps.specs.Allreduce.{allreduce_cells, allreduce_end, result_cell};
+ghost use Rattle.plan_steps.specs.Collectives.Allreduce.{allreduce_cells, allreduce_end, result_cell};
 
 use crate::collective::Collective;
 use crate::ends::{StepExit, giving};
 use crate::first_cells::FullEntries;
-use crate::plan_tree::trees::{Up, draw_down_cell, up_number};
 use crate::row::{Rows, draw_row};
-use crate::site::StepContext;
+use crate::step_context::StepContext;
+use crate::tree::{Down, Up, draw_down_cell, up_number};
 use plan_core::Plan;
 use ptl_types::{AtomicOp, NoMemory};
 use std::alloc::Global;
@@ -26,9 +26,12 @@ impl Rows for Results {
         _number: u32,
         place: u32,
     ) -> Result<(), NoMemory> {
-        let base = site.further(site.count());
-        let below = up_number(site, place);
-        draw_down_cell(plan, site, 0, base, up_number(site, 0), below, place)
+        let down = Down {
+            root: 0,
+            base: site.further(site.count()),
+            top: up_number(site, 0),
+        };
+        draw_down_cell(plan, site, down, up_number(site, place), place)
     }
 }
 

@@ -1,7 +1,7 @@
 //! Alltoall: every member gets its block of every list.
 
 ghost use Rattle.std.specs.Prelude.{◌<◌};
-ghost use Rattle.plan_steps.specs.Alltoall.{alltoall_cells, alltoall_end, exchange_link, exchanged};
+ghost use Rattle.plan_steps.specs.Collectives.Alltoall.{alltoall_cells, alltoall_end, exchange_link, exchanged};
 ghost use Rattle.plan_steps.specs.StepContext.{count};
 
 use crate::collective::Collective;
@@ -9,7 +9,7 @@ use crate::ends::{StepExit, giving};
 use crate::first_cells::FullEntries;
 use crate::incoming::put;
 use crate::row::{Rows, draw_row};
-use crate::site::StepContext;
+use crate::step_context::StepContext;
 use crate::wide::{Links, draw_wide};
 use plan_core::{Incoming, Plan};
 use ptl_types::NoMemory;

@@ -1,15 +1,15 @@
 //! Barrier: dissemination in rounds of doubling distance.
 
 ghost use Rattle.std.specs.Prelude.{◌≤◌};
-ghost use Rattle.plan_steps.specs.Barrier.{barrier_cells, barrier_end, round_cell};
+ghost use Rattle.plan_steps.specs.Collectives.Barrier.{barrier_cells, barrier_end, round_cell};
 
 use crate::collective::Collective;
+use crate::doubling::rounds;
 use crate::ends::{StepExit, passing};
 use crate::first_cells::BareEntries;
 use crate::incoming::{bump, put, silent};
-use crate::plan_rounds::rounds;
 use crate::row::{Rows, draw_row, draw_rows};
-use crate::site::StepContext;
+use crate::step_context::StepContext;
 use plan_core::Plan;
 use ptl_types::NoMemory;
 use std::alloc::Global;

@@ -1,15 +1,15 @@
 //! Broadcast: the root's list goes down a tree.
 
 ghost use Rattle.std.specs.Prelude.{◌<◌};
-ghost use Rattle.plan_steps.specs.Broadcast.{broadcast_cells, broadcast_end, copy_cell};
+ghost use Rattle.plan_steps.specs.Collectives.Broadcast.{broadcast_cells, broadcast_end, copy_cell};
 ghost use Rattle.plan_steps.specs.StepContext.{count};
 
 use crate::collective::Collective;
 use crate::ends::{StepExit, giving};
 use crate::first_cells::RootEntries;
-use crate::plan_tree::trees::{draw_down_cell, turned, unturned};
 use crate::row::{Rows, draw_row};
-use crate::site::StepContext;
+use crate::step_context::StepContext;
+use crate::tree::{Down, draw_down_cell, turned, unturned};
 use plan_core::Plan;
 use ptl_types::NoMemory;
 use std::alloc::Global;
@@ -33,9 +33,13 @@ impl Rows for Copies {
         place: u32,
     ) -> Result<(), NoMemory> {
         let _ = site.count();
-        let top = site.entry(self.root);
+        let down = Down {
+            root: self.root,
+            base: site.further(0),
+            top: site.entry(self.root),
+        };
         let below = site.entry(turned(site, self.root, place));
-        draw_down_cell(plan, site, self.root, site.further(0), top, below, place)
+        draw_down_cell(plan, site, down, below, place)
     }
 }
 

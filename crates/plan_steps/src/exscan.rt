@@ -1,16 +1,16 @@
 //! Exclusive scan: the rounds of a scan, and each member gets what the place before it has.
 
-ghost use Rattle.plan_steps.specs.Exscan.{exscan_cells, exscan_end, shifted};
+ghost use Rattle.plan_steps.specs.Collectives.Exscan.{exscan_cells, exscan_end, shifted};
 ghost use Rattle.plan_steps.specs.StepContext.{count};
 
 use crate::collective::Collective;
+use crate::doubling::rounds;
 use crate::ends::{StepExit, giving, passing};
 use crate::first_cells::FullEntries;
 use crate::incoming::{bump, put_whole};
-use crate::plan_rounds::rounds;
 use crate::row::{Rows, draw_cells, draw_row, draw_rows};
 use crate::scan::{ScanRounds, scan_number};
-use crate::site::StepContext;
+use crate::step_context::StepContext;
 use plan_core::Plan;
 use ptl_types::{AtomicOp, NoMemory};
 use std::alloc::Global;

@@ -2,7 +2,7 @@
 
 ghost use Rattle.std.specs.Prelude.{◌<◌, ◌≡◌, ◌∷◌, [], IfOk};
 ghost use Rattle.plan_core.specs.Draw.{HasRoom, add};
-ghost use Rattle.plan_steps.specs.Gather.{gather_cells, gather_end, gather_link, gathered};
+ghost use Rattle.plan_steps.specs.Collectives.Gather.{gather_cells, gather_end, gather_link, gathered};
 ghost use Rattle.plan_steps.specs.StepContext.{count};
 
 use crate::collective::Collective;
@@ -10,7 +10,7 @@ use crate::ends::{StepExit, giving, passing};
 use crate::first_cells::FullEntries;
 use crate::incoming::put;
 use crate::row::draw_row;
-use crate::site::StepContext;
+use crate::step_context::StepContext;
 use crate::wide::{Links, draw_wide};
 use plan_core::{Incoming, Plan};
 use ptl_types::NoMemory;

@@ -4,14 +4,14 @@ ghost use Rattle.std.specs.Prelude.{◌≡◌, ◌<◌, ◌∷◌, [], IfOk, len
 ghost use Rattle.plan_core.specs.Plan.{from_to};
 ghost use Rattle.plan_core.specs.Draw.{HasRoom, add};
 ghost use Rattle.plan_steps.specs.StepContext.{bump, count, entry};
-ghost use Rattle.plan_steps.specs.Gatherv.{concatenated, gatherv_cells, gatherv_end, held_entry, holder_put};
+ghost use Rattle.plan_steps.specs.Collectives.Gatherv.{concatenated, gatherv_cells, gatherv_end, held_entry, holder_put};
 
 use crate::collective::Collective;
 use crate::ends::{StepExit, giving, passing};
 use crate::first_cells::{draw_bare, draw_full};
 use crate::incoming::{bump, put};
 use crate::row::{Rows, draw_row};
-use crate::site::StepContext;
+use crate::step_context::StepContext;
 use coll_shape::is_in;
 use plan_core::{Incoming, Plan};
 use ptl_types::NoMemory;

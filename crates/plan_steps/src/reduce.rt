@@ -1,15 +1,15 @@
 //! Reduce: the lists are combined up a tree.
 
 ghost use Rattle.std.specs.Prelude.{◌<◌};
-ghost use Rattle.plan_steps.specs.Reduce.{reduce_cells, reduce_end};
+ghost use Rattle.plan_steps.specs.Collectives.Reduce.{reduce_cells, reduce_end};
 ghost use Rattle.plan_steps.specs.StepContext.{count};
 
 use crate::collective::Collective;
 use crate::ends::{StepExit, giving, passing};
 use crate::first_cells::FullEntries;
-use crate::plan_tree::trees::{Up, unturned, up_number};
 use crate::row::draw_row;
-use crate::site::StepContext;
+use crate::step_context::StepContext;
+use crate::tree::{Up, unturned, up_number};
 use plan_core::Plan;
 use ptl_types::{AtomicOp, NoMemory};
 use std::alloc::Global;

@@ -1,14 +1,14 @@
 //! Reduce-scatter: each member gets its block of the fold.
 
-ghost use Rattle.plan_steps.specs.Reducescatter.{reducescatter_cells, reducescatter_end, result_block};
+ghost use Rattle.plan_steps.specs.Collectives.Reducescatter.{reducescatter_cells, reducescatter_end, result_block};
 
 use crate::collective::Collective;
 use crate::ends::{StepExit, giving};
 use crate::first_cells::FullEntries;
 use crate::incoming::{bump, put};
-use crate::plan_tree::trees::{Up, up_number};
 use crate::row::{Rows, draw_row};
-use crate::site::StepContext;
+use crate::step_context::StepContext;
+use crate::tree::{Up, up_number};
 use plan_core::Plan;
 use ptl_types::{AtomicOp, NoMemory};
 use std::alloc::Global;

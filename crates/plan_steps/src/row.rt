@@ -5,7 +5,7 @@ ghost use Rattle.plan_core.specs.Plan.{from_to};
 ghost use Rattle.plan_core.specs.Draw.{HasRoom, NewCell, add, add_all};
 ghost use Rattle.plan_steps.specs.StepContext.{StepContext, count, row, rows};
 
-use crate::site::StepContext;
+use crate::step_context::StepContext;
 use plan_core::Plan;
 use ptl_types::NoMemory;
 

@@ -1,15 +1,15 @@
 //! Scan: rounds of doubling distance.
 
 ghost use Rattle.std.specs.Prelude.{◌≡◌, ◌≤◌, ◌<◌, ◌^◌};
-ghost use Rattle.plan_steps.specs.Scan.{scan_cell, scan_cells, scan_end, scan_number};
+ghost use Rattle.plan_steps.specs.Collectives.Scan.{scan_cell, scan_cells, scan_end, scan_number};
 
 use crate::collective::Collective;
+use crate::doubling::rounds;
 use crate::ends::{StepExit, giving};
 use crate::first_cells::FullEntries;
 use crate::incoming::atomic;
-use crate::plan_rounds::rounds;
 use crate::row::{Rows, draw_row, draw_rows};
-use crate::site::StepContext;
+use crate::step_context::StepContext;
 use plan_core::Plan;
 use ptl_types::{AtomicOp, NoMemory};
 use std::alloc::Global;

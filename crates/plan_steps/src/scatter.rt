@@ -1,7 +1,7 @@
 //! Scatter: each member gets its block of the root's list.
 
 ghost use Rattle.std.specs.Prelude.{◌<◌};
-ghost use Rattle.plan_steps.specs.Scatter.{scatter_cells, scatter_end, scattered};
+ghost use Rattle.plan_steps.specs.Collectives.Scatter.{scatter_cells, scatter_end, scattered};
 ghost use Rattle.plan_steps.specs.StepContext.{count};
 
 use crate::collective::Collective;
@@ -9,7 +9,7 @@ use crate::ends::{StepExit, giving};
 use crate::first_cells::RootEntries;
 use crate::incoming::{bump, put};
 use crate::row::{Rows, draw_row};
-use crate::site::StepContext;
+use crate::step_context::StepContext;
 use plan_core::Plan;
 use ptl_types::NoMemory;
 use std::alloc::Global;

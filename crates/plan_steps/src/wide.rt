@@ -5,7 +5,7 @@ ghost use Rattle.plan_core.specs.declared.Incoming.{Incoming};
 ghost use Rattle.plan_core.specs.Draw.{HasRoom, add, new_cell};
 ghost use Rattle.plan_steps.specs.StepContext.{StepContext, count, places};
 
-use crate::site::StepContext;
+use crate::step_context::StepContext;
 use plan_core::{Incoming, Part, Plan};
 use ptl_types::NoMemory;
 

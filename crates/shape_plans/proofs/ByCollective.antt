@@ -2,8 +2,9 @@
 -- what it makes.
 use Rattle.std.proofs.Common.{ℕ, zero, suc, Bool, ◌+◌, ◌-◌, ◌*◌, ◌≡◌, ◌<◌, ◌≤◌, List, [], ◌∷◌, refl, length, map, filter, get_or, ap, ap₂}
 use Rattle.std.proofs.Common.{◌∙◌, arith, true, false, cond, ◌==◌, ◌++◌, length-append, ◌/◌, ◌%◌, div-add-mod', sym, inl, inr, Some, None}
-use Rattle.std.proofs.Common.{eq-eqb, eqb-true, le_of_suc-le-suc}
+use Rattle.std.proofs.Common.{eq-eqb, eqb-true, le_of_suc-le-suc, ◌⊎◌}
 use Rattle.coll_shape.proofs.Asking.{In-is_in}
+use Rattle.coll_shape.proofs.ByCollective.{has_both}
 use Rattle.coll_shape.specs.Collectives.{source_of, IsRoot, is_in, Reads, buffer_after, holding_places, result_of, all_but_first}
 use Rattle.coll_shape.specs.Outline.{list_bytes}
 use Rattle.coll_shape.specs.declared.limits.TheConstants.{MOST_RANKS}
@@ -17,30 +18,30 @@ use Rattle.plan_core.specs.Members.{In}
 use Rattle.plan_core.specs.Plan.{Plan, from_to, cell}
 use Rattle.plan_steps.proofs.Grow.{In-get_or}
 use Rattle.plan_steps.proofs.StepSizes.{links-append, links-cons}
-use Rattle.plan_steps.proofs.allgather.Sizes.{allgather-bytes, allgather-links}
-use Rattle.plan_steps.proofs.allreduce.Sizes.{allreduce-links, allreduce-bytes}
-use Rattle.plan_steps.proofs.alltoall.Sizes.{alltoall-links, alltoall-bytes}
-use Rattle.plan_steps.proofs.barrier.Sizes.{barrier-links, barrier-bytes}
-use Rattle.plan_steps.proofs.broadcast.Sizes.{broadcast-links, broadcast-bytes}
-use Rattle.plan_steps.proofs.exscan.Sizes.{exscan-links, exscan-bytes}
-use Rattle.plan_steps.proofs.gather.Sizes.{gather-links, gather-bytes}
-use Rattle.plan_steps.proofs.gatherv.Sizes.{gatherv-bytes, gatherv-links}
-use Rattle.plan_steps.proofs.reduce.Sizes.{reduce-links, reduce-bytes}
-use Rattle.plan_steps.proofs.reducescatter.Sizes.{reducescatter-links, reducescatter-bytes}
-use Rattle.plan_steps.proofs.scan.Sizes.{scan-links, scan-bytes}
-use Rattle.plan_steps.proofs.scatter.Sizes.{scatter-links, scatter-bytes}
-use Rattle.plan_steps.specs.Allgather.{collect_link, collected, ring_node}
-use Rattle.plan_steps.specs.Allreduce.{result_cell}
-use Rattle.plan_steps.specs.Alltoall.{exchange_link, exchanged}
-use Rattle.plan_steps.specs.Barrier.{round_cell, round_rows}
-use Rattle.plan_steps.specs.Broadcast.{copy_cell, first_cell}
-use Rattle.plan_steps.specs.Exscan.{shifted}
-use Rattle.plan_steps.specs.Gather.{gather_link, gathered}
-use Rattle.plan_steps.specs.Gatherv.{concatenated, held_entry}
-use Rattle.plan_steps.specs.Reducescatter.{result_block}
+use Rattle.plan_steps.proofs.allgather.Laws.{allgather-bytes, allgather-links}
+use Rattle.plan_steps.proofs.allreduce.Laws.{allreduce-links, allreduce-bytes}
+use Rattle.plan_steps.proofs.alltoall.Laws.{alltoall-links, alltoall-bytes}
+use Rattle.plan_steps.proofs.barrier.Laws.{barrier-links, barrier-bytes}
+use Rattle.plan_steps.proofs.broadcast.Laws.{broadcast-links, broadcast-bytes}
+use Rattle.plan_steps.proofs.exscan.Laws.{exscan-links, exscan-bytes}
+use Rattle.plan_steps.proofs.gather.Laws.{gather-links, gather-bytes}
+use Rattle.plan_steps.proofs.gatherv.Laws.{gatherv-bytes, gatherv-links}
+use Rattle.plan_steps.proofs.reduce.Laws.{reduce-links, reduce-bytes}
+use Rattle.plan_steps.proofs.reducescatter.Laws.{reducescatter-links, reducescatter-bytes}
+use Rattle.plan_steps.proofs.scan.Laws.{scan-links, scan-bytes}
+use Rattle.plan_steps.proofs.scatter.Laws.{scatter-links, scatter-bytes}
+use Rattle.plan_steps.specs.Collectives.Allgather.{collect_link, collected, ring_node}
+use Rattle.plan_steps.specs.Collectives.Allreduce.{result_cell}
+use Rattle.plan_steps.specs.Collectives.Alltoall.{exchange_link, exchanged}
+use Rattle.plan_steps.specs.Collectives.Barrier.{round_cell, round_rows}
+use Rattle.plan_steps.specs.Collectives.Broadcast.{copy_cell, first_cell}
+use Rattle.plan_steps.specs.Collectives.Exscan.{shifted}
+use Rattle.plan_steps.specs.Collectives.Gather.{gather_link, gathered}
+use Rattle.plan_steps.specs.Collectives.Gatherv.{concatenated, held_entry}
+use Rattle.plan_steps.specs.Collectives.Reducescatter.{result_block}
 use Rattle.plan_steps.specs.Rounds.{rounds}
-use Rattle.plan_steps.specs.Scan.{scan_cell, scan_rows}
-use Rattle.plan_steps.specs.Scatter.{scattered}
+use Rattle.plan_steps.specs.Collectives.Scan.{scan_cell, scan_rows}
+use Rattle.plan_steps.specs.Collectives.Scatter.{scattered}
 use Rattle.plan_steps.specs.StepContext.{StepContext, count, bare_entries, bare_entry, entries, full_entry, places, row, rows, entry}
 use Rattle.plan_steps.specs.StepContext.{further}
 use Rattle.plan_steps.specs.Steps.{giving, passing}
@@ -49,8 +50,8 @@ use Rattle.ptl_types.specs.Operations.{bytes_of}
 use Rattle.shape_plans.proofs.EveryStep.{bytes_after}
 use Rattle.shape_plans.proofs.Places.{IsMember, PlaceOf, member}
 use Rattle.shape_plans.proofs.Whole.{blocks_long}
-use Rattle.shape_plans.specs.Footprint.{step_bytes, step_links}
-use Rattle.shape_plans.specs.Steps.{cells_of, end_of}
+use Rattle.plan_steps.specs.Collectives.{step_bytes, step_links}
+use Rattle.plan_steps.specs.Collectives.{cells_of, end_of}
 use Rattle.shape_plans.specs.declared.judging.TheConstants.{MOST_LINKS}
 use Rattle.std.proofs.Math.Nat.{mul-le-mul_right}
 
@@ -138,9 +139,9 @@ scans s o (suc k) i = some _
 scatters : (s : StepContext) (root i : ℕ) → 1 ≤ length (scattered s root i).into
 scatters s root i = at (i == root)
   where
-    at : (b : Bool) → 1 ≤ length (cond b (Rattle.plan_steps.specs.Scatter.scatter_put s root i ∷ [])
+    at : (b : Bool) → 1 ≤ length (cond b (Rattle.plan_steps.specs.Collectives.Scatter.scatter_put s root i ∷ [])
         (Rattle.plan_steps.specs.StepContext.bump (Rattle.plan_steps.specs.StepContext.entry s i)
-        ∷ Rattle.plan_steps.specs.Scatter.scatter_put s root i ∷ []))
+        ∷ Rattle.plan_steps.specs.Collectives.Scatter.scatter_put s root i ∷ []))
     at true = some 0
     at false = some 1
 
@@ -331,20 +332,6 @@ held_there g s (Exscan o a b) x zero c l e = cc
 held_there g s (Exscan o a b) x (suc j) c l e = in-behind g j l
 held_there g s (Gatherv root a b) x i c l e = at_root_only g i root c (further s 0) (entry s i) e
 
-pub after_ty : (g : List ℕ) (step : CollStep) (x : Buffer) → (buffer_after g step x).ty ≡ x.ty
-after_ty g Barrier x = refl
-after_ty g (Broadcast root a b) x = refl
-after_ty g (Reduce root o a b) x = refl
-after_ty g (Allreduce o a b) x = refl
-after_ty g (Gather root a b) x = refl
-after_ty g (Allgather a b) x = refl
-after_ty g (Alltoall a b) x = refl
-after_ty g (Scan o a b) x = refl
-after_ty g (Scatter root a b) x = refl
-after_ty g (Reducescatter o a b) x = refl
-after_ty g (Exscan o a b) x = refl
-after_ty g (Gatherv root a b) x = refl
-
 times : (m n w : ℕ) → m * (n * w) ≡ m * n * w
 times m n w = omega arith
 
@@ -374,15 +361,8 @@ pub data Kind (step : CollStep) : Type 0 where
   Makes : (a b : ℕ) → source_of step ≡ Some a → result_of step ≡ Some b → Kind step
 
 pub kind_of : (step : CollStep) → Kind step
-kind_of Barrier = Plain refl refl
-kind_of (Broadcast root a b) = Makes a b refl refl
-kind_of (Reduce root o a b) = Makes a b refl refl
-kind_of (Allreduce o a b) = Makes a b refl refl
-kind_of (Gather root a b) = Makes a b refl refl
-kind_of (Allgather a b) = Makes a b refl refl
-kind_of (Alltoall a b) = Makes a b refl refl
-kind_of (Scan o a b) = Makes a b refl refl
-kind_of (Scatter root a b) = Makes a b refl refl
-kind_of (Reducescatter o a b) = Makes a b refl refl
-kind_of (Exscan o a b) = Makes a b refl refl
-kind_of (Gatherv root a b) = Makes a b refl refl
+kind_of step = of (has_both step)
+  where
+    of : (step ≡ Barrier) ⊎ ((a : ℕ) × (b : ℕ) × (source_of step ≡ Some a) × (result_of step ≡ Some b)) → Kind step
+    of (inl e) = Plain (ap source_of e) (ap result_of e)
+    of (inr x) = Makes x.0 x.1 x.2 x.3

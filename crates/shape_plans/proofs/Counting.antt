@@ -1,23 +1,12 @@
--- Counting members, summing rounds, and the first excess.
-use Rattle.std.proofs.Common.{ℕ, suc, cond, ◌+◌, ◌-◌, ◌≡◌, ◌<◌, ◌≤◌, [], ◌∷◌, sum_by, Some, None, ap, ◌∙◌, arith, nat_lt}
+-- The first excess.
+use Rattle.std.proofs.Common.{ℕ, suc, cond, ◌+◌, ◌-◌, ◌≡◌, ◌<◌, ◌≤◌, Some, None, ap, ◌∙◌, arith, nat_lt}
 use Rattle.std.proofs.lemmas.Bool.{lt-ltb, le-ltb}
-use Rattle.std.proofs.lemmas.List.Sums.{sum_by-append, sum_by-cons}
-use Rattle.plan_core.specs.Plan.{from_to}
-use Rattle.plan_core.proofs.Drawing.{from_to-more}
 use Rattle.coll_shape.specs.Outline.{Outline}
 use Rattle.shape_plans.specs.declared.footprints.Size.{Size}
 use Rattle.shape_plans.specs.Footprint.{Excess, judged, refused_at}
 use Rattle.shape_plans.specs.Footprint.Excess.{Links, Bytes}
 use Rattle.shape_plans.specs.Judging.{add_sizes, found_from, size_upto, step_size}
 use Rattle.shape_plans.specs.declared.judging.TheConstants.{MOST_LINKS, MOST_BYTES}
-
-pub sum-more : (f : ℕ → ℕ) (k : ℕ) → sum_by f (from_to 0 (k + 1)) ≡ sum_by f (from_to 0 k) + f k
-sum-more f k =
-    ap (λ v. sum_by f (from_to 0 v)) (let e : k + 1 ≡ suc k = omega arith in e)
-    ∙ ap (sum_by f) (from_to-more 0 k)
-    ∙ sum_by-append f (from_to 0 k) ((0 + k) ∷ [])
-    ∙ ap (λ v. sum_by f (from_to 0 k) + v) (sum_by-cons f (0 + k) [] ∙ ap (λ v. f v + 0) (let e : 0 + k ≡ k = omega arith in e)
-    ∙ (let e : f k + 0 ≡ f k = omega arith in e))
 
 -- ---- the first excess
 within_limits : (l b : ℕ) → l ≤ MOST_LINKS → b ≤ MOST_BYTES → judged (record { links = l; bytes = b }) ≡ None

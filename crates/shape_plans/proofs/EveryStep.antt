@@ -1,6 +1,7 @@
 -- All twelve steps together: sound, their exits and holders are among their cells, and what the holders hold.
 use Rattle.std.proofs.Common.{ℕ, zero, suc, Bool, true, false, cond, ◌+◌, ◌-◌, ◌*◌, ◌/◌, ◌%◌, ◌≡◌, ◌≤◌, ◌<◌, ◌==◌, List, [], ◌∷◌, ◌++◌}
 use Rattle.std.proofs.Common.{refl, length, map, filter, flat_map, ap, ap₂, ◌∙◌, sym, subst, arith, Some, eqb-true, le_refl, div-add-mod'}
+use Rattle.std.proofs.Common.{inl}
 use Rattle.std.proofs.Math.Nat.{mod-eq_of_lt, add-mul-mod_self_left}
 use Rattle.ptl_types.specs.declared.elements.AtomicOp.{AtomicOp}
 use Rattle.ptl_types.specs.declared.elements.ElemType.{ElemType}
@@ -9,31 +10,32 @@ use Rattle.ptl_types.specs.Elements.{part, starting}
 use Rattle.op_laws.proofs.Bytes.{bytes-pos, length-repeated}
 use Rattle.plan_core.specs.declared.Cell.{Cell}
 use Rattle.plan_core.specs.Draw.{NewCell}
-use Rattle.plan_core.specs.Plan.{from_to, no_cell}
+use Rattle.plan_core.specs.Plan.{from_to, no_cell, Plan}
 use Rattle.coll_shape.specs.declared.types.CollStep.{CollStep}
 use Rattle.coll_shape.specs.declared.types.CollStep.TheVariants.{Barrier, Broadcast, Reduce, Allreduce, Gather, Allgather, Alltoall, Scan}
 use Rattle.coll_shape.specs.declared.types.CollStep.TheVariants.{Scatter, Reducescatter, Exscan, Gatherv}
 use Rattle.plan_steps.specs.StepContext.{StepContext, bare_entry, count, entries, entry, full_entry, further, in_row, places, rank_at}
-use Rattle.plan_steps.specs.StepContext.{source_at, block_length}
+use Rattle.plan_steps.specs.StepContext.{source_at, block_length, atomic, bump, exit_at, put_whole, rows}
 use Rattle.plan_steps.specs.Steps.{giving, passing}
-use Rattle.coll_shape.specs.Collectives.{IsRoot, is_in, list_after}
+use Rattle.coll_shape.specs.Collectives.{Asked, HeldAt, HeldAtInBlocks, HeldByAll, HeldByAllInBlocks, HeldBySome, IsRoot, Nothing, asks_of}
+use Rattle.coll_shape.specs.Collectives.{is_in, list_after}
 use Rattle.plan_steps.specs.Trees.{turned, unturned, up, up_cell, up_number}
-use Rattle.plan_steps.specs.Broadcast.{copy_cell, first_cell}
-use Rattle.plan_steps.specs.Reduce.{reduce_cells}
-use Rattle.plan_steps.specs.Allreduce.{result_cell}
-use Rattle.plan_steps.specs.Gather.{gathered}
-use Rattle.plan_steps.specs.Allgather.{allgather_cells, collected}
-use Rattle.plan_steps.specs.Alltoall.{exchanged}
+use Rattle.plan_steps.specs.Collectives.Broadcast.{copy_cell, first_cell}
+use Rattle.plan_steps.specs.Collectives.Reduce.{reduce_cells}
+use Rattle.plan_steps.specs.Collectives.Allreduce.{result_cell}
+use Rattle.plan_steps.specs.Collectives.Gather.{gathered, gather_link}
+use Rattle.plan_steps.specs.Collectives.Allgather.{allgather_cells, collected, collect_link, ring_cell, ring_node}
+use Rattle.plan_steps.specs.Collectives.Alltoall.{exchanged, exchange_link}
 use Rattle.plan_steps.specs.Rounds.{rounds}
-use Rattle.plan_steps.specs.Scan.{scan_cell, scan_cells, scan_number, scan_rows}
-use Rattle.plan_steps.specs.Barrier.{barrier_cells, round_rows}
-use Rattle.plan_steps.specs.Scatter.{scattered}
-use Rattle.plan_steps.specs.Reducescatter.{result_block}
-use Rattle.plan_steps.specs.Exscan.{exscan_cells, shifted}
-use Rattle.plan_steps.specs.Gatherv.{concatenated, held_entry}
+use Rattle.plan_steps.specs.Collectives.Scan.{scan_cell, scan_cells, scan_number, scan_rows}
+use Rattle.plan_steps.specs.Collectives.Barrier.{barrier_cells, round_rows}
+use Rattle.plan_steps.specs.Collectives.Scatter.{scattered, scatter_put}
+use Rattle.plan_steps.specs.Collectives.Reducescatter.{result_block, result_put}
+use Rattle.plan_steps.specs.Collectives.Exscan.{exscan_cells, shifted}
+use Rattle.plan_steps.specs.Collectives.Gatherv.{concatenated, held_entry}
 use Rattle.plan_steps.specs.Sounding.{EachAt, Ground, HasA, IsCell, Known, SoundNewCell}
 use Rattle.coll_shape.specs.Folding.{at, folded, reduced, block, joined_lists}
-use Rattle.plan_steps.proofs.Drawn.{each_back, each_front, each_of_map, length-rows}
+use Rattle.plan_steps.proofs.Drawn.{each_back, each_front, each_of_map, length-rows, each_of_rows}
 use Rattle.plan_steps.proofs.Entries.{behind, of_places}
 use Rattle.plan_steps.proofs.Folds.{length-folded}
 use Rattle.plan_steps.proofs.allreduce.Laws.{allreduce-sound, allreduce-value}
@@ -49,9 +51,14 @@ use Rattle.plan_steps.proofs.scatter.Laws.{scatter-sound, scatter-value}
 use Rattle.plan_steps.proofs.exscan.Laws.{exscan-sound, exscan-value}
 use Rattle.plan_steps.proofs.reducescatter.Laws.{reducescatter-sound, reducescatter-value}
 use Rattle.plan_steps.proofs.gatherv.Laws.{gatherv-sound, gatherv-value}
-use Rattle.shape_plans.specs.Steps.{cells_of, end_of}
+use Rattle.plan_steps.specs.Collectives.{cells_of, end_of}
 use Rattle.shape_plans.specs.Results.{IsResult}
 use Rattle.shape_plans.specs.Results.IsResult.{Holds, IsEmpty}
+use Rattle.plan_core.proofs.Links.{In-from_to}
+use Rattle.plan_core.proofs.Lists.{In-map}
+use Rattle.plan_core.specs.Members.{In}
+use Rattle.plan_core.specs.Rounds.{Comes}
+use Rattle.plan_core.specs.declared.Incoming.{Incoming}
 
 -- the list that is read has a block for each place
 pub record Blocks (s : StepContext) : Type 0 where
@@ -66,20 +73,18 @@ pub record Holding (s : StepContext) : Type 0 where
 abbrev pub AllHave : (ℕ → Cell) → StepContext → Type 0
 AllHave k s = (i : ℕ) → i < count s → HasA k s i
 
+-- what is asked of the site
+abbrev pub AsksSo : (ℕ → Cell) → StepContext → Asked → Type 0
+AsksSo k s Nothing = Unit {0}
+AsksSo k s (HeldAt root) = HasA k s root
+AsksSo k s (HeldAtInBlocks root) = HasA k s root × Blocks s
+AsksSo k s HeldByAll = AllHave k s
+AsksSo k s HeldByAllInBlocks = AllHave k s × Blocks s
+AsksSo k s HeldBySome = Holding s × ((i : ℕ) → i < count s → is_in i s.holding ≡ true → HasA k s i)
+
 -- what a step asks of its site
 abbrev pub Asks : (ℕ → Cell) → StepContext → CollStep → Type 0
-Asks k s Barrier = Unit {0}
-Asks k s (Broadcast root a b) = HasA k s root
-Asks k s (Reduce root o a b) = AllHave k s
-Asks k s (Allreduce o a b) = AllHave k s
-Asks k s (Gather root a b) = AllHave k s
-Asks k s (Allgather a b) = AllHave k s
-Asks k s (Alltoall a b) = AllHave k s × Blocks s
-Asks k s (Scan o a b) = AllHave k s
-Asks k s (Scatter root a b) = HasA k s root × Blocks s
-Asks k s (Reducescatter o a b) = AllHave k s × Blocks s
-Asks k s (Exscan o a b) = AllHave k s
-Asks k s (Gatherv root a b) = Holding s × ((i : ℕ) → i < count s → is_in i s.holding ≡ true → HasA k s i)
+Asks k s step = AsksSo k s (asks_of step)
 
 pub whole_times : (m n w : ℕ) → 0 < w → n % w ≡ 0 → (m * n) % w ≡ 0
 whole_times m n w pos e =
@@ -371,20 +376,17 @@ module _ (k : ℕ → Cell) (val : ℕ → List ℕ) (s : StepContext) (xs : Lis
   abbrev pub AllValues : Type 0
   AllValues = (i : ℕ) → i < count s → (val (source_at s i) ≡ at xs i) × (length (val (source_at s i)) ≡ s.length)
 
-  abbrev pub AsksValues : CollStep → Type 0
-  AsksValues Barrier = ⊥
-  AsksValues (Broadcast root a b) = HasValue root
-  AsksValues (Reduce root o a b) = AllValues
-  AsksValues (Allreduce o a b) = AllValues
-  AsksValues (Gather root a b) = AllValues
-  AsksValues (Allgather a b) = AllValues
-  AsksValues (Alltoall a b) = AllValues × Blocks s
-  AsksValues (Scan o a b) = AllValues
-  AsksValues (Scatter root a b) = HasValue root × Blocks s
-  AsksValues (Reducescatter o a b) = AllValues × Blocks s
-  AsksValues (Exscan o a b) = AllValues
-  AsksValues (Gatherv root a b) = Holding s × ((i : ℕ) → i < count s → is_in i s.holding ≡ true → HasValue i) ×
+  abbrev pub AsksValuesSo : Asked → Type 0
+  AsksValuesSo Nothing = ⊥
+  AsksValuesSo (HeldAt root) = HasValue root
+  AsksValuesSo (HeldAtInBlocks root) = HasValue root × Blocks s
+  AsksValuesSo HeldByAll = AllValues
+  AsksValuesSo HeldByAllInBlocks = AllValues × Blocks s
+  AsksValuesSo HeldBySome = Holding s × ((i : ℕ) → i < count s → is_in i s.holding ≡ true → HasValue i) ×
       ((i : ℕ) → i < count s → is_in i s.holding ≡ false → at xs i ≡ [])
+
+  abbrev pub AsksValues : CollStep → Type 0
+  AsksValues step = AsksValuesSo (asks_of step)
 
   -- the fold of the first m
   fold_is : (o : AtomicOp) (m : ℕ) → length (at xs 0) ≡ s.length → folded o s.ty (map (at xs) (from_to 0 m)) (starting o s.ty s.length)
@@ -445,3 +447,182 @@ module _ (k : ℕ → Cell) (val : ℕ → List ℕ) (s : StepContext) (xs : Lis
   step-value (Gatherv root a b) root_in asks known i l =
       rooted (i == root) (further s 0) (entry s i) (joined_lists xs)
       (gatherv-value k s root asks.0.test asks.0.is val (at xs) asks.1 asks.2 known ∙ joined)
+
+-- ---- within a step: each place's entry waits for what the place did before, and links lead from it to the place's exit
+-- each link that a node names comes to it from its source
+abbrev pub Linked : Plan → ℕ → NewCell → Type 0
+Linked q c n = (i : Incoming) → In i n.into → Comes q i.source c
+
+module _ (q : Plan) (s : StepContext) (pos : 0 < count s) where
+  -- ---- the entry waits for the exit before it
+  full_waits : (i : ℕ) → Linked q (entry s i) (full_entry s i) → Comes q (exit_at s i) (entry s i)
+  full_waits i h = h (bump (exit_at s i)) (inl refl)
+
+  bare_waits : (i : ℕ) → Linked q (entry s i) (bare_entry s i) → Comes q (exit_at s i) (entry s i)
+  bare_waits i h = h (bump (exit_at s i)) (inl refl)
+
+  either_waits : (b : Bool) (i : ℕ) → Linked q (entry s i) (cond b (full_entry s i) (bare_entry s i)) → Comes q (exit_at s i) (entry s i)
+  either_waits true i h = full_waits i h
+  either_waits false i h = bare_waits i h
+
+  pub waits : (step : CollStep) → EachAt (Linked q) s.first (cells_of s step) → (i : ℕ) → i < count s → Comes q (exit_at s i) (entry s i)
+  waits Barrier h i l = bare_waits i (first_at (Linked q) s pos (bare_entry s) _ h i l)
+  waits (Broadcast root a b) h i l = either_waits (i == root) i (first_at (Linked q) s pos (first_cell s root) _ h i l)
+  waits (Reduce root o a b) h i l = full_waits i (first_at (Linked q) s pos (full_entry s) _ h i l)
+  waits (Allreduce o a b) h i l = full_waits i (first_at (Linked q) s pos (full_entry s) _ h i l)
+  waits (Gather root a b) h i l = full_waits i (first_at (Linked q) s pos (full_entry s) _ h i l)
+  waits (Allgather a b) h i l = full_waits i (first_at (Linked q) s pos (full_entry s) _ h i l)
+  waits (Alltoall a b) h i l = full_waits i (first_at (Linked q) s pos (full_entry s) _ h i l)
+  waits (Scan o a b) h i l = full_waits i (first_at (Linked q) s pos (full_entry s) _ h i l)
+  waits (Scatter root a b) h i l = either_waits (i == root) i (first_at (Linked q) s pos (first_cell s root) _ h i l)
+  waits (Reducescatter o a b) h i l = full_waits i (first_at (Linked q) s pos (full_entry s) _ h i l)
+  waits (Exscan o a b) h i l = full_waits i (first_at (Linked q) s pos (full_entry s) _ h i l)
+  waits (Gatherv root a b) h i l = either_waits (is_in i s.holding) i (first_at (Linked q) s pos (held_entry s) _ h i l)
+
+-- L: a way along links, which may stay where it is, and may go on by one link
+module _ (q : Plan) (L : ℕ → ℕ → Type 0) (stay : (a : ℕ) → L a a) (onward : (a b c : ℕ) → Comes q b c → L a b → L a c)
+    (s : StepContext) (pos : 0 < count s) where
+  abbrev P : ℕ → NewCell → Type 0
+  P = Linked q
+
+  -- ---- from the entry to the exit
+  step_on : (a c : ℕ) (i : Incoming) → Comes q i.source c → L a i.source → L a c
+  step_on a c i w path = onward a i.source c w path
+
+  -- the cells of a tree stand behind the entries, and those behind the tree
+  tree : (o : AtomicOp) (root : ℕ) (ns : List NewCell)
+      → EachAt P s.first (map (full_entry s) (places s) ++ (up s root o ++ ns))
+      → EachAt P (s.first + count s) (up s root o)
+  tree o root ns h =
+      each_front P (s.first + count s) (up s root o) ns (behind P s s.first (full_entry s) (up s root o ++ ns) h)
+
+  to_tree : (o : AtomicOp) (root v i : ℕ) → v < count s → turned s root v ≡ i → EachAt P (s.first + count s) (up s root o)
+      → L (entry s i) (up_number s v)
+  to_tree o root v i l e h =
+      step_on (entry s i) (up_number s v) (atomic s.length (entry s (turned s root v)))
+      ((up-at (any P s pos) s root o P h v l) (atomic s.length (entry s (turned s root v))) (inl refl))
+      (subst (λ x. L (entry s i) (entry s x)) (sym e) (stay (entry s i)))
+
+  turned_none : (v : ℕ) → v < count s → turned s 0 v ≡ v
+  turned_none v l = mod-eq_of_lt {n = 0 + v} (let e : 0 + v < count s = omega arith in e) ∙ (let e : 0 + v ≡ v = omega arith in e)
+
+  turned_top : (root : ℕ) → root < count s → turned s root 0 ≡ root
+  turned_top root r =
+      mod-eq_of_lt {n = root + 0} (let w : root + 0 < count s = omega arith in w) ∙ (let w : root + 0 ≡ root = omega arith in w)
+
+  to_round : EachAt P s.first (barrier_cells s) → (j i : ℕ) → j ≤ rounds (count s) → i < count s
+      → L (entry s i) (in_row s j i)
+  to_round h zero i t l = subst (L (entry s i)) (let e : entry s i ≡ in_row s 0 i = omega arith in e) (stay (entry s i))
+  to_round h (suc j) i t l =
+      step_on (entry s i) (in_row s (suc j) i) (bump (in_row s j i))
+      ((round-at (any P s pos) s P (behind P s s.first (bare_entry s) (round_rows s) h) j i t l) (bump (in_row s j i)) (inl refl))
+      (to_round h j i (omega arith) l)
+
+  to_scan : (o : AtomicOp) → EachAt P (s.first + count s) (scan_rows s o) → (j i : ℕ) → j ≤ rounds (count s) → i < count s
+      → L (entry s i) (scan_number s j i)
+  to_scan o h zero i t l =
+      step_on (entry s i) (scan_number s 0 i) (atomic s.length (entry s i))
+      ((scan-at (any P s pos) s o P h 0 i t l) (atomic s.length (entry s i)) (inl refl)) (stay (entry s i))
+  to_scan o h (suc j) i t l =
+      step_on (entry s i) (scan_number s (suc j) i) (atomic s.length (scan_number s j i))
+      ((scan-at (any P s pos) s o P h (suc j) i t l) (atomic s.length (scan_number s j i)) (inl refl)) (to_scan o h j i (omega arith) l)
+
+  scans : (o : AtomicOp) (ns : List NewCell) → EachAt P s.first (map (full_entry s) (places s) ++ (scan_rows s o ++ ns))
+      → EachAt P (s.first + count s) (scan_rows s o)
+  scans o ns h =
+      each_front P (s.first + count s) (scan_rows s o) ns (behind P s s.first (full_entry s) (scan_rows s o ++ ns) h)
+
+  place_in : (f : ℕ → Incoming) (i : ℕ) → i < count s → In (f i) (map f (places s))
+  place_in f i l = In-map f i (places s) (In-from_to 0 (count s) i (omega arith) (omega (arith, l)))
+
+  pub way_through : (step : CollStep) → IsRoot step (count s) → EachAt P s.first (cells_of s step) → (i : ℕ) → i < count s
+      → L (entry s i) (end_of s step i).exit
+  way_through Barrier r h i l = to_round h (rounds (count s)) i (le_refl (rounds (count s))) l
+  way_through (Broadcast root a b) r h i l =
+      down (unturned s root i) (turned-back s root r i l)
+      (second P s pos (first_cell s root) (copy_cell s root) h (unturned s root i) (unturned-lt s root i pos))
+    where
+      down : (v : ℕ) → turned s root v ≡ i → P (further s v) (copy_cell s root v) → L (entry s i) (further s v)
+      down zero e k =
+          step_on (entry s i) (further s 0) (put_whole s.length (entry s root)) (k (put_whole s.length (entry s root)) (inl refl))
+          (subst (λ x. L (entry s i) (entry s x)) (sym e ∙ turned_top root r) (stay (entry s i)))
+      down (suc v) e k =
+          step_on (entry s i) (further s (suc v)) (bump (entry s (turned s root (suc v))))
+          (k (bump (entry s (turned s root (suc v)))) (inl refl)) (subst (λ x. L (entry s i) (entry s x)) (sym e) (stay (entry s i)))
+  way_through (Reduce root o a b) r h i l = at_root (i == root) refl
+    where
+      at_root : (t : Bool) → (i == root) ≡ t
+          → L (entry s i) (cond t (giving (up_number s 0)) (passing (up_number s (unturned s root i)))).exit
+      at_root true e =
+          to_tree o root 0 i pos (turned_top root r ∙ sym (eqb-true _ _ e)) (behind P s s.first (full_entry s) (up s root o) h)
+      at_root false e =
+          to_tree o root (unturned s root i) i (unturned-lt s root i pos) (turned-back s root r i l)
+          (behind P s s.first (full_entry s) (up s root o) h)
+  way_through (Allreduce o a b) r h i l = down i l (third P s pos o 0 (result_cell s) h i l)
+    where
+      down : (v : ℕ) → v < count s → P (further s (count s + v)) (result_cell s v) → L (entry s v) (further s (count s + v))
+      down zero k w =
+          step_on (entry s 0) (further s (count s + 0)) (put_whole s.length (up_number s 0))
+          (w (put_whole s.length (up_number s 0)) (inl refl))
+          (to_tree o 0 0 0 k (turned_none 0 k) (tree o 0 (map (result_cell s) (places s)) h))
+      down (suc v) k w =
+          step_on (entry s (suc v)) (further s (count s + suc v)) (bump (up_number s (suc v)))
+          (w (bump (up_number s (suc v))) (inl refl))
+          (to_tree o 0 (suc v) (suc v) k (turned_none (suc v) k) (tree o 0 (map (result_cell s) (places s)) h))
+  way_through (Gather root a b) r h i l = at_root (i == root) refl
+    where
+      at_root : (t : Bool) → (i == root) ≡ t → L (entry s i) (cond t (giving (further s 0)) (passing (entry s i))).exit
+      at_root true e =
+          step_on (entry s i) (further s 0) (gather_link s i)
+          ((alone P s pos (full_entry s) (gathered s root) h) (gather_link s i) (place_in (gather_link s) i l)) (stay (entry s i))
+      at_root false e = stay (entry s i)
+  way_through (Allgather a b) r h i l =
+      step_on (entry s i) (further s (count s * count s + i)) (collect_link s i 0)
+      ((moved P s pos (s.first + count s + count s * count s + i) (further s (count s * count s + i)) (collected s i) (omega arith)
+      (of_places P s (s.first + count s + count s * count s) (collected s) (end_part (any P s pos) s P h) i l))
+      (collect_link s i 0) (place_in (collect_link s i) 0 pos))
+      (step_on (entry s i) (ring_cell s 0 i) (put_whole s.length (entry s i)) (ring (put_whole s.length (entry s i)) (inl refl))
+      (stay (entry s i)))
+    where
+      ring : P (ring_cell s 0 i) (ring_node s 0 i)
+      ring =
+          moved P s pos (s.first + count s + (0 * count s + i)) (ring_cell s 0 i) (ring_node s 0 i) (omega arith)
+          (each_of_rows P (s.first + count s) (ring_node s) (count s) 0 (count s)
+          (each_front P (s.first + count s) (rows s (ring_node s) 0 (count s)) (map (collected s) (places s))
+          (behind P s s.first (full_entry s) (rows s (ring_node s) 0 (count s) ++ map (collected s) (places s)) h)) 0 i pos l)
+  way_through (Alltoall a b) r h i l =
+      step_on (entry s i) (further s i) (exchange_link s i i)
+      ((second P s pos (full_entry s) (exchanged s) h i l) (exchange_link s i i) (place_in (exchange_link s i) i l)) (stay (entry s i))
+  way_through (Scan o a b) r h i l =
+      to_scan o (behind P s s.first (full_entry s) (scan_rows s o) h) (rounds (count s)) i (le_refl (rounds (count s))) l
+  way_through (Scatter root a b) r h i l = at_root (i == root) refl (second P s pos (first_cell s root) (scattered s root) h i l)
+    where
+      at_root : (t : Bool) → (i == root) ≡ t → P (further s i) (scattered s root i) → L (entry s i) (further s i)
+      at_root true e k =
+          step_on (entry s i) (further s i) (scatter_put s root i) (k (scatter_put s root i) (rw e (inl refl)))
+          (subst (λ x. L (entry s i) (entry s x)) (eqb-true _ _ e) (stay (entry s i)))
+      at_root false e k = step_on (entry s i) (further s i) (bump (entry s i)) (k (bump (entry s i)) (rw e (inl refl))) (stay (entry s i))
+  way_through (Reducescatter o a b) r h i l = down i l (third P s pos o 0 (result_block s) h i l)
+    where
+      down : (v : ℕ) → v < count s → P (further s (count s + v)) (result_block s v) → L (entry s v) (further s (count s + v))
+      down zero k w =
+          step_on (entry s 0) (further s (count s + 0)) (result_put s 0) (w (result_put s 0) (inl refl))
+          (to_tree o 0 0 0 k (turned_none 0 k) (tree o 0 (map (result_block s) (places s)) h))
+      down (suc v) k w =
+          step_on (entry s (suc v)) (further s (count s + suc v)) (bump (up_number s (suc v)))
+          (w (bump (up_number s (suc v))) (inl refl))
+          (to_tree o 0 (suc v) (suc v) k (turned_none (suc v) k) (tree o 0 (map (result_block s) (places s)) h))
+  way_through (Exscan o a b) r h zero l =
+      to_scan o (scans o (map (shifted s) (from_to 0 (count s - 1))) h) (rounds (count s)) 0 (le_refl (rounds (count s))) l
+  way_through (Exscan o a b) r h (suc j) l =
+      step_on (entry s (suc j)) (further s (suc (rounds (count s)) * count s + j)) (bump (scan_number s (rounds (count s)) (suc j)))
+      ((shifted_at P s pos o h j l) (bump (scan_number s (rounds (count s)) (suc j))) (inl refl))
+      (to_scan o (scans o (map (shifted s) (from_to 0 (count s - 1))) h) (rounds (count s)) (suc j) (le_refl (rounds (count s))) l)
+  way_through (Gatherv root a b) r h i l = at_root (i == root) refl
+    where
+      at_root : (t : Bool) → (i == root) ≡ t → L (entry s i) (cond t (giving (further s 0)) (passing (entry s i))).exit
+      at_root true e =
+          step_on (entry s i) (further s 0) (bump (entry s root))
+          ((alone P s pos (held_entry s) (concatenated s root) h) (bump (entry s root)) (inl refl))
+          (subst (λ x. L (entry s i) (entry s x)) (eqb-true _ _ e) (stay (entry s i)))
+      at_root false e = stay (entry s i)

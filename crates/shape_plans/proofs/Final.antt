@@ -29,8 +29,10 @@ use Rattle.plan_steps.proofs.Drawn.{Extends, drawn_all, extends-all, extends-ref
 use Rattle.plan_steps.proofs.Lengths.{length-value}
 use Rattle.plan_steps.proofs.barrier.Laws.{round-comes, round-inside, round-stays}
 use Rattle.plan_steps.proofs.RoundCounts.{rounds-enough}
-use Rattle.shape_plans.specs.Steps.{cells_of}
-use Rattle.shape_plans.specs.Drawing.{Drawing, drawing_of, drawn_inputs, drawn_step, drawn_upto, plan_of, site}
+use Rattle.plan_steps.specs.Collectives.{cells_of}
+use Rattle.shape_plans.specs.Drawing.{drawing_of, drawn_inputs, drawn_upto, plan_of}
+use Rattle.plan_steps.specs.declared.drawing.Drawing.{Drawing}
+use Rattle.plan_steps.specs.Drawing.{drawn_step, site}
 use Rattle.shape_plans.specs.Footprint.{Excess, Refused, footprint, judged, refusal, refusal_from, refused_at, size_of}
 use Rattle.shape_plans.specs.Judging.{inputs_size}
 use Rattle.shape_plans.proofs.Sizes.{size-inputs}

@@ -20,12 +20,13 @@ use Rattle.plan_steps.specs.StepContext.{StepContext}
 use Rattle.plan_steps.specs.Sounding.{EachAt, with_cells}
 use Rattle.plan_steps.specs.Steps.{end_at, exits_by, held_by, passing}
 use Rattle.plan_steps.specs.declared.ends.StepExit.{StepExit}
-use Rattle.shape_plans.proofs.ByCollective.{Kind, after_bytes, after_ty, held_here, held_there, kind_of}
+use Rattle.coll_shape.proofs.ByCollective.{after_ty}
+use Rattle.shape_plans.proofs.ByCollective.{Kind, after_bytes, held_here, held_there, kind_of}
 use Rattle.shape_plans.proofs.ByCollective.Kind.{Makes, Plain}
 use Rattle.shape_plans.proofs.EveryStep.{bytes_after, exit_node, holder_node}
 use Rattle.shape_plans.proofs.Places.{no-place, place-is, place-of}
 use Rattle.shape_plans.proofs.Whole.{Fine, HeldCell, Inside, inside_all, sound_cells}
-use Rattle.shape_plans.specs.Steps.{cells_of, end_of, ends_of}
+use Rattle.plan_steps.specs.Collectives.{cells_of, end_of, ends_of}
 
 module _ (o : Outline) (m : ℕ) (p : Plan) (h : HeldCells) (e : List ℕ) (g : List ℕ) (step : CollStep) (fine : Fine o m p h e)
     (fits : StepFits o m g step) where

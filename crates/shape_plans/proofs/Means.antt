@@ -10,10 +10,9 @@ use Rattle.plan_core.specs.Values.{Inputs, value}
 use Rattle.plan_core.specs.Sound.{AreInputsOf}
 use Rattle.plan_core.proofs.Lists.{length-map'}
 use Rattle.coll_shape.specs.declared.types.CollStep.{CollStep}
-use Rattle.coll_shape.specs.declared.types.CollStep.TheVariants.{Barrier, Broadcast, Reduce, Allreduce, Gather, Allgather, Alltoall, Scan}
-use Rattle.coll_shape.specs.declared.types.CollStep.TheVariants.{Scatter, Reducescatter, Exscan, Gatherv}
 use Rattle.coll_shape.specs.Outline.{Outline, buffer_at, read_buffer}
-use Rattle.coll_shape.specs.Collectives.{result_of, source_of, is_in, AllHold, list_after}
+use Rattle.coll_shape.specs.Collectives.{AllHold, Asked, HasAsked, HeldAt, HeldAtInBlocks, HeldByAll, HeldByAllInBlocks, HeldBySome}
+use Rattle.coll_shape.specs.Collectives.{Nothing, asks_of, is_in, list_after, result_of, root_of, source_of}
 use Rattle.plan_steps.specs.StepContext.{StepContext, source_at}
 use Rattle.plan_steps.specs.Beginning.{held_after}
 use Rattle.plan_steps.specs.Sounding.{EachAt, Known, with_cells}
@@ -22,15 +21,17 @@ use Rattle.plan_steps.proofs.Grow.{get_or-map}
 use Rattle.plan_steps.proofs.Drawn.{Drawn, Extends, drawn_all, each-same, extends-all}
 use Rattle.plan_steps.proofs.Entries.{get_or-each}
 use Rattle.plan_steps.proofs.Lengths.{length-value}
-use Rattle.shape_plans.specs.Steps.{cells_of, end_of, ends_of}
+use Rattle.plan_steps.specs.Collectives.{cells_of, end_of, ends_of}
 use Rattle.coll_shape.specs.WellFormed.{StepFits, and_one}
 use Rattle.shape_plans.specs.Results.{IsResult}
 use Rattle.coll_shape.specs.Meaning.{at_place, lists_of, made_lists, place_from, taken, type_read, with_step}
 use Rattle.coll_shape.proofs.Asking.{In-is_in}
+use Rattle.coll_shape.proofs.ByCollective.{AskedFits, asked_fits}
 use Rattle.shape_plans.specs.Results.IsResult.{Holds, IsEmpty}
 use Rattle.shape_plans.proofs.Places.{place-of}
-use Rattle.shape_plans.proofs.EveryStep.{AsksValues, step-value}
-use Rattle.shape_plans.proofs.Whole.{Fine, blocks, does_hold, held_is, holder_of, holding, length_is, sound_cells, test_is, whole_site}
+use Rattle.shape_plans.proofs.EveryStep.{AsksValuesSo, step-value}
+use Rattle.shape_plans.proofs.Whole.{Fine, blocks, does_hold, held_is, holder_of, holding, length_is, place_is, sound_cells, test_is}
+use Rattle.shape_plans.proofs.Whole.{whole_site}
 use Rattle.shape_plans.proofs.ByCollective.{Kind, kind_of}
 use Rattle.shape_plans.proofs.Kept.{fine_after, held_new, held_old}
 use Rattle.shape_plans.proofs.ByCollective.Kind.{Makes, Plain}
@@ -146,80 +147,39 @@ module _ (o : Outline) (inputs : Inputs) (all : length inputs ≡ o.inputs) (m :
   abbrev after : (step : CollStep) → StepFits o m g step → Plan
   after step fits = with_cells p (cells_of (site step fits) step)
 
-  abbrev Asked : (step : CollStep) → StepFits o m g step → ℕ → Type 0
-  Asked step fits a =
-      AsksValues (cell (after step fits)) (value (after step fits) inputs) (site step fits) (taken g (lists_of means a)) fits.members.some
+  -- what is asked of the values, where the members have A
+  abbrev ValuesSo : (step : CollStep) → StepFits o m g step → ℕ → Asked → Type 0
+  ValuesSo step fits a w =
+      AsksValuesSo (cell (after step fits)) (value (after step fits) inputs) (site step fits) (taken g (lists_of means a)) fits.members.some
       fits.members.at_most
-      (taken-many o inputs all m p h e means g step fine fit meant fits a) (whole_site o m p h e g step fine fits) step
+      (taken-many o inputs all m p h e means g step fine fit meant fits a) (whole_site o m p h e g step fine fits) w
 
-  asks_values : (step : CollStep) (fits : StepFits o m g step) (a : ℕ) → source_of step ≡ Some a → Asked step fits a
-  asks_values Barrier fits a f = cc
-  asks_values (Broadcast root a' b) fits a f = subst (λ v. Asked (Broadcast root a' b) fits v) (one f)
-      (value_a o inputs all m p h e means g (Broadcast root a' b) fine fit meant fits a' root refl fits.root fits.reads)
+  values_so : (step : CollStep) (fits : StepFits o m g step) (a : ℕ) → source_of step ≡ Some a → (w : Asked) → HasAsked g (buffer_at o a) w
+      → HasAsked g (read_buffer o (source_of step)) w → AskedFits w (root_of step) (source_of step) → ValuesSo step fits a w
+  values_so step fits a f Nothing r b k = absurd (none (sym f ∙ k))
     where
-      one : {a b : ℕ} → Some a ≡ Some b → a ≡ b
-      one h = cc
-  asks_values (Reduce root op a' b) fits a f = subst (λ v. Asked (Reduce root op a' b) fits v) (one f)
-      (all_a o inputs all m p h e means g (Reduce root op a' b) fine fit meant fits a' refl fits.reads)
-    where
-      one : {a b : ℕ} → Some a ≡ Some b → a ≡ b
-      one h = cc
-  asks_values (Allreduce op a' b) fits a f = subst (λ v. Asked (Allreduce op a' b) fits v) (one f)
-      (all_a o inputs all m p h e means g (Allreduce op a' b) fine fit meant fits a' refl fits.reads)
-    where
-      one : {a b : ℕ} → Some a ≡ Some b → a ≡ b
-      one h = cc
-  asks_values (Gather root a' b) fits a f = subst (λ v. Asked (Gather root a' b) fits v) (one f)
-      (all_a o inputs all m p h e means g (Gather root a' b) fine fit meant fits a' refl fits.reads)
-    where
-      one : {a b : ℕ} → Some a ≡ Some b → a ≡ b
-      one h = cc
-  asks_values (Allgather a' b) fits a f = subst (λ v. Asked (Allgather a' b) fits v) (one f)
-      (all_a o inputs all m p h e means g (Allgather a' b) fine fit meant fits a' refl fits.reads)
-    where
-      one : {a b : ℕ} → Some a ≡ Some b → a ≡ b
-      one h = cc
-  asks_values (Alltoall a' b) fits a f = subst (λ v. Asked (Alltoall a' b) fits v) (one f) (
-    all_a o inputs all m p h e means g (Alltoall a' b) fine fit meant fits a' refl fits.reads.0,
-    blocks o m p h e g (Alltoall a' b) fine fits fits.reads.1,
+      none : Some a ≡ None → ⊥
+      none z = cc
+  values_so step fits a f (HeldAt root) r b k =
+      value_a o inputs all m p h e means g step fine fit meant fits a root f (place_is o m p h e g step fine fits root k) r
+  values_so step fits a f (HeldAtInBlocks root) r b k = (
+    value_a o inputs all m p h e means g step fine fit meant fits a root f (place_is o m p h e g step fine fits root k) r.0,
+    blocks o m p h e g step fine fits b.1,
   )
-    where
-      one : {a b : ℕ} → Some a ≡ Some b → a ≡ b
-      one h = cc
-  asks_values (Scan op a' b) fits a f = subst (λ v. Asked (Scan op a' b) fits v) (one f)
-      (all_a o inputs all m p h e means g (Scan op a' b) fine fit meant fits a' refl fits.reads)
-    where
-      one : {a b : ℕ} → Some a ≡ Some b → a ≡ b
-      one h = cc
-  asks_values (Scatter root a' b) fits a f = subst (λ v. Asked (Scatter root a' b) fits v) (one f) (
-    value_a o inputs all m p h e means g (Scatter root a' b) fine fit meant fits a' root refl fits.root fits.reads.0,
-    blocks o m p h e g (Scatter root a' b) fine fits fits.reads.1,
+  values_so step fits a f HeldByAll r b k = all_a o inputs all m p h e means g step fine fit meant fits a f r
+  values_so step fits a f HeldByAllInBlocks r b k = (
+    all_a o inputs all m p h e means g step fine fit meant fits a f r.0,
+    blocks o m p h e g step fine fits b.1,
   )
-    where
-      one : {a b : ℕ} → Some a ≡ Some b → a ≡ b
-      one h = cc
-  asks_values (Reducescatter op a' b) fits a f = subst (λ v. Asked (Reducescatter op a' b) fits v) (one f) (
-    all_a o inputs all m p h e means g (Reducescatter op a' b) fine fit meant fits a' refl fits.reads.0,
-    blocks o m p h e g (Reducescatter op a' b) fine fits fits.reads.1,
+  values_so step fits a f HeldBySome r b k = (
+    holding o m p h e g step fine fits,
+    λ i l w. value_a o inputs all m p h e means g step fine fit meant fits a i f l (does_hold o m p h e g step fine fits a i f l w),
+    λ i l w. none_a o inputs all m p h e means g step fine fit meant fits a i f l w,
   )
-    where
-      one : {a b : ℕ} → Some a ≡ Some b → a ≡ b
-      one h = cc
-  asks_values (Exscan op a' b) fits a f = subst (λ v. Asked (Exscan op a' b) fits v) (one f)
-      (all_a o inputs all m p h e means g (Exscan op a' b) fine fit meant fits a' refl fits.reads)
-    where
-      one : {a b : ℕ} → Some a ≡ Some b → a ≡ b
-      one h = cc
-  asks_values (Gatherv root a' b) fits a f =
-      subst (λ v. Asked (Gatherv root a' b) fits v) (one f) (
-        holding o m p h e g (Gatherv root a' b) fine fits,
-        λ i l w. value_a o inputs all m p h e means g (Gatherv root a' b) fine fit meant fits a' i refl l
-            (does_hold o m p h e g (Gatherv root a' b) fine fits a' i refl l w),
-        λ i l w. none_a o inputs all m p h e means g (Gatherv root a' b) fine fit meant fits a' i refl l w,
-      )
-    where
-      one : {a b : ℕ} → Some a ≡ Some b → a ≡ b
-      one h = cc
+
+  asks_values : (step : CollStep) (fits : StepFits o m g step) (a : ℕ) → source_of step ≡ Some a → ValuesSo step fits a (asks_of step)
+  asks_values step fits a f = values_so step fits a f (asks_of step)
+      (subst (λ v. HasAsked g (read_buffer o v) (asks_of step)) f fits.reads) fits.reads (asked_fits step)
 
   module _ (step : CollStep) (fits : StepFits o m g step) where
     means_old : (a b : ℕ) → b < m → lists_of (with_step o.ranks g (type_read o step) step means (Some a)) b ≡ lists_of means b

@@ -9,10 +9,11 @@ use Rattle.plan_core.specs.Plan.{Plan, from_to}
 use Rattle.plan_core.specs.declared.Cell.{Cell}
 use Rattle.plan_steps.proofs.StepSizes.{bytes-cons, bytes-row, links-row}
 use Rattle.shape_plans.proofs.ByCollective.{bytes-of_step, links-of_step}
-use Rattle.shape_plans.specs.Drawing.{drawn_inputs, drawn_upto, input_cell, site}
+use Rattle.shape_plans.specs.Drawing.{drawn_inputs, drawn_upto, input_cell}
+use Rattle.plan_steps.specs.Drawing.{site}
 use Rattle.shape_plans.specs.Footprint.{judged, refusal, refusal_from, refused_at, size_of}
 use Rattle.shape_plans.specs.Judging.{AreSteps, add_sizes, found_from, inputs_size, size_upto}
-use Rattle.shape_plans.specs.Steps.{cells_of}
+use Rattle.plan_steps.specs.Collectives.{cells_of}
 use Rattle.std.proofs.lemmas.List.Sums.{sum_by-cons, sum_by-append}
 
 -- ---- a plan and what is drawn after it

@@ -18,9 +18,11 @@ use Rattle.plan_steps.specs.Drawing.{IsBegun}
 use Rattle.plan_steps.proofs.Settled.{buffers-held_by, length-exits_by, ranks-held_by}
 use Rattle.plan_steps.proofs.StepSizes.{links-row}
 use Rattle.shape_plans.specs.declared.footprints.Size.{Size}
-use Rattle.shape_plans.specs.Steps.{cells_of, ends_of}
-use Rattle.shape_plans.specs.Drawing.{Drawing, drawing_of, drawn_input, drawn_inputs, drawn_step, drawn_upto, hold_row, input_cell, opened}
-use Rattle.shape_plans.specs.Drawing.{site}
+use Rattle.plan_steps.specs.Collectives.{cells_of, ends_of}
+use Rattle.shape_plans.specs.Drawing.{drawing_of, drawn_input, drawn_inputs, drawn_upto, hold_row, input_cell, opened}
+use Rattle.plan_steps.specs.declared.drawing.Drawing.{Drawing}
+use Rattle.plan_steps.specs.Drawing.{drawn_step}
+use Rattle.plan_steps.specs.Drawing.{site}
 use Rattle.shape_plans.specs.declared.faults.CompileFault.{CompileFault}
 use Rattle.shape_plans.specs.declared.faults.CompileFault.TheVariants.{TooMany, TooLarge, NoMemory}
 use Rattle.shape_plans.specs.Footprint.{judged}

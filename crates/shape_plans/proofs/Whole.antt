@@ -1,6 +1,6 @@
 -- What is kept from step to step, and why each step's cells are sound.
 use Rattle.std.proofs.Common.{ℕ, Bool, true, ◌+◌, ◌-◌, ◌*◌, ◌/◌, ◌%◌, ◌≡◌, ◌≤◌, ◌<◌, List, [], ◌∷◌, refl, length, get_or, ap, ◌∙◌, sym}
-use Rattle.std.proofs.Common.{subst, arith, Some, None, div-add-mod'}
+use Rattle.std.proofs.Common.{subst, arith, Some, None, div-add-mod', inl, inr, ◌⊎◌}
 use Rattle.std.proofs.Math.Nat.{mod-eq_of_lt, add-mul-mod_self_right, mul-div_right}
 use Rattle.op_laws.proofs.Bytes.{bytes-pos}
 use Rattle.ptl_types.specs.Operations.{bytes_of}
@@ -10,10 +10,10 @@ use Rattle.plan_core.specs.Members.{In}
 use Rattle.plan_core.specs.Plan.{Plan, cell}
 use Rattle.coll_shape.specs.declared.types.Buffer.{Buffer}
 use Rattle.coll_shape.specs.declared.types.CollStep.{CollStep}
-use Rattle.coll_shape.specs.declared.types.CollStep.TheVariants.{Barrier, Broadcast, Reduce, Allreduce, Gather, Allgather, Alltoall, Scan}
-use Rattle.coll_shape.specs.declared.types.CollStep.TheVariants.{Scatter, Reducescatter, Exscan, Gatherv}
+use Rattle.coll_shape.specs.declared.types.CollStep.TheVariants.{Barrier}
 use Rattle.coll_shape.specs.Outline.{Outline, buffer_at, list_bytes, read_buffer}
-use Rattle.coll_shape.specs.Collectives.{source_of, is_in, AllHold, HasBlocks}
+use Rattle.coll_shape.specs.Collectives.{AllHold, Asked, HasAsked, HasBlocks, HeldAt, HeldAtInBlocks, HeldByAll, HeldByAllInBlocks}
+use Rattle.coll_shape.specs.Collectives.{HeldBySome, IsPlace, Nothing, asks_of, is_in, result_of, root_of, source_of}
 use Rattle.plan_steps.specs.StepContext.{StepContext, exit_at, source_at}
 use Rattle.plan_steps.specs.Beginning.{or_0, site_of, source_in}
 use Rattle.plan_steps.specs.Sounding.{EachAt, Ground, HasA, SoundNewCell, WellBuilt, with_cell, with_cells}
@@ -21,10 +21,11 @@ use Rattle.plan_steps.proofs.Grow.{cell-new, get_or-map, length-cells}
 use Rattle.plan_steps.proofs.Drawn.{Extends, extends-all}
 use Rattle.plan_steps.proofs.Entries.{cells_all}
 use Rattle.plan_steps.proofs.HeldSizes.{is_in-filter}
-use Rattle.shape_plans.specs.Steps.{cells_of}
+use Rattle.plan_steps.specs.Collectives.{cells_of}
 use Rattle.coll_shape.specs.WellFormed.{StepFits}
 use Rattle.coll_shape.proofs.Asking.{is_in-In}
-use Rattle.shape_plans.proofs.EveryStep.{Asks, Blocks, Holding, step-sound}
+use Rattle.coll_shape.proofs.ByCollective.{AskedFits, asked_fits, has_both}
+use Rattle.shape_plans.proofs.EveryStep.{Asks, AsksSo, Blocks, Holding, step-sound}
 
 -- ---- what is kept
 pub record HeldCell (p : Plan) (h : HeldCells) (b r : ℕ) (x : Buffer) : Type 0 where
@@ -162,34 +163,29 @@ module _ (o : Outline) (m : ℕ) (p : Plan) (h : HeldCells) (e : List ℕ) (g : 
   does_hold a i f l w = subst (λ v. In (get_or g i 0) (read_buffer o v).spread.holders) f
       (is_in-In (get_or g i 0) (read_buffer o (source_of step)).spread.holders (sym (test_is i l) ∙ w))
 
+  pub place_is : (root : ℕ) → root_of step ≡ Some root → root < length g
+  place_is root k = subst (IsPlace (length g)) k fits.root
+
+  -- what is asked of A, where the members have it
+  pub asks_so : (a : ℕ) → source_of step ≡ Some a → (w : Asked) → HasAsked g (buffer_at o a) w
+      → HasAsked g (read_buffer o (source_of step)) w → AskedFits w (root_of step) (source_of step) → AsksSo (cell q) s w
+  asks_so a f Nothing r b k = tt
+  asks_so a f (HeldAt root) r b k = has a root f (place_is root k) r
+  asks_so a f (HeldAtInBlocks root) r b k = (has a root f (place_is root k) r.0, blocks b.1)
+  asks_so a f HeldByAll r b k = all_have a f r
+  asks_so a f HeldByAllInBlocks r b k = (all_have a f r.0, blocks b.1)
+  asks_so a f HeldBySome r b k = (holding, λ i l w. has a i f l (does_hold a i f l w))
+
 module _ (o : Outline) (m : ℕ) (p : Plan) (h : HeldCells) (e : List ℕ) (g : List ℕ) (fine : Fine o m p h e) where
   pub asks : (step : CollStep) → (fits : StepFits o m g step) → Asks (cell (q o m p h e g step fine fits)) (s o m p h e g step fine fits)
       step
-  asks Barrier fits = tt
-  asks (Broadcast root a b) fits = has o m p h e g (Broadcast root a b) fine fits a root refl fits.root fits.reads
-  asks (Reduce root op a b) fits = all_have o m p h e g (Reduce root op a b) fine fits a refl fits.reads
-  asks (Allreduce op a b) fits = all_have o m p h e g (Allreduce op a b) fine fits a refl fits.reads
-  asks (Gather root a b) fits = all_have o m p h e g (Gather root a b) fine fits a refl fits.reads
-  asks (Allgather a b) fits = all_have o m p h e g (Allgather a b) fine fits a refl fits.reads
-  asks (Alltoall a b) fits = (
-    all_have o m p h e g (Alltoall a b) fine fits a refl fits.reads.0,
-    blocks o m p h e g (Alltoall a b) fine fits fits.reads.1,
-  )
-  asks (Scan op a b) fits = all_have o m p h e g (Scan op a b) fine fits a refl fits.reads
-  asks (Scatter root a b) fits = (
-    has o m p h e g (Scatter root a b) fine fits a root refl fits.root fits.reads.0,
-    blocks o m p h e g (Scatter root a b) fine fits fits.reads.1,
-  )
-  asks (Reducescatter op a b) fits = (
-    all_have o m p h e g (Reducescatter op a b) fine fits a refl fits.reads.0,
-    blocks o m p h e g (Reducescatter op a b) fine fits fits.reads.1,
-  )
-  asks (Exscan op a b) fits = all_have o m p h e g (Exscan op a b) fine fits a refl fits.reads
-  asks (Gatherv root a b) fits = (
-    holding o m p h e g (Gatherv root a b) fine fits,
-    λ i l w. has o m p h e g (Gatherv root a b) fine fits
-        a i refl l (does_hold o m p h e g (Gatherv root a b) fine fits a i refl l w),
-  )
+  asks step fits = by (has_both step)
+    where
+      by : (step ≡ Barrier) ⊎ ((a : ℕ) × (b : ℕ) × (source_of step ≡ Some a) × (result_of step ≡ Some b))
+          → Asks (cell (q o m p h e g step fine fits)) (s o m p h e g step fine fits) step
+      by (inl z) = subst (AsksSo (cell (q o m p h e g step fine fits)) (s o m p h e g step fine fits)) (ap asks_of (sym z)) tt
+      by (inr x) = asks_so o m p h e g step fine fits x.0 x.2 (asks_of step)
+          (subst (λ v. HasAsked g (read_buffer o v) (asks_of step)) x.2 fits.reads) fits.reads (asked_fits step)
 
   pub sound_cells : (step : CollStep) → (fits : StepFits o m g step) → EachAt (SoundNewCell p.ranks (cell (q o m p h e g step fine fits)))
       (length p.cells) (cells_of (s o m p h e g step fine fits) step)

@@ -6,10 +6,8 @@ use Rattle.plan_core.specs.Draw.{NewCell, HeldCells, add_all, go_plan, hold, new
 use Rattle.coll_shape.specs.declared.types.Buffer.{Buffer}
 use Rattle.coll_shape.specs.Outline.{Outline, buffer_at, group_at, list_bytes, step_at}
 use Rattle.plan_steps.specs.StepContext.{bump}
--- a plan with the cell of each buffer at each rank, and the exit at each rank
-pub use Rattle.plan_steps.specs.declared.drawing.Drawing.{Drawing}
--- what a step begins with, and what it leaves
-pub use Rattle.plan_steps.specs.Drawing.{site, drawn_step}
+use Rattle.plan_steps.specs.declared.drawing.Drawing.{Drawing}
+use Rattle.plan_steps.specs.Drawing.{drawn_step}
 
 -- the go cells
 abbrev pub opened : Outline → Drawing

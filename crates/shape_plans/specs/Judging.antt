@@ -6,7 +6,8 @@ use Rattle.shape_plans.specs.Footprint.Excess.{Links, Bytes}
 use Rattle.shape_plans.specs.declared.footprints.Size.{Size}
 use Rattle.shape_plans.specs.declared.faults.CompileFault.{CompileFault}
 use Rattle.shape_plans.specs.declared.faults.CompileFault.TheVariants.{TooMany, TooLarge, NoMemory}
-use Rattle.shape_plans.specs.Footprint.{judged, refused_at, Refused, step_bytes, step_links}
+use Rattle.plan_steps.specs.Collectives.{step_bytes, step_links}
+use Rattle.shape_plans.specs.Footprint.{judged, refused_at, Refused}
 
 -- what step k adds
 abbrev pub step_size : Outline → ℕ → Size

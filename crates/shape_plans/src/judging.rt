@@ -4,8 +4,9 @@ ghost use Rattle.std.specs.Prelude.{◌≡◌, ◌≤◌, ◌<◌, ◌^◌, leng
 ghost use Rattle.shape_plans.specs.Judging.{Judges, add_sizes, inputs_size, step_size};
 
 use crate::faults::CompileFault;
-use crate::footprints::{Size, step_bytes, step_links};
+use crate::footprints::Size;
 use coll_shape::{Shape, holders_among};
+use plan_steps::{step_bytes, step_links};
 
 /// The most links of a plan.
 pub const MOST_LINKS: u64 = 500_000;

@@ -12,8 +12,9 @@ ghost use Rattle.coll_shape.specs.Outline.{Outline, buffer_at, group_at, step_at
 ghost use Rattle.coll_shape.specs.WellFormed.{IsWellFormed};
 ghost use Rattle.plan_steps.specs.StepContext.{entry, in_row};
 ghost use Rattle.plan_steps.specs.Rounds.{rounds};
-ghost use Rattle.shape_plans.specs.Steps.{end_of};
-ghost use Rattle.shape_plans.specs.Drawing.{drawing_of, drawn_upto, plan_of, site};
+ghost use Rattle.plan_steps.specs.Collectives.{end_of};
+ghost use Rattle.shape_plans.specs.Drawing.{drawing_of, drawn_upto, plan_of};
+ghost use Rattle.plan_steps.specs.Drawing.{site};
 ghost use Rattle.shape_plans.specs.Footprint.{refusal};
 ghost use Rattle.shape_plans.specs.declared.judging.TheConstants.{MOST_LINKS};
 ghost use Rattle.shape_plans.specs.Results.{IsResultCell};

@@ -24,9 +24,11 @@ use Rattle.shape_plans.proofs.Begin.{begun, fine-begun}
 use Rattle.shape_plans.proofs.Kept.{exit_now, fine_after}
 use Rattle.shape_plans.proofs.Places.{place-is, place-of}
 use Rattle.shape_plans.proofs.Whole.{Fine, sound_cells}
-use Rattle.shape_plans.specs.Drawing.{drawing_of, drawn_inputs, drawn_step, drawn_upto, plan_of, site}
-use Rattle.shape_plans.specs.Steps.{cells_of}
-use Rattle.step_laws.proofs.Through.{Linked, onward, through, waits}
+use Rattle.shape_plans.specs.Drawing.{drawing_of, drawn_inputs, drawn_upto, plan_of}
+use Rattle.plan_steps.specs.Drawing.{drawn_step, site}
+use Rattle.plan_steps.specs.Collectives.{cells_of}
+use Rattle.shape_plans.proofs.EveryStep.{Linked, waits}
+use Rattle.step_laws.proofs.Through.{onward, through}
 use Rattle.step_laws.specs.Order.{IsAt, entry_cell, exit_cell, site_at}
 
 -- ---- chains of links

@@ -6,7 +6,7 @@ use Rattle.plan_core.specs.Plan.{Plan, from_to}
 use Rattle.plan_steps.proofs.Bridge.{add_all-with}
 use Rattle.plan_steps.specs.Sounding.{with_cell, with_cells}
 use Rattle.shape_plans.specs.Drawing.{drawing_of, drawn_inputs, drawn_upto, input_cell, plan_of}
-use Rattle.shape_plans.specs.Steps.{cells_of}
+use Rattle.plan_steps.specs.Collectives.{cells_of}
 use Rattle.step_laws.specs.Order.{site_at}
 
 same_with : (p : Plan) (ns : List NewCell) → (with_cells p ns).remote ≡ p.remote

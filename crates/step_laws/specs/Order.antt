@@ -2,8 +2,9 @@
 use Rattle.std.specs.Prelude.{ℕ, ◌<◌, ◌≡◌, length, get_or}
 use Rattle.coll_shape.specs.Outline.{Outline, group_at, step_at}
 use Rattle.plan_steps.specs.StepContext.{StepContext, entry}
-use Rattle.shape_plans.specs.Drawing.{drawn_upto, site}
-use Rattle.shape_plans.specs.Steps.{end_of}
+use Rattle.shape_plans.specs.Drawing.{drawn_upto}
+use Rattle.plan_steps.specs.Drawing.{site}
+use Rattle.plan_steps.specs.Collectives.{end_of}
 
 -- rank r is a member of step k, at place i
 pub record IsAt (o : Outline) (k i r : ℕ) : Type 0 where

@@ -22,7 +22,7 @@ use Rattle.cuts.specs.histories.System.{Histories, System, sent_by}
 use Rattle.plan_steps.specs.Sounding.{with_cells}
 use Rattle.cuts.specs.machine.Machine.{Leads}
 use Rattle.cuts.specs.machine.Machine.Leads.{along, here}
-use Rattle.plan_steps.specs.Barrier.{barrier_cells}
+use Rattle.plan_steps.specs.Collectives.Barrier.{barrier_cells}
 use Rattle.plan_steps.specs.Rounds.{rounds}
 use Rattle.cuts.specs.start.Start.{bring, cell_started}
 use Rattle.plan_steps.specs.StepContext.{StepContext}

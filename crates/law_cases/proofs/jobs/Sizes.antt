@@ -10,7 +10,8 @@ use Rattle.plan_steps.specs.Steps.{exits_by, held_by}
 use Rattle.plan_steps.specs.Trees.{parent}
 use Rattle.plan_steps.specs.Rounds.{rounds}
 use Rattle.shape_plans.specs.Drawing.{drawn_inputs, drawn_upto, hold_row}
-use Rattle.shape_plans.specs.Footprint.{footprint, judged, refusal, refused_at, step_bytes, step_links}
+use Rattle.plan_steps.specs.Collectives.{step_bytes, step_links}
+use Rattle.shape_plans.specs.Footprint.{footprint, judged, refusal, refused_at}
 use Rattle.shape_plans.specs.Footprint.Excess.{Bytes, Links}
 use Rattle.shape_plans.specs.Judging.{size_upto}
 use Rattle.law_cases.proofs.jobs.Job.{job}

@@ -1,8 +1,8 @@
 -- An allgather is sound, and each place has all lists: they go round a ring.
 use Rattle.std.proofs.Common.{ℕ, zero, suc, ◌+◌, ◌-◌, ◌*◌, ◌%◌, ◌≡◌, ◌<◌, List, ◌++◌, refl, length, map, flat_map, ap, ◌∙◌, sym, subst}
-use Rattle.std.proofs.Common.{arith, mod-lt}
+use Rattle.std.proofs.Common.{arith, mod-lt, ap₂}
 use Rattle.op_laws.proofs.Bytes.{part_all}
-use Rattle.plan_core.specs.Draw.{NewCell}
+use Rattle.plan_core.specs.Draw.{NewCell, links_of, bytes_in}
 use Rattle.plan_core.specs.Plan.{from_to}
 use Rattle.plan_core.specs.declared.Cell.{Cell}
 use Rattle.plan_steps.proofs.CellKinds.{gathering-sound, gathering-value, taking-sound, taking-value}
@@ -11,11 +11,13 @@ use Rattle.plan_steps.proofs.Entries.{Ground, HasA, IsCell, Known, behind, both_
 use Rattle.plan_steps.proofs.Folds.{Turned, turn}
 use Rattle.plan_steps.proofs.Folds.Turned.{Above, Below}
 use Rattle.plan_steps.proofs.Trees.{entry-cells, entry-known}
-use Rattle.plan_steps.specs.Allgather.{allgather_cells, collected, origin, ring_cell, ring_node}
-use Rattle.plan_steps.specs.StepContext.{StepContext, count, entry, full_entry, further, places, rank_at, rows, source_at}
+use Rattle.plan_steps.specs.Collectives.Allgather.{allgather_cells, collected, origin, ring_cell, ring_node, collect_link}
+use Rattle.plan_steps.specs.StepContext.{StepContext, count, entry, full_entry, further, places, rank_at, rows, source_at, entries}
 use Rattle.plan_steps.specs.Sounding.{EachAt, SoundNewCell}
 use Rattle.ptl_types.specs.Operations.{bytes_of}
 use Rattle.std.proofs.Math.Nat.{mul-le-mul_right}
+use Rattle.plan_core.proofs.Drawing.{length-row}
+use Rattle.plan_steps.proofs.StepSizes.{links-append, bytes-append, links-row, bytes-row, links-rows, bytes-rows}
 
 module _ (k : ℕ → Cell) (s : StepContext) where
   abbrev ring_rows : List NewCell
@@ -140,3 +142,26 @@ module _ (k : ℕ → Cell) (s : StepContext) where
           (ring-at (Known k val) known d ((r + (count s - 1)) % count s) (omega arith) n).is_long
           ∙ ring d ((r + (count s - 1)) % count s) (omega arith) n
           ∙ ap x (origin-next d r h i)
+
+-- ---- its links and bytes, in closed form
+pub allgather-links : (s : StepContext) → links_of (allgather_cells s) ≡ 2 * count s + 2 * (count s * count s)
+allgather-links s =
+    let m = count s in
+    let a = links-append (entries s) (rows s (ring_node s) 0 m ++ map (collected s) (places s)) in
+    let b = links-append (rows s (ring_node s) 0 m) (map (collected s) (places s)) in
+    let c = links-row (full_entry s) 0 m 2 (λ i. refl) in
+    let d = links-rows s (ring_node s) 0 m 1 (λ k i. refl) in
+    let e = links-row (collected s) 0 m m (λ i. length-row (collect_link s i) 0 m) in
+    a ∙ ap₂ (λ x y. x + y) c (b ∙ ap₂ (λ x y. x + y) d e) ∙ (let z : m * 2 + (m * (m * 1) + m * m) ≡ 2 * m + 2 * (m * m) = omega arith in z)
+
+pub allgather-bytes : (s : StepContext) → bytes_in (allgather_cells s) ≡ count s * s.length + 2 * (count s * (count s * s.length))
+allgather-bytes s =
+    let m = count s in
+    let n = s.length in
+    let a = bytes-append (entries s) (rows s (ring_node s) 0 m ++ map (collected s) (places s)) in
+    let b = bytes-append (rows s (ring_node s) 0 m) (map (collected s) (places s)) in
+    let c = bytes-row (full_entry s) 0 m n (λ i. refl) in
+    let d = bytes-rows s (ring_node s) 0 m n (λ k i. refl) in
+    let e = bytes-row (collected s) 0 m (m * n) (λ i. refl) in
+    a ∙ ap₂ (λ x y. x + y) c (b ∙ ap₂ (λ x y. x + y) d e) ∙ (let z : m * n + (m * (m * n) + m * (m * n)) ≡ m * n + 2 * (m * (m * n)) =
+    omega arith in z)

@@ -1,18 +1,20 @@
 -- An allreduce is sound, and each place has the fold of all.
-use Rattle.std.proofs.Common.{ℕ, ◌+◌, ◌-◌, ◌%◌, ◌≡◌, ◌<◌, List, ◌++◌, length, map, ap, ◌∙◌, subst, arith}
+use Rattle.std.proofs.Common.{ℕ, ◌+◌, ◌-◌, ◌%◌, ◌≡◌, ◌<◌, List, ◌++◌, length, map, ap, ◌∙◌, subst, arith, ◌*◌, refl}
 use Rattle.coll_shape.specs.Folding.{folded}
-use Rattle.plan_core.specs.Draw.{NewCell, cell_of}
+use Rattle.plan_core.specs.Draw.{NewCell, cell_of, links_of, bytes_in}
 use Rattle.plan_core.specs.Plan.{from_to}
 use Rattle.plan_core.specs.declared.Cell.{Cell}
 use Rattle.plan_steps.proofs.Entries.{Ground, HasA, IsCell, Known, behind, both_parts, entries-sound}
 use Rattle.plan_steps.proofs.Trees.{down, down-sound, down-value, up-at, up-sound, up-value, entry-cells, entry-known}
-use Rattle.plan_steps.specs.Allreduce.{allreduce_cells}
-use Rattle.plan_steps.specs.StepContext.{StepContext, count, full_entry, further, source_at}
+use Rattle.plan_steps.specs.Collectives.Allreduce.{allreduce_cells, result_cell}
+use Rattle.plan_steps.specs.StepContext.{StepContext, count, full_entry, further, source_at, places, entries}
 use Rattle.plan_steps.specs.Sounding.{EachAt, SoundNewCell}
 use Rattle.plan_steps.specs.Trees.{up, up_cell, up_number}
 use Rattle.ptl_types.specs.Elements.{starting}
 use Rattle.ptl_types.specs.Operations.{bytes_of}
 use Rattle.ptl_types.specs.declared.elements.AtomicOp.{AtomicOp}
+use Rattle.plan_steps.proofs.StepSizes.{links-append, bytes-append, bytes-row, first-shorter, entry-links, entry-bytes, up-bytes}
+use Rattle.plan_steps.proofs.TreeSizes.{up-links}
 
 module _ (k : ℕ → Cell) (s : StepContext) (o : AtomicOp) where
   abbrev back : List NewCell
@@ -52,3 +54,22 @@ module _ (k : ℕ → Cell) (s : StepContext) (o : AtomicOp) where
       ∙ down-value k s 0 (further s (count s)) (up_number s 0) (up_number s) val (last_part (Known k val) ups)
       (up-at k s 0 o (Known k val) firsts 0 pos).is_long i h
       ∙ up-value k s 0 o val x pos whole (entry-known k val x s (up s 0 o ++ back) known has) firsts
+
+-- ---- its links and bytes, in closed form
+pub allreduce-links : (s : StepContext) (o : AtomicOp) → 0 < count s →
+    links_of (allreduce_cells s o) ≡ 2 * count s + (count s + (count s - 1)) + (1 + 2 * (count s - 1))
+allreduce-links s o pos =
+    let a = links-append (entries s) (up s 0 o ++ map (result_cell s) (places s)) in
+    let b = links-append (up s 0 o) (map (result_cell s) (places s)) in
+    let c = entry-links s in
+    let d = up-links s 0 o pos in
+    let e = first-shorter (result_cell s) (count s) pos refl (λ i. refl) in
+    omega (arith, a, b, c, d, e)
+
+pub allreduce-bytes : (s : StepContext) (o : AtomicOp) → bytes_in (allreduce_cells s o) ≡ 3 * (count s * s.length)
+allreduce-bytes s o =
+    let a = bytes-append (entries s) (up s 0 o ++ map (result_cell s) (places s)) in
+    let b = bytes-append (up s 0 o) (map (result_cell s) (places s)) in
+    let c = entry-bytes s in let d = up-bytes s 0 o in
+    let e = bytes-row (result_cell s) 0 (count s) s.length (λ i. refl) in
+    omega (arith, a, b, c, d, e)

@@ -1,17 +1,20 @@
 -- An alltoall is sound, and each place has its blocks: m bytes for each place.
-use Rattle.std.proofs.Common.{ℕ, suc, ◌+◌, ◌*◌, ◌/◌, ◌%◌, ◌≡◌, ◌≤◌, ◌<◌, List, length, flat_map, ap, ◌∙◌, sym, arith}
+use Rattle.std.proofs.Common.{ℕ, suc, ◌+◌, ◌*◌, ◌/◌, ◌%◌, ◌≡◌, ◌≤◌, ◌<◌, List, length, flat_map, ap, ◌∙◌, sym, arith, refl, map, ap₂}
 use Rattle.op_laws.proofs.Bytes.{length-part}
 use Rattle.plan_core.specs.Plan.{from_to}
 use Rattle.plan_core.specs.declared.Cell.{Cell}
 use Rattle.plan_steps.proofs.CellKinds.{gathering, gathering-sound, gathering-value}
 use Rattle.plan_steps.proofs.Entries.{Ground, HasA, IsCell, Known, behind, both_parts, each_places, entries-sound, of_places}
 use Rattle.plan_steps.proofs.Trees.{entry-cells, entry-known}
-use Rattle.plan_steps.specs.Alltoall.{alltoall_cells}
-use Rattle.plan_steps.specs.StepContext.{StepContext, count, entry, full_entry, further, rank_at, source_at}
+use Rattle.plan_steps.specs.Collectives.Alltoall.{alltoall_cells, exchange_link, exchanged}
+use Rattle.plan_steps.specs.StepContext.{StepContext, count, entry, full_entry, further, rank_at, source_at, places, entries}
 use Rattle.plan_steps.specs.Sounding.{EachAt, SoundNewCell}
 use Rattle.ptl_types.specs.Elements.{part}
 use Rattle.ptl_types.specs.Operations.{bytes_of}
 use Rattle.std.proofs.Math.Nat.{mul-le-mul_right}
+use Rattle.plan_core.proofs.Drawing.{length-row}
+use Rattle.plan_core.specs.Draw.{links_of, bytes_in}
+use Rattle.plan_steps.proofs.StepSizes.{links-append, bytes-append, links-row, bytes-row, entry-bytes}
 
 module _ (k : ℕ → Cell) (s : StepContext) where
   pub alltoall-sound : (ranks m : ℕ) → Ground ranks k s → s.length % bytes_of s.ty ≡ 0 → s.length / count s ≡ m → s.length ≡ count s * m →
@@ -61,3 +64,18 @@ module _ (k : ℕ → Cell) (s : StepContext) where
           let l = mul-le-mul_right (s.length / count s) h in
           let q : count s * (s.length / count s) ≡ s.length = ap (λ v. count s * v) is_m ∙ sym all in
           omega (arith, e, l, q)
+
+-- ---- its links and bytes, in closed form
+pub alltoall-links : (s : StepContext) → links_of (alltoall_cells s) ≡ 2 * count s + count s * count s
+alltoall-links s =
+    let m = count s in
+    links-append (entries s) (map (exchanged s) (places s))
+    ∙ ap₂ (λ x y. x + y) (links-row (full_entry s) 0 m 2 (λ i. refl))
+    (links-row (exchanged s) 0 m m (λ i. length-row (exchange_link s i) 0 m))
+    ∙ (let z : m * 2 + m * m ≡ 2 * m + m * m = omega arith in z)
+
+pub alltoall-bytes : (s : StepContext) → bytes_in (alltoall_cells s) ≡ 2 * (count s * s.length)
+alltoall-bytes s =
+    let a = bytes-append (entries s) (map (exchanged s) (places s)) in let b = entry-bytes s in
+    let c = bytes-row (exchanged s) 0 (count s) s.length (λ i. refl) in
+    omega (arith, a, b, c)

@@ -1,7 +1,7 @@
 -- A barrier is sound, and its exit at a place comes after every entry.
 use Rattle.std.proofs.Common.{ℕ, zero, suc, ◌+◌, ◌-◌, ◌*◌, ◌%◌, ◌^◌, ◌≡◌, ◌≤◌, ◌<◌, List, refl, length, map, ap, ◌∙◌, sym, subst, inl, inr}
-use Rattle.std.proofs.Common.{arith, mod-lt, pow_pos}
-use Rattle.plan_core.specs.Draw.{NewCell}
+use Rattle.std.proofs.Common.{arith, mod-lt, pow_pos, ap₂}
+use Rattle.plan_core.specs.Draw.{NewCell, links_of, bytes_in}
 use Rattle.plan_core.specs.Plan.{Plan, cell}
 use Rattle.plan_core.specs.Rounds.{Comes}
 use Rattle.plan_core.specs.Values.{Inputs}
@@ -12,19 +12,21 @@ use Rattle.plan_steps.proofs.Entries.{Ground, IsCell, bare-sound, behind, both_p
 use Rattle.plan_steps.proofs.Folds.{Turned, turn}
 use Rattle.plan_steps.proofs.Folds.Turned.{Above, Below}
 use Rattle.plan_steps.proofs.RoundCounts.{rounds-at_most}
-use Rattle.plan_steps.specs.Barrier.{barrier_cells, round_links}
+use Rattle.plan_steps.specs.Collectives.Barrier.{barrier_cells, round_links, round_cell, round_rows}
 use Rattle.plan_steps.specs.Rounds.{rounds}
 use Rattle.plan_steps.specs.StepContext.{StepContext, bare_entry, bump, count, entry, in_row, places, put, rank_at, rows, silent}
+use Rattle.plan_steps.specs.StepContext.{bare_entries}
 use Rattle.plan_steps.specs.Sounding.{EachAt, SoundNewCell}
+use Rattle.plan_steps.proofs.StepSizes.{links-append, bytes-append, links-row, bytes-row, links-rows, bytes-rows}
 
 module _ (k : ℕ → Cell) (s : StepContext) where
   abbrev round_node : ℕ → ℕ → NewCell
   round_node j r = silent (rank_at s r) (round_links s j r)
 
-  abbrev round_rows : List NewCell
-  round_rows = rows s round_node 0 (rounds (count s))
+  abbrev each_round : List NewCell
+  each_round = rows s round_node 0 (rounds (count s))
 
-  pub round-at : (P : ℕ → NewCell → Type 0) → EachAt P (s.first + count s) round_rows → (j r : ℕ) → j < rounds (count s) → r < count s →
+  pub round-at : (P : ℕ → NewCell → Type 0) → EachAt P (s.first + count s) each_round → (j r : ℕ) → j < rounds (count s) → r < count s →
       P (in_row s (suc j) r) (round_node j r)
   round-at P h j r i l =
       let z : 0 + j ≡ j = omega arith in
@@ -40,14 +42,14 @@ module _ (k : ℕ → Cell) (s : StepContext) where
       (k (in_row s j r)).rank ≡ rank_at s r
   round_rank cells zero r h i = ap (λ c. (k c).rank) (first_round r)
       ∙ ap (λ (x : Cell). x.rank) (of_places (IsCell k) s s.first (bare_entry s)
-      (each_front (IsCell k) s.first (map (bare_entry s) (places s)) round_rows cells) r i).is_cell
+      (each_front (IsCell k) s.first (map (bare_entry s) (places s)) each_round cells) r i).is_cell
   round_rank cells (suc j) r h i = ap (λ (x : Cell). x.rank)
-      (round-at (IsCell k) (behind (IsCell k) s s.first (bare_entry s) round_rows cells) j r h i).is_cell
+      (round-at (IsCell k) (behind (IsCell k) s s.first (bare_entry s) each_round cells) j r h i).is_cell
 
   pub barrier-sound : (ranks : ℕ) → Ground ranks k s → EachAt (IsCell k) s.first (barrier_cells s) →
       EachAt (SoundNewCell ranks k) s.first (barrier_cells s)
   barrier-sound ranks ground cells =
-      both_parts (SoundNewCell ranks k) s s.first (bare_entry s) round_rows
+      both_parts (SoundNewCell ranks k) s s.first (bare_entry s) each_round
       (bare-sound ranks k s ground)
       (each_rows (SoundNewCell ranks k) (s.first + count s) round_node (count s) 0 (rounds (count s))
       (λ j r h i. let z : j ≡ 0 + j = omega arith in subst (λ v. SoundNewCell ranks k (s.first + count s + (j * count s + r))
@@ -90,3 +92,22 @@ module _ (q : Plan) (inputs : Inputs) (s : StepContext) (pos : 0 < count s) (sma
       ((of_places (Drawn q inputs) s s.first (bare_entry s) (each_front (Drawn q inputs) s.first (map (bare_entry s) (places s))
       (rows s (λ j r. silent (rank_at s r) (round_links s j r)) 0 (rounds (count s))) drawn) r h).in_plan)
   round-inside (suc j) r t h = (there j r t h).in_plan
+
+-- ---- its links and bytes, in closed form
+pub barrier-links : (s : StepContext) → links_of (barrier_cells s) ≡ count s + 2 * (rounds (count s) * count s)
+barrier-links s =
+    let m = count s in
+    let k = rounds (count s) in
+    links-append (bare_entries s) (round_rows s)
+    ∙ ap₂ (λ x y. x + y) (links-row (bare_entry s) 0 m 1 (λ i. refl)) (links-rows s (round_cell s) 0 k 2 (λ k i. refl))
+    ∙ (let z : m * 1 + k * (m * 2) ≡ m + 2 * (k * m) = omega arith in z)
+
+pub barrier-bytes : (s : StepContext) → bytes_in (barrier_cells s) ≡ 0
+barrier-bytes s =
+    let a = bytes-append (bare_entries s) (round_rows s) in
+    let b = bytes-row (bare_entry s) 0 (count s) 0 (λ i. refl) in
+    let c = bytes-rows s (round_cell s) 0 (rounds (count s)) 0 (λ k i. refl) in
+    let d : count s * 0 ≡ 0 = omega arith in
+    let e : rounds (count s) * (count s * 0) ≡ 0 = ap (λ v. rounds (count s) * v) d
+    ∙ (let z : rounds (count s) * 0 ≡ 0 = omega arith in z) in
+    omega (arith, a, b, c, d, e)

@@ -1,23 +1,24 @@
 -- An exclusive scan is sound, and each place but the first has the fold of those before it.
 use Rattle.std.proofs.Common.{ℕ, suc, ◌+◌, ◌-◌, ◌*◌, ◌%◌, ◌≡◌, ◌≤◌, ◌<◌, List, ◌++◌, refl, length, map, ap, ◌∙◌, sym, subst, arith}
-use Rattle.std.proofs.Common.{append_assoc, length-append}
+use Rattle.std.proofs.Common.{append_assoc, length-append, ◌^◌, sum_by, ap₂}
 use Rattle.coll_shape.specs.Folding.{folded}
-use Rattle.plan_core.specs.Draw.{NewCell, cell_of}
+use Rattle.plan_core.specs.Draw.{NewCell, cell_of, links_of, bytes_in}
 use Rattle.plan_core.specs.Plan.{from_to}
 use Rattle.plan_core.specs.declared.Cell.{Cell}
 use Rattle.plan_steps.proofs.CellKinds.{copying-sound, copying-value}
 use Rattle.plan_steps.proofs.Cutting.{front_of, back_of, whole_of}
 use Rattle.plan_steps.proofs.Drawn.{each_map, each_of_map, length-map-from, length-rows}
 use Rattle.plan_steps.proofs.Entries.{Ground, HasA, IsCell, Known, behind}
-use Rattle.plan_steps.proofs.scan.Laws.{scan-at, scan-sound, scan-value}
-use Rattle.plan_steps.specs.Exscan.{exscan_cells, shifted}
+use Rattle.plan_steps.proofs.scan.Laws.{scan-at, scan-sound, scan-value, scan-links}
+use Rattle.plan_steps.specs.Collectives.Exscan.{exscan_cells, shifted}
 use Rattle.plan_steps.specs.Rounds.{rounds}
-use Rattle.plan_steps.specs.Scan.{scan_cell, scan_cells, scan_number, scan_rows}
+use Rattle.plan_steps.specs.Collectives.Scan.{scan_cell, scan_cells, scan_number, scan_rows}
 use Rattle.plan_steps.specs.StepContext.{StepContext, count, entries, full_entry, further, rank_at, source_at}
 use Rattle.plan_steps.specs.Sounding.{EachAt, SoundNewCell}
 use Rattle.ptl_types.specs.Elements.{starting}
 use Rattle.ptl_types.specs.Operations.{bytes_of}
 use Rattle.ptl_types.specs.declared.elements.AtomicOp.{AtomicOp}
+use Rattle.plan_steps.proofs.StepSizes.{links-append, bytes-append, links-row, bytes-row, bytes-rows, entry-bytes}
 
 module _ (k : ℕ → Cell) (s : StepContext) (o : AtomicOp) where
   abbrev last_cells : List NewCell
@@ -84,3 +85,28 @@ module _ (k : ℕ → Cell) (s : StepContext) (o : AtomicOp) where
       ∙ copying-value s.ty s.length (rank_at s (suc j)) (scan_number s (rounds (count s)) (suc j)) (scan_number s (rounds (count s)) j)
       val (scan-at k s o (Known k val) (rows_of (Known k val) known) (rounds (count s)) j (omega arith) (omega arith)).is_long
       ∙ scan-value k s o val x small whole has firsts j (omega arith)
+
+-- ---- its links and bytes, in closed form
+pub exscan-links : (s : StepContext) (o : AtomicOp) → links_of (exscan_cells s o) ≡ 2 * count s + count s + sum_by
+    (λ k. count s + (count s - 2 ^ k)) (from_to 0 (rounds (count s))) + 2 * (count s - 1)
+exscan-links s o =
+    let a = links-append (entries s) (scan_rows s o ++ map (shifted s) (from_to 0 (count s - 1))) in
+    let b = links-append (scan_rows s o) (map (shifted s) (from_to 0 (count s - 1))) in
+    let c = links-append (entries s) (scan_rows s o) in
+    let d = scan-links s o in
+    let e = links-row (shifted s) 0 (count s - 1) 2 (λ i. refl) in
+    omega (arith, a, b, c, d, e)
+
+pub exscan-bytes : (s : StepContext) (o : AtomicOp) → bytes_in (exscan_cells s o) ≡ count s * s.length + suc (rounds (count s)) *
+    (count s * s.length) + (count s - 1) * s.length
+exscan-bytes s o =
+    let a = bytes-append (entries s) (scan_rows s o ++ map (shifted s) (from_to 0 (count s - 1))) in
+    let b = bytes-append (scan_rows s o) (map (shifted s) (from_to 0 (count s - 1))) in
+    let c = entry-bytes s in
+    let d = bytes-rows s (scan_cell s o) 0 (suc (rounds (count s))) s.length (λ k i. refl) in
+    let e = bytes-row (shifted s) 0 (count s - 1) s.length (λ i. refl) in
+    a ∙ ap₂ (λ x y. x + y) c (b ∙ ap₂ (λ x y. x + y) d e)
+    ∙ (let z : count s * s.length + (suc (rounds (count s)) * (count s * s.length) + (count s - 1) * s.length) ≡ count s * s.length + suc
+    (rounds (count s)) * (count s * s.length) + (count s - 1) * s.length =
+    Rattle.std.proofs.Common.sym (Rattle.std.proofs.Common.add_assoc (count s * s.length)
+    (suc (rounds (count s)) * (count s * s.length)) ((count s - 1) * s.length)) in z)

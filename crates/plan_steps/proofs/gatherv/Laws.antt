@@ -1,19 +1,21 @@
 -- A gather of what is held is sound, and the root has the lists of those that hold one.
 use Rattle.std.proofs.Common.{ℕ, zero, suc, Bool, true, false, cond, ◌+◌, ◌*◌, ◌%◌, ◌≡◌, ◌<◌, List, [], ◌∷◌, ◌++◌, refl, length, map}
-use Rattle.std.proofs.Common.{filter, flat_map, get_or, ap, ap₂, ◌∙◌, sym, subst, arith, le_of_suc-le-suc}
+use Rattle.std.proofs.Common.{filter, flat_map, get_or, ap, ap₂, ◌∙◌, sym, subst, arith, le_of_suc-le-suc, ◌≤◌}
 use Rattle.coll_shape.specs.Collectives.{is_in}
 use Rattle.op_laws.proofs.Bytes.{part_all}
-use Rattle.plan_core.specs.Draw.{cell_of}
+use Rattle.plan_core.specs.Draw.{cell_of, NewCell, bytes_in, links_of}
 use Rattle.plan_core.specs.Plan.{from_to}
 use Rattle.plan_core.specs.declared.Cell.{Cell}
 use Rattle.plan_steps.proofs.CellKinds.{bumped-sound, copying-sound, gathering_after-sound, gathering_after-value}
 use Rattle.plan_steps.proofs.Drawn.{each_front}
 use Rattle.plan_steps.proofs.Entries.{behind, both_parts, each_places, entry-value, of_places}
 use Rattle.plan_steps.proofs.HeldSizes.{is_in-filter}
-use Rattle.plan_steps.specs.Gatherv.{concatenated, gatherv_cells, held_entry}
+use Rattle.plan_steps.specs.Collectives.Gatherv.{concatenated, gatherv_cells, held_entry, holder_put}
 use Rattle.plan_steps.specs.StepContext.{StepContext, bare_entry, count, entry, exit_at, full_entry, further, places, rank_at, source_at}
 use Rattle.plan_steps.specs.Sounding.{EachAt, Ground, HasA, IsCell, Known, SoundNewCell}
 use Rattle.ptl_types.specs.Operations.{bytes_of}
+use Rattle.plan_core.proofs.Drawing.{length-row}
+use Rattle.plan_steps.proofs.StepSizes.{links-cons, links-append, bytes-cons, bytes-append}
 
 -- a member of a filtered row is within the row, and has passed the test
 pub filtered-at : (t : ℕ → Bool) (k n j : ℕ) → j < length (filter t (from_to k n)) → (get_or (filter t (from_to k n)) j 0 < k + n) ×
@@ -136,3 +138,79 @@ module _ (k : ℕ → Cell) (s : StepContext) (root : ℕ) (t : ℕ → Bool) (h
           (subst (Known k val (entry s i)) (held-full i e) (of_places (Known k val) s s.first (held_entry s)
           (each_front (Known k val) s.first (map (held_entry s) (places s)) (concatenated s root ∷ []) known) i h))
           (has i h e).1
+
+-- ---- its links and bytes, in closed form
+-- ---- cells that have more where t holds
+links-where : (t : ℕ → Bool) (f : ℕ → NewCell) (k n : ℕ) → ((i : ℕ) → k ≤ i → i < k + n → length (f i).into ≡ cond (t i) 2 1) →
+    links_of (map f (from_to k n)) ≡ n + length (filter t (from_to k n))
+links-where t f k zero h = refl
+links-where t f k (suc n) h = at (t k) refl (links-cons (f k) (map f (from_to (suc k) n)))
+    (h k (let z : k ≤ k = omega arith in z) (omega arith)) (links-where t f (suc k) n (λ i g l. h i (omega arith) (omega arith)))
+  where
+    at : (b : Bool) → t k ≡ b → links_of (f k ∷ map f (from_to (suc k) n)) ≡ length (f k).into + links_of (map f (from_to (suc k) n)) →
+        length (f k).into ≡ cond (t k) 2 1
+        → links_of (map f (from_to (suc k) n)) ≡ n + length (filter t (from_to (suc k) n)) →
+        links_of (f k ∷ map f (from_to (suc k) n)) ≡ suc n + length
+        (cond (t k) (k ∷ filter t (from_to (suc k) n)) (filter t (from_to (suc k) n)))
+    at true e c d r = let g = d ∙ ap (λ b. cond b 2 1) e in let q =
+        ap (λ b. length (cond b (k ∷ filter t (from_to (suc k) n))
+        (filter t (from_to (suc k) n)))) e in omega (arith, c, g, r, q)
+    at false e c d r = let g = d ∙ ap (λ b. cond b 2 1) e in let q =
+        ap (λ b. length (cond b (k ∷ filter t (from_to (suc k) n))
+        (filter t (from_to (suc k) n)))) e in omega (arith, c, g, r, q)
+
+bytes-where : (t : ℕ → Bool) (f : ℕ → NewCell) (a k n : ℕ) → ((i : ℕ) → k ≤ i → i < k + n → (f i).length ≡ cond (t i) a 0) →
+    bytes_in (map f (from_to k n)) ≡ length (filter t (from_to k n)) * a
+bytes-where t f a k zero h = let z : 0 ≡ 0 * a = omega arith in z
+bytes-where t f a k (suc n) h = at (t k) refl (bytes-cons (f k) (map f (from_to (suc k) n)))
+    (h k (let z : k ≤ k = omega arith in z) (omega arith)) (bytes-where t f a (suc k) n (λ i g l. h i (omega arith) (omega arith)))
+  where
+    at : (b : Bool) → t k ≡ b → bytes_in (f k ∷ map f (from_to (suc k) n)) ≡ (f k).length + bytes_in (map f (from_to (suc k) n)) →
+        (f k).length ≡ cond (t k) a 0
+        → bytes_in (map f (from_to (suc k) n)) ≡ length (filter t (from_to (suc k) n)) * a →
+        bytes_in (f k ∷ map f (from_to (suc k) n)) ≡ length
+        (cond (t k) (k ∷ filter t (from_to (suc k) n)) (filter t (from_to (suc k) n))) * a
+    at true e c d r =
+        c ∙ ap₂ (λ x y. x + y) (d ∙ ap (λ b. cond b a 0) e) r
+        ∙ (let z : a + length (filter t (from_to (suc k) n)) * a ≡ suc (length (filter t (from_to (suc k) n))) * a = omega arith in z)
+        ∙ sym (ap (λ b. length (cond b (k ∷ filter t (from_to (suc k) n)) (filter t (from_to (suc k) n))) * a) e)
+    at false e c d r =
+        c ∙ ap₂ (λ x y. x + y) (d ∙ ap (λ b. cond b a 0) e) r
+        ∙ (let z : 0 + length (filter t (from_to (suc k) n)) * a ≡ length (filter t (from_to (suc k) n)) * a = omega arith in z)
+        ∙ sym (ap (λ b. length (cond b (k ∷ filter t (from_to (suc k) n)) (filter t (from_to (suc k) n))) * a) e)
+
+module _ (s : StepContext) (t : ℕ → Bool) (held : s.holding ≡ filter t (from_to 0 (count s))) where
+  holds : (i : ℕ) → i < count s → is_in i s.holding ≡ t i
+  holds i h = ap (is_in i) held ∙ is_in-filter t 0 (count s) i (let z : 0 ≤ i = omega arith in z) (let z : i < 0 + count s =
+      omega arith in z)
+
+  entry-size : (i : ℕ) → i < count s → length (held_entry s i).into ≡ cond (t i) 2 1
+  entry-size i h = ap (λ b. length (cond b (full_entry s i) (bare_entry s i)).into) (holds i h) ∙ at (t i)
+    where
+      at : (b : Bool) → length (cond b (full_entry s i) (bare_entry s i)).into ≡ cond b 2 1
+      at true = refl
+      at false = refl
+
+  entry-bytes : (i : ℕ) → i < count s → (held_entry s i).length ≡ cond (t i) s.length 0
+  entry-bytes i h = ap (λ b. (cond b (full_entry s i) (bare_entry s i)).length) (holds i h) ∙ at (t i)
+    where
+      at : (b : Bool) → (cond b (full_entry s i) (bare_entry s i)).length ≡ cond b s.length 0
+      at true = refl
+      at false = refl
+
+  pub gatherv-links : (root : ℕ) → links_of (gatherv_cells s root) ≡ count s + length s.holding + 1 + length s.holding
+  gatherv-links root =
+      let a = links-append (map (held_entry s) (places s)) (concatenated s root ∷ []) in
+      let b = links-where t (held_entry s) 0 (count s) (λ i g l. entry-size i (let z : i < count s = omega (arith, l) in z)) in
+      let c = links-cons (concatenated s root) [] in
+      let d = length-row (holder_put s) 0 (length s.holding) in
+      let e = ap length held in
+      omega (arith, a, b, c, d, e)
+
+  pub gatherv-bytes : (root : ℕ) → bytes_in (gatherv_cells s root) ≡ 2 * (length s.holding * s.length)
+  gatherv-bytes root =
+      let a = bytes-append (map (held_entry s) (places s)) (concatenated s root ∷ []) in
+      let b = bytes-where t (held_entry s) s.length 0 (count s) (λ i g l. entry-bytes i (let z : i < count s = omega (arith, l) in z))
+      ∙ ap (λ v. length v * s.length) (sym held) in
+      let c = bytes-cons (concatenated s root) [] in
+      omega (arith, a, b, c)

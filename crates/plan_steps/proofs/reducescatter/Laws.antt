@@ -1,8 +1,8 @@
 -- A reduce-scatter is sound, and each place has its block of the fold.
 use Rattle.std.proofs.Common.{ℕ, zero, suc, ◌+◌, ◌-◌, ◌*◌, ◌%◌, ◌≡◌, ◌≤◌, ◌<◌, List, ◌++◌, length, map, ap, ◌∙◌, sym, arith, append_assoc}
-use Rattle.std.proofs.Common.{length-append}
+use Rattle.std.proofs.Common.{length-append, refl, ◌/◌}
 use Rattle.coll_shape.specs.Folding.{folded}
-use Rattle.plan_core.specs.Draw.{NewCell, cell_of}
+use Rattle.plan_core.specs.Draw.{NewCell, cell_of, links_of, bytes_in}
 use Rattle.plan_core.specs.Plan.{from_to}
 use Rattle.plan_core.specs.declared.Cell.{Cell}
 use Rattle.plan_steps.proofs.Cutting.{cutting-sound, cutting_after-sound, cutting-value, cutting_after-value, within, front_of, back_of}
@@ -11,8 +11,8 @@ use Rattle.plan_steps.proofs.Drawn.{length-map-from}
 use Rattle.plan_steps.proofs.Entries.{Ground, HasA, IsCell, Known, behind, each_places, of_places}
 use Rattle.plan_steps.proofs.Trees.{up-at}
 use Rattle.plan_steps.proofs.reduce.Laws.{reduce-sound, reduce-value}
-use Rattle.plan_steps.specs.Reduce.{reduce_cells}
-use Rattle.plan_steps.specs.Reducescatter.{reducescatter_cells, result_block}
+use Rattle.plan_steps.specs.Collectives.Reduce.{reduce_cells}
+use Rattle.plan_steps.specs.Collectives.Reducescatter.{reducescatter_cells, result_block}
 use Rattle.plan_steps.specs.StepContext.{StepContext, count, entries, full_entry, further, places, rank_at, source_at, block_length}
 use Rattle.plan_steps.specs.Sounding.{EachAt, SoundNewCell, new_value}
 use Rattle.plan_steps.specs.Trees.{turned, up, up_cell, up_number}
@@ -20,6 +20,8 @@ use Rattle.ptl_types.specs.Elements.{part, starting}
 use Rattle.ptl_types.specs.Operations.{bytes_of}
 use Rattle.ptl_types.specs.declared.elements.AtomicOp.{AtomicOp}
 use Rattle.std.proofs.Math.Nat.{mod-eq_of_lt}
+use Rattle.plan_steps.proofs.StepSizes.{links-append, bytes-append, bytes-row, first-shorter, entry-links, entry-bytes, up-bytes}
+use Rattle.plan_steps.proofs.TreeSizes.{up-links}
 
 module _ (k : ℕ → Cell) (s : StepContext) (o : AtomicOp) where
   abbrev blocks : List NewCell
@@ -96,3 +98,23 @@ module _ (k : ℕ → Cell) (s : StepContext) (o : AtomicOp) where
       at zero l = cutting-value s.ty (block_length s) (rank_at s 0) (up_number s 0) (0 * block_length s) val (fits 0 l)
       at (suc r) l = cutting_after-value s.ty (block_length s) (rank_at s (suc r)) (up_number s (suc r)) (up_number s 0)
           (suc r * block_length s) val (fits (suc r) l)
+
+-- ---- its links and bytes, in closed form
+pub reducescatter-links : (s : StepContext) (o : AtomicOp) → 0 < count s → links_of (reducescatter_cells s o) ≡ 2 * count s
+    + (count s + (count s - 1)) + (count s + (count s - 1))
+reducescatter-links s o pos =
+    let a = links-append (entries s) (up s 0 o ++ map (result_block s) (places s)) in
+    let b = links-append (up s 0 o) (map (result_block s) (places s)) in
+    let c = entry-links s in
+    let d = up-links s 0 o pos in
+    let e = first-shorter (result_block s) (count s) pos refl (λ i. refl) in
+    omega (arith, a, b, c, d, e)
+
+pub reducescatter-bytes : (s : StepContext) (o : AtomicOp) → bytes_in (reducescatter_cells s o) ≡ 2 * (count s * s.length) + count s *
+    (s.length / count s)
+reducescatter-bytes s o =
+    let a = bytes-append (entries s) (up s 0 o ++ map (result_block s) (places s)) in
+    let b = bytes-append (up s 0 o) (map (result_block s) (places s)) in
+    let c = entry-bytes s in let d = up-bytes s 0 o in
+    let e = bytes-row (result_block s) 0 (count s) (block_length s) (λ i. refl) in
+    omega (arith, a, b, c, d, e)

@@ -1,19 +1,21 @@
 -- A scatter is sound, and each place has its block of the root's list.
 use Rattle.std.proofs.Common.{ℕ, Bool, true, false, cond, ◌+◌, ◌*◌, ◌%◌, ◌≡◌, ◌≤◌, ◌<◌, ◌==◌, List, [], ◌∷◌, refl, length, map, ap, ◌∙◌}
-use Rattle.std.proofs.Common.{sym, subst, arith, eqb-true, eq-eqb}
-use Rattle.plan_core.specs.Draw.{NewCell, cell_of}
+use Rattle.std.proofs.Common.{sym, subst, arith, eqb-true, eq-eqb, ◌-◌, ap₂, ◌/◌}
+use Rattle.plan_core.specs.Draw.{NewCell, cell_of, links_of, bytes_in}
 use Rattle.plan_core.specs.declared.Cell.{Cell}
 use Rattle.plan_steps.proofs.CellKinds.{bumped-sound, copying-sound}
 use Rattle.plan_steps.proofs.Cutting.{cutting-sound, cutting_after-sound, cutting-value, cutting_after-value, within}
 use Rattle.plan_steps.proofs.Drawn.{each_front}
 use Rattle.plan_steps.proofs.Entries.{behind, both_parts, each_places, entry-value, of_places}
-use Rattle.plan_steps.specs.Broadcast.{first_cell}
-use Rattle.plan_steps.specs.Scatter.{scatter_cells, scatter_put, scattered}
+use Rattle.plan_steps.specs.Collectives.Broadcast.{first_cell}
+use Rattle.plan_steps.specs.Collectives.Scatter.{scatter_cells, scatter_put, scattered}
 use Rattle.plan_steps.specs.StepContext.{StepContext, bare_entry, bump, count, entry, exit_at, full_entry, further, holding, places}
 use Rattle.plan_steps.specs.StepContext.{rank_at, source_at, block_length}
 use Rattle.plan_steps.specs.Sounding.{EachAt, Ground, HasA, IsCell, Known, SoundNewCell, new_value}
 use Rattle.ptl_types.specs.Elements.{part}
 use Rattle.ptl_types.specs.Operations.{bytes_of}
+use Rattle.plan_steps.proofs.StepSizes.{links-append, bytes-append, bytes-row, links-one, first-bytes}
+use Rattle.std.proofs.lemmas.Bool.{ne_eqb}
 
 module _ (k : ℕ → Cell) (s : StepContext) (root : ℕ) (root_in : root < count s) where
   root_first : first_cell s root root ≡ full_entry s root
@@ -89,3 +91,37 @@ module _ (k : ℕ → Cell) (s : StepContext) (root : ℕ) (root_in : root < cou
       at : (b : Bool) → new_value (block_cell r b) val ≡ part (r * block_length s) (block_length s) (val (entry s root))
       at true = cutting-value s.ty (block_length s) (rank_at s r) (entry s root) (r * block_length s) val fits
       at false = cutting_after-value s.ty (block_length s) (rank_at s r) (entry s r) (entry s root) (r * block_length s) val fits
+
+-- ---- its links and bytes, in closed form
+pub scatter-links : (s : StepContext) (root : ℕ) → root < count s →
+    links_of (scatter_cells s root) ≡ count s + 1 + (count s + (count s - 1))
+scatter-links s root h =
+    let m = count s in
+    let a = links-append (map (first_cell s root) (places s)) (map (scattered s root) (places s)) in
+    let b = links-one (first_cell s root) 0 m root 2 1 (let z : 0 ≤ root = omega arith in z) (let z : root < 0 + m = omega arith in z)
+    (ap (λ t. length (cond t (full_entry s root) (bare_entry s root)).into) (eq-eqb root root refl))
+    (λ i n. ap (λ t. length (cond t (full_entry s i) (bare_entry s i)).into) (ne_eqb _ _ n)) in
+    let c = links-one (scattered s root) 0 m root 1 2 (let z : 0 ≤ root = omega arith in z) (let z : root < 0 + m = omega arith in z)
+    (size root true (eq-eqb root root refl)) (λ i n. size i false (ne_eqb i root n)) in
+    let q : m * 1 ≡ m = omega arith in
+    let r : m * 2 ≡ m + m = omega arith in
+    omega (arith, a, b, c, q, r)
+  where
+    size : (i : ℕ) (t : Bool) → (i == root) ≡ t → length (scattered s root i).into ≡ cond t 1 2
+    size i t e = ap (λ v. length (cond v (one i ∷ []) (two i ∷ one i ∷ []))) e ∙ at t
+      where
+        one : ℕ → Rattle.plan_core.specs.declared.Incoming.Incoming
+        one r = Rattle.plan_steps.specs.Collectives.Scatter.scatter_put s root r
+
+        two : ℕ → Rattle.plan_core.specs.declared.Incoming.Incoming
+        two r = Rattle.plan_steps.specs.StepContext.bump (Rattle.plan_steps.specs.StepContext.entry s r)
+
+        at : (t : Bool) → length (cond t (one i ∷ []) (two i ∷ one i ∷ [])) ≡ cond t 1 2
+        at true = refl
+        at false = refl
+
+pub scatter-bytes : (s : StepContext) (root : ℕ) → root < count s → bytes_in (scatter_cells s root) ≡ s.length + count s *
+    (s.length / count s)
+scatter-bytes s root h =
+    bytes-append (map (first_cell s root) (places s)) (map (scattered s root) (places s))
+    ∙ ap₂ (λ x y. x + y) (first-bytes s root h) (bytes-row (scattered s root) 0 (count s) (block_length s) (λ i. refl))

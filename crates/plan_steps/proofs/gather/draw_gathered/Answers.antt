@@ -3,7 +3,7 @@ use Rattle.std.proofs.Common.{◌≡◌, ◌*◌, ◌∷◌, [], ap, ap₂, map,
 use Rattle.plan_core.specs.declared.Part.{Part}
 use Rattle.plan_core.specs.Draw.{HasRoom, add, new_cell}
 use Rattle.plan_steps.specs.StepContext.{count, holding_part, places, rank_at}
-use Rattle.plan_steps.specs.Gather.{gather_link}
+use Rattle.plan_steps.specs.Collectives.Gather.{gather_link}
 use Rattle.plan_steps.proofs.gather.draw_gathered.Goals as goal
 
 pub draw_wide-requires-clause-room : goal.draw_wide-requires-clause-room

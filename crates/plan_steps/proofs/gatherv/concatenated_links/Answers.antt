@@ -2,7 +2,7 @@
 use Rattle.std.proofs.Common.{ap, ap₂, ◌∙◌, sym, ◌++◌, ◌∷◌, []}
 use Rattle.plan_core.proofs.Drawing.{row-more}
 use Rattle.plan_steps.specs.StepContext.{bump, entry}
-use Rattle.plan_steps.specs.Gatherv.{holder_put}
+use Rattle.plan_steps.specs.Collectives.Gatherv.{holder_put}
 use Rattle.plan_steps.proofs.gatherv.concatenated_links.Goals as goal
 
 pub loop-i-preserved : goal.loop-i-preserved

@@ -5,7 +5,8 @@ use Rattle.plan_core.specs.Draw.{HasRoom, add_all}
 use Rattle.coll_shape.specs.declared.types.Buffer.{Buffer}
 use Rattle.coll_shape.specs.Outline.{buffer_at}
 use Rattle.plan_steps.proofs.Drawings.{same-drawing}
-use Rattle.shape_plans.specs.Drawing.{Drawing, drawn_input, drawn_inputs, hold_row, input_cell}
+use Rattle.shape_plans.specs.Drawing.{drawn_input, drawn_inputs, hold_row, input_cell}
+use Rattle.plan_steps.specs.declared.drawing.Drawing.{Drawing}
 use Rattle.shape_plans.proofs.Upto.{at_most-inputs, inputs-next, inputs-none, room-input, tables-inputs, the-buffer}
 use Rattle.shape_plans.proofs.drawing.add_inputs.Goals as goal
 

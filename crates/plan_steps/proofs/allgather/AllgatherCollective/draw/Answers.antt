@@ -1,6 +1,6 @@
 -- The parts one after the other.
 use Rattle.std.proofs.Common.{arith, map}
-use Rattle.plan_steps.specs.Allgather.{collected, ring_node}
+use Rattle.plan_steps.specs.Collectives.Allgather.{collected, ring_node}
 use Rattle.plan_steps.specs.StepContext.{count, entries, places, rows}
 use Rattle.plan_steps.proofs.InParts.{joined-three, room-second, room-third}
 use Rattle.plan_steps.proofs.Rows.{drawn-same, room-same}

@@ -3,7 +3,7 @@ use Rattle.std.proofs.Common.{◌≡◌, ◌*◌, ◌∷◌, [], ap, ap₂, map,
 use Rattle.plan_core.specs.declared.Part.{Part}
 use Rattle.plan_core.specs.Draw.{HasRoom, add, new_cell}
 use Rattle.plan_steps.specs.StepContext.{count, holding_part, places, rank_at}
-use Rattle.plan_steps.specs.Allgather.{collect_link}
+use Rattle.plan_steps.specs.Collectives.Allgather.{collect_link}
 use Rattle.plan_steps.proofs.allgather.CollectedRows.draw.Goals as goal
 
 pub draw_wide-requires-clause-room : goal.draw_wide-requires-clause-room

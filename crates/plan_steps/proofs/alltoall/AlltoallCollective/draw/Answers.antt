@@ -1,7 +1,7 @@
 -- The parts one after the other.
 use Rattle.std.proofs.Common.{map}
 use Rattle.plan_core.proofs.Drawing.{room-next, joined-parts}
-use Rattle.plan_steps.specs.Alltoall.{exchanged}
+use Rattle.plan_steps.specs.Collectives.Alltoall.{exchanged}
 use Rattle.plan_steps.specs.StepContext.{entries, places}
 use Rattle.plan_steps.proofs.alltoall.AlltoallCollective.draw.Goals as goal
 

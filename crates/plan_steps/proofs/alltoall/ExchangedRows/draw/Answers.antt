@@ -3,7 +3,7 @@ use Rattle.std.proofs.Common.{◌≡◌, ◌∷◌, [], ap, map, subst, sym, ◌
 use Rattle.plan_core.specs.declared.Part.{Part}
 use Rattle.plan_core.specs.Draw.{HasRoom, add, new_cell}
 use Rattle.plan_steps.specs.StepContext.{holding_part, places, rank_at}
-use Rattle.plan_steps.specs.Alltoall.{exchange_link}
+use Rattle.plan_steps.specs.Collectives.Alltoall.{exchange_link}
 use Rattle.plan_steps.proofs.alltoall.ExchangedRows.draw.Goals as goal
 
 pub draw_wide-requires-clause-room : goal.draw_wide-requires-clause-room

@@ -3,7 +3,7 @@ use Rattle.std.proofs.Common.{◌≡◌, ap, arith, ◌∙◌}
 use Rattle.plan_core.proofs.Drawing.{room-next, joined-parts}
 use Rattle.plan_steps.specs.Rounds.{rounds}
 use Rattle.plan_steps.specs.StepContext.{bare_entries, count, rows}
-use Rattle.plan_steps.specs.Barrier.{round_cell}
+use Rattle.plan_steps.specs.Collectives.Barrier.{round_cell}
 use Rattle.plan_steps.proofs.Rows.{drawn-same, room-same}
 use Rattle.plan_steps.proofs.barrier.BarrierCollective.draw.Goals as goal
 

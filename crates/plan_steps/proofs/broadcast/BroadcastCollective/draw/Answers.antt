@@ -1,7 +1,7 @@
 -- The parts one after the other.
 use Rattle.std.proofs.Common.{map}
 use Rattle.plan_core.proofs.Drawing.{room-next, joined-parts}
-use Rattle.plan_steps.specs.Broadcast.{first_cell, copy_cell}
+use Rattle.plan_steps.specs.Collectives.Broadcast.{first_cell, copy_cell}
 use Rattle.plan_steps.specs.StepContext.{places}
 use Rattle.plan_steps.proofs.broadcast.BroadcastCollective.draw.Goals as goal
 

@@ -1,8 +1,8 @@
 -- The parts one after the other.
 use Rattle.std.proofs.Common.{ℕ, suc, ◌≡◌, ◌+◌, ◌-◌, ap, arith, map, subst, sym, ◌∙◌}
-use Rattle.plan_steps.specs.Exscan.{shifted}
+use Rattle.plan_steps.specs.Collectives.Exscan.{shifted}
 use Rattle.plan_steps.specs.Rounds.{rounds}
-use Rattle.plan_steps.specs.Scan.{scan_cell, scan_rows}
+use Rattle.plan_steps.specs.Collectives.Scan.{scan_cell, scan_rows}
 use Rattle.plan_steps.specs.StepContext.{count, entries}
 use Rattle.plan_core.specs.Draw.{HasRoom, add_all}
 use Rattle.plan_core.specs.Plan.{from_to}

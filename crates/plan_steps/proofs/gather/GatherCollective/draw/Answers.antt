@@ -1,7 +1,7 @@
 -- The parts one after the other.
 use Rattle.std.proofs.Common.{◌∷◌, []}
 use Rattle.plan_core.proofs.Drawing.{room-next, joined-one}
-use Rattle.plan_steps.specs.Gather.{gathered}
+use Rattle.plan_steps.specs.Collectives.Gather.{gathered}
 use Rattle.plan_steps.specs.StepContext.{entries}
 use Rattle.plan_steps.proofs.gather.GatherCollective.draw.Goals as goal
 

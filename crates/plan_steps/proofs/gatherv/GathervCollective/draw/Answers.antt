@@ -1,7 +1,7 @@
 -- The parts one after the other.
 use Rattle.std.proofs.Common.{◌∷◌, [], map}
 use Rattle.plan_core.proofs.Drawing.{room-next, joined-one}
-use Rattle.plan_steps.specs.Gatherv.{concatenated, held_entry}
+use Rattle.plan_steps.specs.Collectives.Gatherv.{concatenated, held_entry}
 use Rattle.plan_steps.specs.StepContext.{places}
 use Rattle.plan_steps.proofs.gatherv.GathervCollective.draw.Goals as goal
 

@@ -1,6 +1,6 @@
 -- The parts one after the other.
 use Rattle.std.proofs.Common.{map}
-use Rattle.plan_steps.specs.Reducescatter.{result_block}
+use Rattle.plan_steps.specs.Collectives.Reducescatter.{result_block}
 use Rattle.plan_steps.specs.StepContext.{entries, places}
 use Rattle.plan_steps.specs.Trees.{up}
 use Rattle.plan_steps.proofs.InParts.{joined-three, room-second, room-third}

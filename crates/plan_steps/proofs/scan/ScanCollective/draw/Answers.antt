@@ -3,7 +3,7 @@ use Rattle.std.proofs.Common.{◌≡◌, ◌+◌, suc, ap, arith, ◌∙◌}
 use Rattle.plan_core.proofs.Drawing.{room-next, joined-parts}
 use Rattle.plan_steps.specs.Rounds.{rounds}
 use Rattle.plan_steps.specs.StepContext.{entries, count}
-use Rattle.plan_steps.specs.Scan.{scan_cell, scan_rows}
+use Rattle.plan_steps.specs.Collectives.Scan.{scan_cell, scan_rows}
 use Rattle.plan_steps.proofs.Rows.{drawn-same, room-same}
 use Rattle.plan_steps.proofs.scan.ScanCollective.draw.Goals as goal
 

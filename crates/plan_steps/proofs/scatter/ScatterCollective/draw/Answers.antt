@@ -1,8 +1,8 @@
 -- The parts one after the other.
 use Rattle.std.proofs.Common.{map}
 use Rattle.plan_core.proofs.Drawing.{room-next, joined-parts}
-use Rattle.plan_steps.specs.Broadcast.{first_cell}
-use Rattle.plan_steps.specs.Scatter.{scattered}
+use Rattle.plan_steps.specs.Collectives.Broadcast.{first_cell}
+use Rattle.plan_steps.specs.Collectives.Scatter.{scattered}
 use Rattle.plan_steps.specs.StepContext.{places}
 use Rattle.plan_steps.proofs.scatter.ScatterCollective.draw.Goals as goal
 

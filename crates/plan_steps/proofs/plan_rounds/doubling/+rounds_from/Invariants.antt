@@ -1,4 +1,0 @@
-use Rattle.plan_steps.proofs.plan_rounds.doubling.+rounds_from.Given as goal
-
-abbrev pub decreases-rounds_from : goal.decreases-rounds_from
-decreases-rounds_from l = l.fuel
