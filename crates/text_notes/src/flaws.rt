@@ -2,11 +2,11 @@
 
 use crate::groups::{group_size, members_flaw, strange_member};
 use crate::keys::{Key, after_key, key_of, kind_in};
-use crate::notes::{Excess, GroupFlaw, Limit, Need, NumberFlaw};
+use crate::notes::{Excess, GroupFlaw, Limit, NumberFlaw};
 use crate::places::{last_word, word};
 use crate::standing::{Due, Standing};
 use crate::steps::need_of;
-use coll_shape::{MOST_RANKS, MOST_RANKS_IN_ONE, MOST_STEPS, Version};
+use coll_shape::{MOST_RANKS, MOST_RANKS_IN_ONE, MOST_STEPS, Need, Version};
 use coll_text::{Words, is, number_between, value_of};
 use ptl_types::ElemType;
 

@@ -11,8 +11,8 @@ mod message;
 mod note;
 mod printable;
 
-pub use cause::{Cause, Excess, FormFlaw, GroupFlaw, Limit, LineFlaw, Need, NumberFlaw, OrderFlaw};
-pub use detail::{Detail, OPERATIONS, STEPS, TYPES};
+pub use cause::{Cause, Excess, FormFlaw, GroupFlaw, Limit, LineFlaw, NumberFlaw, OrderFlaw};
+pub use detail::{Detail, OPERATIONS, TYPES};
 pub use forms::{FORMS, wrong_words};
 pub use line::note_text;
 pub use note::{About, Note, SHOWN, cut_word};

@@ -2,9 +2,9 @@
 
 use crate::keys::is_operation;
 use crate::lines::extra_word;
-use crate::notes::{LineFlaw, Need};
+use crate::notes::LineFlaw;
 use crate::places::word;
-use coll_shape::StepKind;
+use coll_shape::{Need, StepKind};
 use coll_text::is_name;
 
 /// Of the names of a step, the first of which is this word.
@@ -51,19 +51,7 @@ pub(crate) fn on_flaw(line: &[u8]) -> (usize, LineFlaw) {
     }
 }
 
-/// What a step asks of the buffer that it reads.
+/// What a step asks of the buffer that it reads. One that reads none asks nothing, and is never refused for it.
 pub(crate) fn need_of(kind: StepKind) -> Need {
-    match kind {
-        StepKind::Broadcast => Need::Root,
-        StepKind::Scatter => Need::RootInBlocks,
-        StepKind::Alltoall | StepKind::Reducescatter => Need::AllInBlocks,
-        StepKind::Gatherv => Need::Some,
-        StepKind::Barrier
-        | StepKind::Reduce
-        | StepKind::Allreduce
-        | StepKind::Gather
-        | StepKind::Allgather
-        | StepKind::Scan
-        | StepKind::Exscan => Need::All,
-    }
+    kind.need().unwrap_or(Need::All)
 }

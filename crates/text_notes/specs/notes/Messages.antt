@@ -13,8 +13,8 @@ use Rattle.text_notes.specs.declared.notes.cause.LineFlaw.{LineFlaw}
 use Rattle.text_notes.specs.declared.notes.cause.LineFlaw.TheVariants as line_flaws
 use Rattle.text_notes.specs.declared.notes.cause.NumberFlaw.{NumberFlaw}
 use Rattle.text_notes.specs.declared.notes.cause.NumberFlaw.TheVariants as number_flaws
-use Rattle.text_notes.specs.declared.notes.cause.Need.{Need}
-use Rattle.text_notes.specs.declared.notes.cause.Need.TheVariants as needs
+use Rattle.coll_shape.specs.declared.collectives.Need.{Need}
+use Rattle.coll_shape.specs.declared.collectives.Need.TheVariants as needs
 use Rattle.text_notes.specs.declared.notes.cause.Limit.{Limit}
 use Rattle.text_notes.specs.declared.notes.cause.Limit.TheVariants as limits
 use Rattle.text_notes.specs.declared.notes.cause.Excess.{Excess}

@@ -4,13 +4,14 @@ use Rattle.std.specs.List.{fold}
 use Rattle.std.specs.Fmt.{decimal}
 use Rattle.ptl_types.specs.declared.elements.ElemType.{ElemType}
 use Rattle.ptl_types.specs.declared.elements.AtomicOp.{AtomicOp}
-use Rattle.coll_shape.specs.declared.kinds.StepKind.{StepKind}
-use Rattle.coll_shape.specs.Kinds.{kind_word}
+use Rattle.coll_shape.specs.declared.collectives.StepKind.{StepKind}
+use Rattle.coll_shape.specs.Collectives.{kind_word}
+use Rattle.coll_shape.specs.declared.collectives.TheConstants.{STEP_KINDS}
 use Rattle.coll_text.specs.Text.{is_empty}
 use Rattle.coll_lang.specs.Words.{op_word, type_word}
 use Rattle.text_notes.specs.declared.notes.detail.Detail.{Detail}
 use Rattle.text_notes.specs.declared.notes.detail.Detail.TheVariants.{Nothing, Number, TypeWord, Operations, Types, Steps}
-use Rattle.text_notes.specs.declared.notes.detail.TheConstants.{OPERATIONS, STEPS, TYPES}
+use Rattle.text_notes.specs.declared.notes.detail.TheConstants.{OPERATIONS, TYPES}
 use Rattle.text_notes.specs.declared.notes.note.TheConstants.{SHOWN}
 use Rattle.text_notes.specs.declared.notes.note.Note.{Note}
 use Rattle.text_notes.specs.declared.notes.note.About.{About}
@@ -47,7 +48,7 @@ then_detail text (Number n) = then_number text n
 then_detail text (TypeWord ty) = then_shown text (type_word ty)
 then_detail text Operations = then_operations text OPERATIONS
 then_detail text Types = then_types text TYPES
-then_detail text Steps = then_steps text STEPS
+then_detail text Steps = then_steps text STEP_KINDS
 
 abbrev pub then_said : List ℕ → Said → List ℕ
 then_said text s = then_shown (then_detail (then_shown text s.head) s.detail) s.tail

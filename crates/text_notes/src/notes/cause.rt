@@ -4,6 +4,7 @@ ghost use Rattle.std.specs.Prelude.{◌≡◌};
 ghost use Rattle.text_notes.specs.notes.Causes.{name_of};
 
 use coll_lang::Refusal;
+use coll_shape::Need;
 use ptl_types::ElemType;
 
 /// What is wrong with the words of a line.
@@ -67,21 +68,6 @@ pub enum NumberFlaw {
         /// The type.
         ty: ElemType,
     },
-}
-
-/// What a step asks of the buffer that it reads.
-#[derive(Clone, Copy, Debug, PartialEq, Eq)]
-pub enum Need {
-    /// The root holds it.
-    Root,
-    /// The root holds it, in blocks for the members.
-    RootInBlocks,
-    /// Every member holds it.
-    All,
-    /// Every member holds it, in blocks for the members.
-    AllInBlocks,
-    /// Some member holds it.
-    Some,
 }
 
 /// Of what there is one too many.

@@ -5,7 +5,7 @@ ghost use Rattle.text_notes.specs.notes.Notes.{then_detail, then_operations, the
 
 use crate::notes::printable::Printable;
 use coll_lang::{op_word, type_word};
-use coll_shape::StepKind;
+use coll_shape::{STEP_KINDS, StepKind};
 use ptl_types::{AtomicOp, ElemType};
 
 /// A number, a word or a list of words.
@@ -49,22 +49,6 @@ pub const TYPES: [ElemType; 8] = [
     ElemType::I32,
     ElemType::U64,
     ElemType::I64,
-];
-
-/// All kinds of steps.
-pub const STEPS: [StepKind; 12] = [
-    StepKind::Barrier,
-    StepKind::Broadcast,
-    StepKind::Reduce,
-    StepKind::Allreduce,
-    StepKind::Gather,
-    StepKind::Allgather,
-    StepKind::Alltoall,
-    StepKind::Scan,
-    StepKind::Scatter,
-    StepKind::Reducescatter,
-    StepKind::Exscan,
-    StepKind::Gatherv,
 ];
 
 /// Adds a space and a word.
@@ -112,6 +96,6 @@ pub(crate) fn show_detail(text: &mut Printable, detail: Detail)
         Detail::TypeWord(ty) => text.show(type_word(ty)),
         Detail::Operations => show_operations(text, &OPERATIONS),
         Detail::Types => show_types(text, &TYPES),
-        Detail::Steps => show_steps(text, &STEPS),
+        Detail::Steps => show_steps(text, &STEP_KINDS),
     }
 }

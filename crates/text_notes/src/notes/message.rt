@@ -5,10 +5,12 @@ ghost use Rattle.text_notes.specs.notes.Messages.{cause_message, excess_message,
 ghost use Rattle.text_notes.specs.notes.Messages.{line_message, need_message, number_message, order_message, said};
 
 use crate::notes::cause::{
-    Cause, Excess, FormFlaw, GroupFlaw, Limit, LineFlaw, Need, NumberFlaw, OrderFlaw,
+    Cause, Excess, FormFlaw, GroupFlaw, Limit, LineFlaw, NumberFlaw, OrderFlaw,
 };
 use crate::notes::detail::Detail;
-use coll_shape::{MOST_BUFFERS, MOST_ELEMENTS, MOST_GIVEN, MOST_GROUPS, MOST_PRINTS, MOST_STEPS};
+use coll_shape::{
+    MOST_BUFFERS, MOST_ELEMENTS, MOST_GIVEN, MOST_GROUPS, MOST_PRINTS, MOST_STEPS, Need,
+};
 use ptl_types::Cause as Failure;
 
 /// What is said of a word: a text, a detail and a text.
