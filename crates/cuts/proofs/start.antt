@@ -1,5 +1,7 @@
 pub mod Sized
 pub mod Prepared
+pub mod Facts
+pub mod Finding
 pub mod Areas
 pub mod Starting
 pub mod Receiving

@@ -126,10 +126,10 @@ module _ (w : ChoiceState) (is : IsStanding w) (enough : HasRoom w) (gone : HasG
         omega (arith, a, b, c)
 
     -- ---- the lanes after it
-    abbrev pub later : List Plain
-    later = out_with n r o mid
+    abbrev pub lanes_after : List Plain
+    lanes_after = out_with n r o mid
 
-    held_later : (q u : ℕ) (l : Lane) → held_in n later q u l ≡ behind.held q u l
+    held_later : (q u : ℕ) (l : Lane) → held_in n lanes_after q u l ≡ behind.held q u l
     held_later q u l =
         held_out n mid mid_size r hr o goes_to q u l
         ∙ ap (λ x. held_in n mid q u l ++ (if q == r then filter (is_for u l) (and_then x []) else [])) (sym makes_at)
@@ -159,7 +159,7 @@ module _ (w : ChoiceState) (is : IsStanding w) (enough : HasRoom w) (gone : HasG
             let used = ap (λ b. if b then length w.kinds else 0) sent.used in
             (sent.in_range, omega (arith, size, one, at_most, cap, room, used))
 
-    later_size : length later ≡ 2 * (n * n)
+    later_size : length lanes_after ≡ 2 * (n * n)
     later_size = at o refl
       where
         at : (x : Option Sent) → o ≡ x → length (out_with n r x mid) ≡ 2 * (n * n)
@@ -167,7 +167,7 @@ module _ (w : ChoiceState) (is : IsStanding w) (enough : HasRoom w) (gone : HasG
         at (Some m) q = set_size n mid mid_size r m.header.target (lane_of m.header.kind) hr (goes_to m q)
             ((lane_at mid (lane_place n r m.header.target (lane_of m.header.kind))).messages ++ m ∷ [])
 
-    later_capacity : (i : ℕ) → (lane_at later i).capacity ≡ (lane_at w.lanes i).capacity
+    later_capacity : (i : ℕ) → (lane_at lanes_after i).capacity ≡ (lane_at w.lanes i).capacity
     later_capacity i = at o refl
       where
         at : (x : Option Sent) → o ≡ x → (lane_at (out_with n r x mid) i).capacity ≡ (lane_at w.lanes i).capacity
@@ -181,8 +181,8 @@ module _ (w : ChoiceState) (is : IsStanding w) (enough : HasRoom w) (gone : HasG
       abbrev news : List ChoiceRankState
       news = set w.seats r new
 
-      abbrev pub next : ChoiceState
-      next = record { ranks = w.ranks; kinds = w.kinds; seats = news; lanes = later }
+      abbrev pub world_after : ChoiceState
+      world_after = record { ranks = w.ranks; kinds = w.kinds; seats = news; lanes = lanes_after }
 
       inside : r < length w.seats
       inside = let a = is.size in omega (arith, a, hr)
@@ -200,42 +200,42 @@ module _ (w : ChoiceState) (is : IsStanding w) (enough : HasRoom w) (gone : HasG
       kept_same q = at_set (λ (s : ChoiceRankState). s.kept ≡ (seat_at w.seats q).kept) w.seats r q new no_seated inside
           (λ i. moved.kept ∙ ap (λ t. (seat_at w.seats t).kept) (sym i)) (λ x. refl)
 
-      system_same : ranks_in next ≡ ranks_in w
+      system_same : ranks_in world_after ≡ ranks_in w
       system_same = ap (choice_system w.ranks w.kinds) (fun_ext (λ q. ap slots_by (kept_same q)))
 
       world_news : (q : ℕ) → (seat_at news q).diary.locals ≡ behind.world q
       world_news q = at_set (λ (s : ChoiceRankState). s.diary.locals ≡ behind.world q) w.seats r q new no_seated inside
           (λ i. moved.locals ∙ sym world_here ∙ ap behind.world (sym i)) (λ x. sym (world_there q x))
 
-      scene_news : scene_in next ≡ behind
-      scene_news = scene_by (λ q. (seat_at news q).diary.locals) behind.world (held_in n later) behind.held world_news held_later
+      scene_news : scene_in world_after ≡ behind
+      scene_news = scene_by (λ q. (seat_at news q).diary.locals) behind.world (held_in n lanes_after) behind.held world_news held_later
 
-      pub made_news : scene_in next ≡ step_made k (named r e) z
+      pub made_news : scene_in world_after ≡ step_made k (named r e) z
       made_news = scene_news ∙ sym so
 
-      reached_news : IsReached (ranks_in next) (histories_in next) (scene_in next).held
+      reached_news : IsReached (ranks_in world_after) (histories_in world_after) (scene_in world_after).held
       reached_news =
-          subst (λ (x : System). IsReached x (scene_in next).world (scene_in next).held) (sym system_same)
+          subst (λ (x : System). IsReached x (scene_in world_after).world (scene_in world_after).held) (sym system_same)
           (subst (λ (y : Scene). IsReached k y.world y.held) (sym scene_news) reached_behind)
 
       -- the interface of each rank
-      state_news : (q : ℕ) → state_at (ranks_in next) (histories_in next) q ≡ state_at k behind.world q
+      state_news : (q : ℕ) → state_at (ranks_in world_after) (histories_in world_after) q ≡ state_at k behind.world q
       state_news q = ap₂ (λ (x : System) (y : Scene). state_at x y.world q) system_same scene_news
 
       state_here : state_at k behind.world r ≡ after (k.go r) (state_at k z.world r) e
       state_here = ap (state (k.go r) (k.first r)) world_here ∙ state-append (k.go r) (k.first r) (z.world r) (e ∷ [])
 
-      nic_news : (q : ℕ) → q < n → nic_in next q ≡ state_at (ranks_in next) (histories_in next) q
+      nic_news : (q : ℕ) → q < n → nic_in world_after q ≡ state_at (ranks_in world_after) (histories_in world_after) q
       nic_news q h = elim (cases_eq q r) [
         | inl i ↦
-            ap (nic_in next) i ∙ ap (λ (s : ChoiceRankState). s.nic) new_here ∙ moved.nic
+            ap (nic_in world_after) i ∙ ap (λ (s : ChoiceRankState). s.nic) new_here ∙ moved.nic
             ∙ ap (λ v. after (k.go r) v e) (is.nic r hr) ∙ sym state_here ∙ ap (state_at k behind.world) (sym i) ∙ sym (state_news q)
         | inr x ↦
             ap (λ (s : ChoiceRankState). s.nic) (news_other q x) ∙ is.nic q h
             ∙ ap (state (k.go q) (k.first q)) (sym (world_there q x)) ∙ sym (state_news q)
       ]
 
-      pub standing_news : IsStanding next
+      pub standing_news : IsStanding world_after
       standing_news = record {
         in_range = is.in_range;
         few_steps = is.few_steps;
@@ -244,7 +244,7 @@ module _ (w : ChoiceState) (is : IsStanding w) (enough : HasRoom w) (gone : HasG
         nic = nic_news;
       }
 
-      pub later_news : IsLater w next
+      pub later_news : IsLater w world_after
       later_news = record {
         ranks = refl;
         kinds = refl;
@@ -255,7 +255,7 @@ module _ (w : ChoiceState) (is : IsStanding w) (enough : HasRoom w) (gone : HasG
       longer : length new.diary.locals ≡ length (seat_at w.seats r).diary.locals + 1
       longer = ap length moved.locals ∙ length-append (seat_at w.seats r).diary.locals (e ∷ [])
 
-      pub room_news : HasRoom next
+      pub room_news : HasRoom world_after
       room_news = record {
         steps = λ q h. at_set (λ (s : ChoiceRankState). steps_due n w.kinds q ≤ length s.diary.locals + s.diary.room) w.seats r q new
             no_seated inside
@@ -276,7 +276,7 @@ module _ (w : ChoiceState) (is : IsStanding w) (enough : HasRoom w) (gone : HasG
             omega (arith, a, b);
       }
 
-      pub go_news : HasGo next
+      pub go_news : HasGo world_after
       go_news = record {
         some = λ q h. subst (λ (x : Handles). 0 < length x.counters) (sym (kept_same q)) (gone.some q h);
         go = λ q h. subst (λ (x : Handles). get_or x.counters 0 (handle 0 0) ≡ ct_of (slots_by x) w.kinds Go) (sym (kept_same q))

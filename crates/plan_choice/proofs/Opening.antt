@@ -1,8 +1,28 @@
 -- Seats that were just installed, and lanes without a message, are a choice world of which nothing was done.
-use Rattle.std.proofs.Common.{ℕ, ◌&&◌, ◌*◌, ◌<◌, ◌≤◌, ◌≡◌, ◌∙◌, List, [], get_or, length, nat_lt, replicate, if◌then◌else◌, sym, ap, subst}
+use Rattle.std.proofs.Common.{
+  ℕ,
+  ◌&&◌,
+  ◌*◌,
+  ◌<◌,
+  ◌≤◌,
+  ◌≡◌,
+  ◌∙◌,
+  List,
+  [],
+  get_or,
+  length,
+  nat_lt,
+  map,
+  replicate,
+  if◌then◌else◌,
+  refl,
+  sym,
+  ap,
+  subst,
+}
 use Rattle.std.proofs.Common.{inl, inr, arith}
 use Rattle.std.proofs.lemmas.Bool.{cases_lt}
-use Rattle.std.proofs.lemmas.List.{get_or-replicate, get_or_past, length-replicate}
+use Rattle.std.proofs.lemmas.List.{get_or-map, get_or-replicate, get_or_past, length-map, length-replicate}
 use Rattle.coll_lang.specs.declared.choices.ChoiceKind.{ChoiceKind}
 use Rattle.ptl_types.specs.declared.headers.Lane.{Lane}
 use Rattle.ptl_types.specs.declared.headers.Lane.TheVariants.{Answer, Request}
@@ -15,6 +35,7 @@ use Rattle.cuts.specs.orders.Reached.{IsReached}
 use Rattle.cuts.specs.orders.Reached.IsReached.{Begun}
 use Rattle.cuts.specs.windows.Places.{lane_place}
 use Rattle.rank_node.specs.Copies.{Diary}
+use Rattle.worlds.specs.declared.parts.traffic.Traffic.{Traffic}
 use Rattle.worlds.specs.parts.Layout.{held_in, lane_at}
 use Rattle.worlds.specs.parts.Marks.{delivery_count, lane_has}
 use Rattle.worlds.proofs.parts.Gated.{scene_by}
@@ -76,23 +97,39 @@ module _ (n : ℕ) (ks : List ChoiceKind) (some : 0 < n) (at_most : n ≤ 256) (
       ap (λ (l : Plain). if nat_lt 0 (length l.messages) && lane_has lanes n top d s Answer then 1 else 0) (laid s d Request hs hd)
   none_come s d Answer hs hd = ap (λ (l : Plain). if nat_lt 0 (length l.messages) then 1 else 0) (laid s d Answer hs hd)
 
-  pub opened_fields : (starts deliveries firings : List ℕ) → length starts ≡ length seats
-      → ((r : ℕ) → r < length seats → get_or starts r 0 ≡ start_count (seat_at seats r)) → deliveries ≡ replicate (2 * (n * n)) 0
-      → length firings ≡ length seats → ((r : ℕ) → r < length seats → get_or firings r 0 ≡ firing_count (seat_at seats r))
-      → AreFields fresh starts deliveries firings
-  opened_fields starts deliveries firings wide_starts of_starts none wide_firings of_firings = record {
-    standing = standing;
-    go = go;
-    room = room;
-    counted = record {
-      wide_starts = wide_starts ∙ size;
-      wide_deliveries = ap length none ∙ length-replicate (2 * (n * n)) 0;
-      wide_firings = wide_firings ∙ size;
-      of_starts = λ r h. of_starts r (omega (arith, h, size));
-      of_firings = λ r h. of_firings r (omega (arith, h, size));
-      of_deliveries = λ s d lane hs hd.
-          ap (λ xs. get_or xs (lane_place n s d lane) 0) none
-          ∙ get_or-replicate (2 * (n * n)) (lane_place n s d lane) 0 0 (lane_in n s d lane hs hd)
-          ∙ sym (none_come s d lane hs hd);
-    };
+  -- with such lanes and counts
+  abbrev opened_traffic : List Plain → List ℕ → List ℕ → List ℕ → Traffic
+  opened_traffic ls starts deliveries firings = record {
+    setting = record { ranks = n; window = top; strays = 0; spare = 0 };
+    lanes = ls;
+    starts = starts;
+    deliveries = deliveries;
+    firings = firings;
   }
+
+  pub opened_fields : (ls : List Plain) → ls ≡ lanes → (starts deliveries firings : List ℕ) → starts ≡ map start_count seats
+      → deliveries ≡ replicate (2 * (n * n)) 0 → firings ≡ map firing_count seats
+      → AreFields ks seats (opened_traffic ls starts deliveries firings)
+  opened_fields ls table starts deliveries firings are_starts none are_firings =
+      subst (λ t. AreFields ks seats (opened_traffic t starts deliveries firings)) (sym table) are
+    where
+      are : AreFields ks seats (opened_traffic lanes starts deliveries firings)
+      are = record {
+        window = refl;
+        standing = standing;
+        go = go;
+        room = room;
+        counted = record {
+          wide_starts = ap length are_starts ∙ length-map seats start_count ∙ size;
+          wide_deliveries = ap length none ∙ length-replicate (2 * (n * n)) 0;
+          wide_firings = ap length are_firings ∙ length-map seats firing_count ∙ size;
+          of_starts = λ r h.
+              ap (λ xs. get_or xs r 0) are_starts ∙ get_or-map start_count seats r no_seated 0 (omega (arith, h, size));
+          of_firings = λ r h.
+              ap (λ xs. get_or xs r 0) are_firings ∙ get_or-map firing_count seats r no_seated 0 (omega (arith, h, size));
+          of_deliveries = λ s d lane hs hd.
+              ap (λ xs. get_or xs (lane_place n s d lane) 0) none
+              ∙ get_or-replicate (2 * (n * n)) (lane_place n s d lane) 0 0 (lane_in n s d lane hs hd)
+              ∙ sym (none_come s d lane hs hd);
+        };
+      }

@@ -48,7 +48,7 @@ fallen w v x is stood on listed made =
     let same : left_in v ≡ sum_by (λ r. steps_due w.ranks w.kinds r - length (histories_in v r)) (from_to 0 w.ranks) =
     ap₂ (λ n ks. sum_by (λ r. steps_due n ks r - length (histories_in v r)) (from_to 0 n)) on.ranks on.kinds in
     let less = sum_moves (λ r. steps_due w.ranks w.kinds r - length (histories_in w r))
-    (λ r. steps_due w.ranks w.kinds r - length (histories_in v r)) step.r 1 0 0 w.ranks (omega arith) (omega (arith, here))
+    (λ r. steps_due w.ranks w.kinds r - length (histories_in v r)) step.r 1 0 0 w.ranks (omega arith) (omega (arith, known))
     (λ q apart low high. let e = ap length (there q apart) in omega (arith, e))
     (omega (arith, longer, due)) in
     omega (arith, same, less)
@@ -57,8 +57,8 @@ fallen w v x is stood on listed made =
     step = subst (λ (z : Scene). IsLocalStep (ranks_in w) (histories_in w) (scene_in w).held z.world z.held) (sym made)
         (listed_made (ranks_in w) (scene_in w) x listed)
 
-    here : step.r < w.ranks
-    here = step.in_range
+    known : step.r < w.ranks
+    known = step.in_range
 
     there : (q : ℕ) → (q ≡ step.r → ⊥) → histories_in v q ≡ histories_in w q
     there q apart = step.others q apart
@@ -69,7 +69,7 @@ fallen w v x is stood on listed made =
     due : length (histories_in v step.r) ≤ steps_due w.ranks w.kinds step.r
     due =
         let a = history_le v.ranks v.kinds (slots_at v) stood.in_range (histories_in v) (scene_in v).held (moment_in v stood) step.r
-        (subst (λ n. step.r < n) (sym on.ranks) here) in
+        (subst (λ n. step.r < n) (sym on.ranks) known) in
         let b = ap₂ (λ n ks. steps_due n ks step.r) on.ranks on.kinds in
         omega (arith, a, b)
 

@@ -3,6 +3,7 @@ use Rattle.std.proofs.Common.{ℕ, ◌+◌, ◌*◌, ◌<◌, ◌≡◌, ◌∙�
 use Rattle.std.proofs.Common.{if◌then◌else◌}
 use Rattle.std.proofs.lemmas.List.{length-map}
 use Rattle.std.specs.List.{slice_get}
+use Rattle.coll_lang.specs.declared.choices.ChoiceKind.{ChoiceKind}
 use Rattle.ptl_types.specs.Handles.{top}
 use Rattle.ni_model.specs.Tables.{lookup}
 use Rattle.ni_model.specs.Ready.{ready_numbers}
@@ -16,6 +17,7 @@ use Rattle.cuts.specs.declared.orders.Step.TheVariants.{Deliver, Fire, Start}
 use Rattle.cuts.proofs.windows.Counted.{counts_by}
 use Rattle.cuts.specs.windows.Places.{counts, delivery_at, fires_at, destination_at, kind_at, source_at}
 use Rattle.cuts.specs.windows.Possible.{is_possible, possible_steps}
+use Rattle.worlds.specs.declared.parts.traffic.Traffic.{Traffic}
 use Rattle.worlds.specs.parts.Layout.{held_in}
 use Rattle.worlds.proofs.parts.Placed.{place_told, ranks_told}
 use Rattle.worlds.proofs.Numbered.{delivery_numbered, firing_numbered, start_numbered, total_of}
@@ -25,8 +27,19 @@ use Rattle.choice_texts.specs.view.Install.{ct_of}
 use Rattle.choice_texts.specs.view.Install.Counter.{Done}
 use Rattle.choice_texts.specs.laws.Decided.{IsDecided, result_of}
 use Rattle.choice_texts.proofs.laws.Resting.{rest_decided, right_same}
+use Rattle.plan_choice.specs.ranks.Seats.{ChoiceRankState}
 use Rattle.plan_choice.specs.Acts.{seat_at}
-use Rattle.plan_choice.specs.World.{AreFields, ChoiceState, IsDecidedWorld, IsStanding, histories_in, ranks_in, scene_in, steps_in}
+use Rattle.plan_choice.specs.World.{
+  AreFields,
+  ChoiceState,
+  IsDecidedWorld,
+  IsStanding,
+  histories_in,
+  ranks_in,
+  scene_in,
+  state_of,
+  steps_in,
+}
 use Rattle.plan_choice.specs.World.{value_in}
 use Rattle.plan_choice.proofs.Moving.{moment_in, slots_at}
 use Rattle.plan_choice.proofs.Possible.{fires_all, possible_all}
@@ -51,7 +64,19 @@ decided w is none = record {
     rest = rest_decided w.ranks w.kinds (slots_at w) is.in_range (histories_in w) (scene_in w).held (moment_in w is)
         (still w none)
 
-module _ (w : ChoiceState) (starts deliveries firings : List ℕ) (fields : AreFields w starts deliveries firings) where
+module _ (kinds : List ChoiceKind) (seats : List ChoiceRankState) (traffic : Traffic) (fields : AreFields kinds seats traffic) where
+  abbrev w : ChoiceState
+  w = state_of kinds seats traffic
+
+  abbrev starts : List ℕ
+  starts = traffic.starts
+
+  abbrev deliveries : List ℕ
+  deliveries = traffic.deliveries
+
+  abbrev firings : List ℕ
+  firings = traffic.firings
+
   abbrev k : System
   k = ranks_in w
 
@@ -107,10 +132,10 @@ module _ (w : ChoiceState) (starts deliveries firings : List ℕ) (fields : AreF
       → slice_get (steps_in w) (sum starts + (sum deliveries + i)) ≡ Some (Fire r t)
   firing_in r rest i t h before within small told =
       let size = fields.counted.wide_firings in
-      let here : r < n = omega (arith, h, size) in
+      let known : r < n = omega (arith, h, size) in
       ap (λ xs. slice_get xs (sum starts + (sum deliveries + i))) (sym (possible_in w fields.standing))
       ∙ firing_numbered k z top starts deliveries firings starts_are deliveries_are firings_are r rest i t
-      (ready_numbers (seat_at w.seats r).nic) (fires_are r here) here before within small told
+      (ready_numbers (seat_at w.seats r).nic) (fires_are r known) known before within small told
 
   -- a rank with firings has a seat, which has as many ready
   pub firings_there : (r rest : ℕ) → r < length firings → rest < get_or firings r 0

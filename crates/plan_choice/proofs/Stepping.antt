@@ -1,6 +1,7 @@
 -- The kinds of step of a choice world: what each finds, and what it leaves.
 use Rattle.std.proofs.Common.{ℕ, true, ◌+◌, ◌<◌, ◌≤◌, ◌≡◌, ◌⊎◌, ◌∙◌, List, [], ◌∷◌, ◌++◌, Option, Some, None, drop, length, refl, sym, ap}
 use Rattle.std.proofs.Common.{subst, inl, inr, arith}
+use Rattle.coll_lang.specs.declared.choices.ChoiceKind.{ChoiceKind}
 use Rattle.ptl_types.specs.declared.headers.Lane.{Lane}
 use Rattle.ptl_types.specs.Kinds.{lane_of}
 use Rattle.ptl_types.specs.Messages.{Sent}
@@ -19,6 +20,7 @@ use Rattle.cuts.specs.declared.orders.Step.{Step}
 use Rattle.cuts.specs.declared.orders.Step.TheVariants.{Deliver, Fire, Start}
 use Rattle.cuts.specs.windows.Named.{named}
 use Rattle.cuts.specs.windows.Places.{lane_place}
+use Rattle.worlds.specs.declared.parts.traffic.Traffic.{Traffic}
 use Rattle.worlds.specs.parts.Layout.{held_in, lane_at}
 use Rattle.worlds.specs.parts.Marks.{out_with, popped, receiver}
 use Rattle.worlds.proofs.parts.Gated.{scene_by}
@@ -28,26 +30,35 @@ use Rattle.choice_texts.specs.machine.Counted.{steps_due}
 use Rattle.choice_texts.specs.laws.Traffic.{IsMade as IsSent}
 use Rattle.choice_texts.proofs.laws.Traffic.{comes, firing_makes, receipt_makes}
 use Rattle.plan_choice.specs.ranks.Seats.{ChoiceRankState, fired_seat, received_seat, started_seat}
-use Rattle.plan_choice.specs.Acts.{AreMarked, AreSized, IsFirst, IsStepped, MayMake, made_at, seat_at}
-use Rattle.plan_choice.specs.World.{AreFields, ChoiceState, IsLater, histories_in, ranks_in, scene_in, steps_in}
+use Rattle.plan_choice.specs.Acts.{AreSized, IsFirst, IsStepped, MayMake, lane_marks, made_at, marked, seat_at, with_lanes}
+use Rattle.plan_choice.specs.World.{AreCounted, AreFields, ChoiceState, IsLater, histories_in, ranks_in, scene_in, state_of, steps_in}
 use Rattle.plan_choice.proofs.Counting.{counted_news}
 use Rattle.plan_choice.proofs.Moving.{Moved, SameRoom, behind, go_in, go_news, later_news, made_news, may_go_out, moment_in, news_other}
-use Rattle.plan_choice.proofs.Moving.{next, one_due, room_news, same_lanes, slots_at, standing_news}
-
--- the world with other seats and lanes
-abbrev pub with_parts : ChoiceState → List ChoiceRankState → List Plain → ChoiceState
-with_parts w seats lanes = record { ranks = w.ranks; kinds = w.kinds; seats = seats; lanes = lanes }
+use Rattle.plan_choice.proofs.Moving.{world_after, one_due, room_news, same_lanes, slots_at, standing_news}
 
 -- a step was made
-pub record IsDone (w : ChoiceState) (x : Step) (nexts : List ChoiceRankState) (after : List Plain) (a b c : List ℕ) : Type 0 where
-  pub fields : AreFields (with_parts w nexts after) a b c
-  pub made : scene_in (with_parts w nexts after) ≡ step_made (ranks_in w) x (scene_in w)
-  pub later : IsLater w (with_parts w nexts after)
+pub record IsDone (kinds : List ChoiceKind) (seats : List ChoiceRankState) (t : Traffic) (x : Step) (nexts : List ChoiceRankState)
+    (u : Traffic) : Type 0 where
+  pub fields : AreFields kinds nexts u
+  pub made : scene_in (state_of kinds nexts u) ≡ step_made (ranks_in (state_of kinds seats t)) x (scene_in (state_of kinds seats t))
+  pub later : IsLater (state_of kinds seats t) (state_of kinds nexts u)
 
 no_message : {X : Type 0} (m : Sent) → None ≡ Some m → X
 no_message m e = cc
 
-module _ (w : ChoiceState) (starts deliveries firings : List ℕ) (fields : AreFields w starts deliveries firings) where
+module _ (kinds : List ChoiceKind) (seats : List ChoiceRankState) (traffic : Traffic) (fields : AreFields kinds seats traffic) where
+  abbrev w : ChoiceState
+  w = state_of kinds seats traffic
+
+  abbrev starts : List ℕ
+  starts = traffic.starts
+
+  abbrev deliveries : List ℕ
+  deliveries = traffic.deliveries
+
+  abbrev firings : List ℕ
+  firings = traffic.firings
+
   abbrev k : System
   k = ranks_in w
 
@@ -63,9 +74,9 @@ module _ (w : ChoiceState) (starts deliveries firings : List ℕ) (fields : AreF
       (goes : (m : Sent) → made_at w.seats r e ≡ Some m → IsSent w.ranks r m)
       (new : ChoiceRankState) (moved : Moved (go_in w r) (seat_at w.seats r) new e) where
     abbrev after_it : ChoiceState
-    after_it = next w fields.standing fields.room fields.go r hr e mid left listed so goes new moved
+    after_it = world_after w fields.standing fields.room fields.go r hr e mid left listed so goes new moved
 
-    module _ (s d : ℕ) (hs : s < w.ranks) (hd : d < w.ranks) (here : (r ≡ s) ⊎ (r ≡ d))
+    module _ (s d : ℕ) (hs : s < w.ranks) (hd : d < w.ranks) (one_of_them : (r ≡ s) ⊎ (r ≡ d))
         (apart : (a b : ℕ) (lane : Lane) → a < w.ranks → b < w.ranks → ((a ≡ s) × (b ≡ d) → ⊥) → ((a ≡ d) × (b ≡ s) → ⊥)
         → lane_at mid (lane_place w.ranks a b lane) ≡ lane_at w.lanes (lane_place w.ranks a b lane))
         (way : (m : Sent) → made_at w.seats r e ≡ Some m → ((r ≡ s) × (m.header.target ≡ d)) ⊎ ((r ≡ d) × (m.header.target ≡ s))) where
@@ -86,34 +97,37 @@ module _ (w : ChoiceState) (starts deliveries firings : List ℕ) (fields : AreF
       others_later : (q : ℕ) → (q ≡ s → ⊥) → (q ≡ d → ⊥) → seat_at after_it.seats q ≡ seat_at w.seats q
       others_later q x y =
           news_other w fields.standing fields.room fields.go r hr e mid left listed so goes new moved q
-          (λ i. elim here [ inl j ↦ x (i ∙ j) | inr j ↦ y (i ∙ j) ])
+          (λ i. elim one_of_them [ inl j ↦ x (i ∙ j) | inr j ↦ y (i ∙ j) ])
 
-      done_here : (a b c : List ℕ) → AreMarked w.ranks after_it.seats after_it.lanes s d starts deliveries firings a b c
-          → IsDone w (named r e) after_it.seats after_it.lanes a b c
-      done_here a b c marked = record {
+      abbrev left_here : Traffic
+      left_here = marked after_it.seats s d (with_lanes traffic after_it.lanes)
+
+      done_here : IsDone kinds seats traffic (named r e) after_it.seats left_here
+      done_here = record {
         fields = record {
+          window = fields.window;
           standing = standing_news w fields.standing fields.room fields.go r hr e mid left listed so goes new moved;
           go = go_news w fields.standing fields.room fields.go r hr e mid left listed so goes new moved;
           room = room_news w fields.standing fields.room fields.go r hr e mid left listed so goes new moved;
-          counted = counted_news w starts deliveries firings fields.counted after_it.seats after_it.lanes s d hs hd others_later apart_later
-              a b c marked;
+          counted = subst (λ k. AreCounted after_it left_here.starts (lane_marks n k after_it.lanes s d deliveries) left_here.firings)
+              (sym fields.window)
+              (counted_news w starts deliveries firings fields.counted after_it.seats after_it.lanes s d hs hd others_later apart_later);
         };
         made = made_news w fields.standing fields.room fields.go r hr e mid left listed so goes new moved;
         later = later_news w fields.standing fields.room fields.go r hr e mid left listed so goes new moved;
       }
 
       -- as the code has it
-      pub finish : (nexts : List ChoiceRankState) (out : List Plain) (a b c : List ℕ) (t u : ℕ) → nexts ≡ after_it.seats →
-          out ≡ after_it.lanes
-          → t ≡ s → u ≡ d → AreMarked w.ranks nexts out t u starts deliveries firings a b c → IsDone w (named r e) nexts out a b c
-      finish nexts out a b c t u es el et eu marked =
-          subst (λ ns. IsDone w (named r e) ns out a b c) (sym es)
-          (subst (λ ls. IsDone w (named r e) after_it.seats ls a b c) (sym el)
-          (done_here a b c
-          (subst (λ y. AreMarked w.ranks after_it.seats after_it.lanes s y starts deliveries firings a b c) eu
-          (subst (λ x. AreMarked w.ranks after_it.seats after_it.lanes x u starts deliveries firings a b c) et
-          (subst (λ ls. AreMarked w.ranks after_it.seats ls t u starts deliveries firings a b c) el
-          (subst (λ ns. AreMarked w.ranks ns out t u starts deliveries firings a b c) es marked))))))
+      pub finish : (nexts : List ChoiceRankState) (u : Traffic) (a b : ℕ) → nexts ≡ after_it.seats → u.lanes ≡ after_it.lanes
+          → a ≡ s → b ≡ d → u ≡ marked nexts a b (with_lanes traffic u.lanes) → IsDone kinds seats traffic (named r e) nexts u
+      finish nexts u a b es el ea eb marks =
+          subst (λ ns. IsDone kinds seats traffic (named r e) ns u) (sym es)
+          (subst (IsDone kinds seats traffic (named r e) after_it.seats) (sym
+          (marks
+          ∙ ap (λ ns. marked ns a b (with_lanes traffic u.lanes)) es
+          ∙ ap (λ ls. marked after_it.seats a b (with_lanes traffic ls)) el
+          ∙ ap (λ i. marked after_it.seats i b (with_lanes traffic after_it.lanes)) ea
+          ∙ ap (λ i. marked after_it.seats s i (with_lanes traffic after_it.lanes)) eb)) done_here)
 
   -- ---- a start
   module _ (r : ℕ) (listed : In (Start r) (steps_in w)) where
@@ -145,12 +159,12 @@ module _ (w : ChoiceState) (starts deliveries firings : List ℕ) (fields : AreF
       bytes = omega arith;
     }
 
-    start_done : (nexts : List ChoiceRankState) (out : List Plain) (a b c : List ℕ)
-        → IsStepped w.ranks w.seats w.lanes starts deliveries firings (Start r) nexts out a b c → IsDone w (Start r) nexts out a b c
-    start_done nexts out a b c is =
+    start_done : (nexts : List ChoiceRankState) (u : Traffic)
+        → IsStepped seats traffic (Start r) nexts u → IsDone kinds seats traffic (Start r) nexts u
+    start_done nexts u is =
         finish r start_rank Started w.lanes (same_lanes w.lanes) listed refl start_goes (started_seat (seat_at w.seats r)) start_moved
         r r start_rank start_rank (inl refl) (λ x y lane hx hy p q. refl) (λ m q. no_message m q)
-        nexts out a b c is.s is.d is.made.seats is.made.lanes is.made.source is.made.destination is.marked
+        nexts u is.s is.d is.made.seats is.made.lanes is.made.source is.made.destination is.marks
 
   -- ---- a firing
   module _ (r t : ℕ) (listed : In (Fire r t) (steps_in w)) where
@@ -191,13 +205,13 @@ module _ (w : ChoiceState) (starts deliveries firings : List ℕ) (fields : AreF
         at None q = fire_rank
         at (Some m) q = (fire_goes m q).in_range
 
-    fire_done : (nexts : List ChoiceRankState) (out : List Plain) (a b c : List ℕ)
-        → IsStepped w.ranks w.seats w.lanes starts deliveries firings (Fire r t) nexts out a b c → IsDone w (Fire r t) nexts out a b c
-    fire_done nexts out a b c is =
+    fire_done : (nexts : List ChoiceRankState) (u : Traffic)
+        → IsStepped seats traffic (Fire r t) nexts u → IsDone kinds seats traffic (Fire r t) nexts u
+    fire_done nexts u is =
         finish r fire_rank (Fired t) w.lanes (same_lanes w.lanes) listed refl fire_goes (fired_seat t (seat_at w.seats r)) fire_moved
         r (receiver r (made_at w.seats r (Fired t))) fire_rank fire_other (inl refl) (λ x y lane hx hy p q. refl)
         (λ m q. inl (refl, sym (ap (receiver r) q)))
-        nexts out a b c is.s is.d is.made.seats is.made.lanes is.made.source is.made.destination is.marked
+        nexts u is.s is.d is.made.seats is.made.lanes is.made.source is.made.destination is.marks
 
   -- ---- a delivery
   module _ (s d : ℕ) (lane : Lane) (listed : In (Deliver s d lane) (steps_in w)) where
@@ -279,10 +293,9 @@ module _ (w : ChoiceState) (starts deliveries firings : List ℕ) (fields : AreF
         bytes = let a = short in omega (arith, a);
       }
 
-      deliver_done : (nexts : List ChoiceRankState) (out : List Plain) (a b c : List ℕ)
-          → IsStepped w.ranks w.seats w.lanes starts deliveries firings (Deliver s d lane) nexts out a b c
-          → IsDone w (Deliver s d lane) nexts out a b c
-      deliver_done nexts out a b c is =
+      deliver_done : (nexts : List ChoiceRankState) (u : Traffic)
+          → IsStepped seats traffic (Deliver s d lane) nexts u → IsDone kinds seats traffic (Deliver s d lane) nexts u
+      deliver_done nexts u is =
           let made = is.made m rest first in
           finish d destination_rank (Received s lane m) mid mid_same listed deliver_so deliver_goes
           (received_seat s lane m (seat_at w.seats d))
@@ -290,7 +303,7 @@ module _ (w : ChoiceState) (starts deliveries firings : List ℕ) (fields : AreF
           (λ x y l hx hy p q. set_other w.ranks w.lanes fields.room.wide s d lane source_rank destination_rank (drop 1 ms) x y l hy
           (λ one. p (one.source, one.destination)))
           (λ x q. inr (refl, (answer_at x q).1))
-          nexts out a b c is.s is.d made.seats made.lanes made.source made.destination is.marked
+          nexts u is.s is.d made.seats made.lanes made.source made.destination is.marks
 
     deliver_may : MayMake w.ranks w.seats w.lanes (Deliver s d lane)
     deliver_may = (
@@ -309,14 +322,13 @@ module _ (w : ChoiceState) (starts deliveries firings : List ℕ) (fields : AreF
       },
     )
 
-    delivery_done : (nexts : List ChoiceRankState) (out : List Plain) (a b c : List ℕ)
-        → IsStepped w.ranks w.seats w.lanes starts deliveries firings (Deliver s d lane) nexts out a b c
-        → IsDone w (Deliver s d lane) nexts out a b c
-    delivery_done nexts out a b c is = at ms refl
+    delivery_done : (nexts : List ChoiceRankState) (u : Traffic)
+        → IsStepped seats traffic (Deliver s d lane) nexts u → IsDone kinds seats traffic (Deliver s d lane) nexts u
+    delivery_done nexts u is = at ms refl
       where
-        at : (xs : List Sent) → ms ≡ xs → IsDone w (Deliver s d lane) nexts out a b c
+        at : (xs : List Sent) → ms ≡ xs → IsDone kinds seats traffic (Deliver s d lane) nexts u
         at [] q = let e = ap length q in let h = some_held in absurd (omega (arith, e, h))
-        at (m ∷ rest) q = deliver_done m rest q nexts out a b c is
+        at (m ∷ rest) q = deliver_done m rest q nexts u is
 
   -- ---- any step
   pub allowed : (x : Step) → In x (steps_in w) → MayMake w.ranks w.seats w.lanes x
@@ -324,35 +336,29 @@ module _ (w : ChoiceState) (starts deliveries firings : List ℕ) (fields : AreF
   allowed (Fire r t) i = fire_may r t i
   allowed (Deliver s d lane) i = deliver_may s d lane i
 
-  pub done_by : (x : Step) → In x (steps_in w) → (nexts : List ChoiceRankState) (out : List Plain) (a b c : List ℕ)
-      → IsStepped w.ranks w.seats w.lanes starts deliveries firings x nexts out a b c → IsDone w x nexts out a b c
+  pub done_by : (x : Step) → In x (steps_in w) → (nexts : List ChoiceRankState) (u : Traffic)
+      → IsStepped seats traffic x nexts u → IsDone kinds seats traffic x nexts u
   done_by (Start r) i = start_done r i
   done_by (Fire r t) i = fire_done r t i
   done_by (Deliver s d lane) i = delivery_done s d lane i
 
-  -- ---- by the slices that a call was given, and those that it left
-  module _ (seats : List ChoiceRankState) (lanes : List Plain) (same_seats : seats ≡ w.seats) (same : lanes ≡ w.lanes) where
-    pub lent_sized : AreSized w.ranks seats lanes starts deliveries firings
+  -- ---- by the seats that a call was given, and those that it left
+  module _ (held : List ChoiceRankState) (same : held ≡ seats) where
+    pub lent_sized : AreSized held traffic
     lent_sized = record {
       at_most = fields.standing.in_range.few_ranks;
-      seats = ap length same_seats ∙ fields.standing.size;
-      lanes = ap length same ∙ fields.room.wide;
+      seats = ap length same ∙ fields.standing.size;
+      lanes = fields.room.wide;
       starts = fields.counted.wide_starts;
       deliveries = fields.counted.wide_deliveries;
       firings = fields.counted.wide_firings;
     }
 
-    pub lent_may : (x : Step) → In x (steps_in w) → MayMake w.ranks seats lanes x
-    lent_may x i =
-        subst (λ ss. MayMake w.ranks ss lanes x) (sym same_seats)
-        (subst (λ ls. MayMake w.ranks w.seats ls x) (sym same) (allowed x i))
+    pub lent_may : (x : Step) → In x (steps_in w) → MayMake traffic.setting.ranks held traffic.lanes x
+    lent_may x i = subst (λ ss. MayMake traffic.setting.ranks ss traffic.lanes x) (sym same) (allowed x i)
 
-    pub lent_done : (x : Step) → In x (steps_in w) → (new nexts : List ChoiceRankState) (last out : List Plain) (a b c : List ℕ) →
-        nexts ≡ new → out ≡ last
-        → IsStepped w.ranks seats lanes starts deliveries firings x new last a b c → IsDone w x nexts out a b c
-    lent_done x i new nexts last out a b c en el is =
-        done_by x i nexts out a b c
-        (subst (λ ss. IsStepped w.ranks ss w.lanes starts deliveries firings x nexts out a b c) same_seats
-        (subst (λ ls. IsStepped w.ranks seats ls starts deliveries firings x nexts out a b c) same
-        (subst (λ ss. IsStepped w.ranks seats lanes starts deliveries firings x ss out a b c) (sym en)
-        (subst (λ ls. IsStepped w.ranks seats lanes starts deliveries firings x new ls a b c) (sym el) is))))
+    pub lent_done : (x : Step) → In x (steps_in w) → (new nexts : List ChoiceRankState) (u : Traffic) → nexts ≡ new
+        → IsStepped held traffic x new u → IsDone kinds seats traffic x nexts u
+    lent_done x i new nexts u en is =
+        done_by x i nexts u
+        (subst (λ ss. IsStepped ss traffic x nexts u) same (subst (λ ss. IsStepped held traffic x ss u) (sym en) is))

@@ -3,7 +3,6 @@ use Rattle.std.specs.Prelude.{ℕ, true, ◌*◌, ◌<◌, ◌≤◌, ◌≡◌,
 use Rattle.std.specs.Prelude.{if◌then◌else◌}
 use Rattle.ptl_types.specs.declared.headers.Lane.{Lane}
 use Rattle.ptl_types.specs.declared.headers.Lane.TheVariants.{Answer, Request}
-use Rattle.ptl_types.specs.Handles.{top}
 use Rattle.ptl_types.specs.Messages.{Sent}
 use Rattle.ni_model.specs.Ready.{is_ready, ready_numbers}
 use Rattle.ni_model.specs.State.{opened}
@@ -15,6 +14,7 @@ use Rattle.cuts.specs.declared.orders.Step.TheVariants.{Deliver, Fire, Start}
 use Rattle.cuts.specs.windows.Places.{lane_place}
 use Rattle.rank_node.specs.Handles.{no_handles}
 use Rattle.choice_texts.specs.view.Install.{limits_of}
+use Rattle.worlds.specs.declared.parts.traffic.Traffic.{Traffic}
 use Rattle.worlds.specs.parts.Layout.{lane_at}
 use Rattle.worlds.specs.parts.Marks.{HasPlace, delivery_mark, out_with, popped, receiver}
 use Rattle.plan_choice.specs.ranks.Seats.{ChoiceRankState, fired_seat, received_seat, started_seat}
@@ -104,33 +104,39 @@ start_mark seats r xs = slice_set xs r (start_count (seat_at seats r))
 abbrev pub firing_mark : List ChoiceRankState → ℕ → List ℕ → List ℕ
 firing_mark seats r xs = slice_set xs r (firing_count (seat_at seats r))
 
--- those of the four lanes between two ranks
-abbrev pub lane_marks : ℕ → List Plain → ℕ → ℕ → List ℕ → List ℕ
-lane_marks n lanes s d xs =
-    delivery_mark lanes n top d s Answer
-    (delivery_mark lanes n top d s Request (delivery_mark lanes n top s d Answer (delivery_mark lanes n top s d Request xs)))
+-- those of the four lanes between two ranks, under a window
+abbrev pub lane_marks : ℕ → ℕ → List Plain → ℕ → ℕ → List ℕ → List ℕ
+lane_marks n window lanes s d xs =
+    delivery_mark lanes n window d s Answer
+    (delivery_mark lanes n window d s Request (delivery_mark lanes n window s d Answer (delivery_mark lanes n window s d Request xs)))
 
 -- as many of each as there are ranks and lanes
-pub record AreSized (n : ℕ) (ss : List ChoiceRankState) (ls : List Plain) (a b c : List ℕ) : Type 0 where
-  pub at_most : n ≤ 256
-  pub seats : length ss ≡ n
-  pub lanes : length ls ≡ 2 * (n * n)
-  pub starts : length a ≡ n
-  pub deliveries : length b ≡ 2 * (n * n)
-  pub firings : length c ≡ n
+pub record AreSized (ss : List ChoiceRankState) (t : Traffic) : Type 0 where
+  pub at_most : t.setting.ranks ≤ 256
+  pub seats : length ss ≡ t.setting.ranks
+  pub lanes : length t.lanes ≡ 2 * (t.setting.ranks * t.setting.ranks)
+  pub starts : length t.starts ≡ t.setting.ranks
+  pub deliveries : length t.deliveries ≡ 2 * (t.setting.ranks * t.setting.ranks)
+  pub firings : length t.firings ≡ t.setting.ranks
 
--- the counts of two ranks and of the lanes between them were made anew
-pub record AreMarked (n : ℕ) (seats : List ChoiceRankState) (lanes : List Plain) (s d : ℕ) (x y z a b c : List ℕ) : Type 0 where
-  pub starts : a ≡ start_mark seats d (start_mark seats s x)
-  pub deliveries : b ≡ lane_marks n lanes s d y
-  pub firings : c ≡ firing_mark seats d (firing_mark seats s z)
+-- the counts of two ranks and of the lanes between them made anew
+abbrev pub marked : List ChoiceRankState → ℕ → ℕ → Traffic → Traffic
+marked seats s d t = record t {
+  starts = start_mark seats d (start_mark seats s t.starts);
+  deliveries = lane_marks t.setting.ranks t.setting.window t.lanes s d t.deliveries;
+  firings = firing_mark seats d (firing_mark seats s t.firings);
+}
+
+-- the same traffic over such lanes
+abbrev pub with_lanes : Traffic → List Plain → Traffic
+with_lanes t lanes = record t { lanes = lanes }
 
 -- after a step, with its counts
-pub record IsStepped (n : ℕ) (seats : List ChoiceRankState) (lanes : List Plain) (starts deliveries firings : List ℕ) (step : Step)
-    (nexts : List ChoiceRankState) (later : List Plain) (a b c : List ℕ) : Type 0 where
+pub record IsStepped (seats : List ChoiceRankState) (t : Traffic) (step : Step) (nexts : List ChoiceRankState) (u : Traffic)
+    : Type 0 where
   pub s : ℕ
   pub d : ℕ
-  pub source : s < n
-  pub destination : d < n
-  pub made : IsMade n seats lanes step nexts later s d
-  pub marked : AreMarked n nexts later s d starts deliveries firings a b c
+  pub source : s < t.setting.ranks
+  pub destination : d < t.setting.ranks
+  pub made : IsMade t.setting.ranks seats t.lanes step nexts u.lanes s d
+  pub marks : u ≡ marked nexts s d (with_lanes t u.lanes)

@@ -13,6 +13,7 @@ use Rattle.cuts.specs.orders.Chosen.{Scene, enabled_steps}
 use Rattle.cuts.specs.orders.Reached.{IsReached}
 use Rattle.cuts.specs.declared.orders.Step.{Step}
 use Rattle.cuts.specs.windows.Places.{lane_place}
+use Rattle.worlds.specs.declared.parts.traffic.Traffic.{Traffic}
 use Rattle.worlds.specs.parts.Layout.{held_in, lane_at}
 use Rattle.worlds.specs.parts.Marks.{delivery_count}
 use Rattle.choice_texts.specs.machine.Choices.{IsRight, choice_at}
@@ -106,9 +107,14 @@ pub record AreCounted (w : ChoiceState) (starts deliveries firings : List ℕ) :
   pub of_deliveries : (s d : ℕ) (lane : Lane) → s < w.ranks → d < w.ranks →
       slice_index_or deliveries (lane_place w.ranks s d lane) 0 ≡ delivery_count w.lanes w.ranks top s d lane
 
+-- a choice world with such seats, and such traffic between them
+abbrev pub state_of : List ChoiceKind → List ChoiceRankState → Traffic → ChoiceState
+state_of kinds seats t = record { ranks = t.setting.ranks; kinds = kinds; seats = seats; lanes = t.lanes }
+
 -- what the fields of a choice world keep
-pub record AreFields (w : ChoiceState) (starts deliveries firings : List ℕ) : Type 0 where
-  pub standing : IsStanding w
-  pub go : HasGo w
-  pub room : HasRoom w
-  pub counted : AreCounted w starts deliveries firings
+pub record AreFields (kinds : List ChoiceKind) (seats : List ChoiceRankState) (t : Traffic) : Type 0 where
+  pub window : t.setting.window ≡ top
+  pub standing : IsStanding (state_of kinds seats t)
+  pub go : HasGo (state_of kinds seats t)
+  pub room : HasRoom (state_of kinds seats t)
+  pub counted : AreCounted (state_of kinds seats t) t.starts t.deliveries t.firings

@@ -1,17 +1,15 @@
 //! The parts of a choice world before its first step.
 
-ghost use Rattle.std.specs.Prelude.{ℕ, ◌≡◌, ◌<◌, ◌≤◌, ◌*◌, [], IfOk, length, slice_index_or, if◌then◌else◌};
+ghost use Rattle.std.specs.Prelude.{ℕ, ◌≡◌, ◌<◌, ◌≤◌, ◌*◌, IfOk, length, if◌then◌else◌};
 ghost use Rattle.ptl_types.specs.declared.headers.Lane.{Lane};
 ghost use Rattle.cuts.specs.windows.Places.{lane_place};
 ghost use Rattle.worlds.specs.parts.Layout.{lane_at};
 ghost use Rattle.plan_choice.specs.ranks.Seats.{IsInstalled};
-ghost use Rattle.plan_choice.specs.Acts.{firing_count, seat_at, start_count};
+ghost use Rattle.plan_choice.specs.Acts.{seat_at};
 ghost use Rattle.plan_choice.specs.Laying.{laid_lane};
 
-use crate::acts::{mark_firings, mark_start};
 use crate::ranks::{ChoiceRank, install};
 use coll_lang::ChoiceKind;
-use count_tree::CountTree;
 use pair_wires::PlainLane;
 use ptl_types::NoMemory;
 use std::alloc::Global;
@@ -61,52 +59,4 @@ pub(crate) fn lay_all(alloc: Global, ranks: u32, steps: u32) -> Result<Vec<Plain
         lanes.push(answer)?;
     }
     Ok(lanes)
-}
-
-/// Counts the starts that are enabled, by rank.
-fn fill_starts(starts: &mut CountTree, seats: &[ChoiceRank])
-    requires at_most { length seats.now ≤ 256 }
-    requires size { length starts.old ≡ length seats.now }
-    ensures size { length starts.new ≡ length seats.now }
-    ensures counts { (r : ℕ) → r < length seats.now → slice_index_or starts.new r 0 ≡ start_count (seat_at seats.now r) }
-{
-    for r in 0..seats.len() as u32 {
-        mark_start(starts, seats, r);
-    }
-}
-
-/// Counts the firings that are enabled, by rank.
-fn fill_firings(firings: &mut CountTree, seats: &[ChoiceRank])
-    requires at_most { length seats.now ≤ 256 }
-    requires size { length firings.old ≡ length seats.now }
-    ensures size { length firings.new ≡ length seats.now }
-    ensures counts { (r : ℕ) → r < length seats.now → slice_index_or firings.new r 0 ≡ firing_count (seat_at seats.now r) }
-{
-    for r in 0..seats.len() as u32 {
-        mark_firings(firings, seats, r);
-    }
-}
-
-/// The starts that are enabled, by rank.
-pub(crate) fn count_starts(alloc: Global, seats: &[ChoiceRank]) -> Result<CountTree, NoMemory>
-    requires { length seats.now ≤ 256 }
-    ensures size { IfOk result (λ t. length t ≡ length seats.now) }
-    ensures counts { IfOk result (λ t. (r : ℕ) → r < length seats.now →
-        slice_index_or t r 0 ≡ start_count (seat_at seats.now r)) }
-{
-    let mut starts = CountTree::open(alloc, seats.len() as u32)?;
-    fill_starts(&mut starts, seats);
-    Ok(starts)
-}
-
-/// The firings that are enabled, by rank.
-pub(crate) fn count_firings(alloc: Global, seats: &[ChoiceRank]) -> Result<CountTree, NoMemory>
-    requires { length seats.now ≤ 256 }
-    ensures size { IfOk result (λ t. length t ≡ length seats.now) }
-    ensures counts { IfOk result (λ t. (r : ℕ) → r < length seats.now →
-        slice_index_or t r 0 ≡ firing_count (seat_at seats.now r)) }
-{
-    let mut firings = CountTree::open(alloc, seats.len() as u32)?;
-    fill_firings(&mut firings, seats);
-    Ok(firings)
 }

@@ -13,18 +13,19 @@ ghost use Rattle.plan_choice.specs.ranks.Seats.{kinds_of};
 ghost use Rattle.plan_choice.specs.World.{IsDecidedWorld, IsLater, IsStanding, histories_in, nic_in, ranks_in, scene_in, steps_in};
 ghost use Rattle.plan_choice.specs.World.{value_in};
 
-use crate::acts::make;
-use crate::laying::{count_firings, count_starts, lay_all, seat_all};
+use crate::acts::{Firings, Starts, make};
+use crate::laying::{lay_all, seat_all};
 use crate::ranks::{ChoiceRank, kinds};
 use coll_lang::{ChoiceKind, Choices};
 use count_tree::CountTree;
 use cuts::orders::Step;
 use lane_ops::elements::read_pattern;
-use pair_wires::PlainLane;
 use portals_ni::Nic;
 use ptl_types::{ElemType, LocalStep, NoMemory, Rank};
 use std::alloc::Global;
 use std::marker::Model;
+use worlds::parts::lanes::{LaneTable, Setting};
+use worlds::parts::traffic::Traffic;
 use worlds::{Chooser, delivery_at};
 
 /// All ranks of a choice text on one thread, with the messages that are on their way. After its opening no call takes memory.
@@ -32,37 +33,28 @@ use worlds::{Chooser, delivery_at};
 /// With N ranks and S steps, `enabled` and `at_rest` take a constant number of steps, `enabled_step` and a step of the world the
 /// order of the logarithm of N and S.
 pub struct ChoiceWorld {
-    ranks: u32,
     kinds: Vec<ChoiceKind>,
     seats: Vec<ChoiceRank>,
-    lanes: Vec<PlainLane>,
-    starts: CountTree,
-    deliveries: CountTree,
-    firings: CountTree,
+    traffic: Traffic,
 }
 
 impl Model for ChoiceWorld {
-    ghost use Rattle.plan_choice.specs.World.{AreFields, ChoiceState};
+    ghost use Rattle.plan_choice.specs.World.{AreFields, ChoiceState, state_of};
 
     ghost Value = { ChoiceState };
 
-    ghost view = { λ w. record { ranks = w.ranks; kinds = w.kinds.items; seats = w.seats.items; lanes = w.lanes.items } };
+    ghost view = { λ w. state_of w.kinds.items w.seats.items w.traffic };
 
-    ghost invariant = { λ w. AreFields (record { ranks = w.ranks; kinds = w.kinds.items; seats = w.seats.items; lanes = w.lanes.items })
-        w.starts w.deliveries w.firings };
+    ghost invariant = { λ w. AreFields w.kinds.items w.seats.items w.traffic };
 }
 
 // Written out, so that letting one go is one call: docs/DECISIONS.md, "Large types have a drop of their own".
 impl Drop for ChoiceWorld {
     fn drop(self) {
         let ChoiceWorld {
-            ranks: _,
             kinds: _,
             seats: _,
-            lanes: _,
-            starts: _,
-            deliveries: _,
-            firings: _,
+            traffic: _,
         } = self;
     }
 }
@@ -74,6 +66,9 @@ fn word_at(memory: &[u8], from: usize) -> u64
 {
     read_pattern(ElemType::U64, &memory[from..])
 }
+
+/// A lane of a choice world never holds so many messages.
+const NO_WINDOW: u64 = u64::MAX;
 
 impl ChoiceWorld {
     /// The world of a choice text on so many ranks: each rank is installed, nothing was done, and nothing is on its way. Condition:
@@ -93,18 +88,25 @@ impl ChoiceWorld {
         let kinds = kinds(alloc, choices.steps())?;
         let seats = seat_all(alloc, ranks, &kinds)?;
         let lanes = lay_all(alloc, ranks, kinds.len() as u32)?;
-        let starts = count_starts(alloc, &seats)?;
+        let starts = CountTree::of::<ChoiceRank, Starts>(alloc, &seats)?;
         let places = 2 * (ranks * ranks);
         let deliveries = CountTree::open(alloc, places)?;
-        let firings = count_firings(alloc, &seats)?;
+        let firings = CountTree::of::<ChoiceRank, Firings>(alloc, &seats)?;
         Ok(ChoiceWorld {
-            ranks,
             kinds,
             seats,
-            lanes,
-            starts,
-            deliveries,
-            firings,
+            traffic: Traffic {
+                setting: Setting {
+                    ranks,
+                    window: NO_WINDOW,
+                    strays: 0,
+                    spare: 0,
+                },
+                lanes: LaneTable::of_lanes(lanes),
+                starts,
+                deliveries,
+                firings,
+            },
         })
     }
 
@@ -112,7 +114,7 @@ impl ChoiceWorld {
     pub fn ranks(&self) -> u32
         ensures { result ≡ self.now.ranks }
     {
-        self.ranks
+        self.traffic.setting.ranks
     }
 
     /// What the steps of the text do, in order.
@@ -127,7 +129,7 @@ impl ChoiceWorld {
         ensures number { result ≡ length (steps_in self.now) }
         ensures kept { IsStanding self.now }
     {
-        self.starts.total() + self.deliveries.total() + self.firings.total()
+        self.traffic.starts.total() + self.traffic.deliveries.total() + self.traffic.firings.total()
     }
 
     /// The enabled step number `i`, from 0: starts by rank; deliveries by source, target, request before answer; firings by rank,
@@ -136,18 +138,18 @@ impl ChoiceWorld {
         requires { i < length (steps_in self.now) }
         ensures { slice_get (steps_in self.now) i ≡ Some result }
     {
-        let starts = self.starts.total();
+        let starts = self.traffic.starts.total();
         if i < starts {
-            let (r, _) = self.starts.find(i);
+            let (r, _) = self.traffic.starts.find(i);
             return Step::Start(r as u32);
         }
         let later = i - starts;
-        let deliveries = self.deliveries.total();
+        let deliveries = self.traffic.deliveries.total();
         if later < deliveries {
-            let (place, _) = self.deliveries.find(later);
-            return delivery_at(self.ranks, place);
+            let (place, _) = self.traffic.deliveries.find(later);
+            return delivery_at(self.traffic.setting.ranks, place);
         }
-        let (r, rest) = self.firings.find(later - deliveries);
+        let (r, rest) = self.traffic.firings.find(later - deliveries);
         let seat = &self.seats[r];
         let _ = seat.ready();
         Step::Fire(r as u32, seat.ready_at(rest as u32))
@@ -161,15 +163,7 @@ impl ChoiceWorld {
         ensures kept { IsStanding self.new }
         ensures later { IsLater self.old self.new }
     {
-        make(
-            &mut self.seats,
-            &mut self.lanes,
-            &mut self.starts,
-            &mut self.deliveries,
-            &mut self.firings,
-            self.ranks,
-            step,
-        );
+        make(&mut self.seats, &mut self.traffic, step);
     }
 
     /// Whether no step is enabled: each rank has started, no message is on its way, and no operation is ready. Then the results are

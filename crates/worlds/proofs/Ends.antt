@@ -70,5 +70,5 @@ result_lies w is r c hr hc on =
     let agree = slots_given w is in
     let lies = cell_lies w.schedule.plan w.inputs is.sound is.fit slots (histories_in w) (cut_in w slots is agree) r c hr hc on in
     let memory = ap (λ (s : State). length s.memory) (is.nic slots agree r hr) in
-    let here = ap (λ q. start_in w.schedule.plan (own w.schedule.plan q) c) on in
-    omega (arith, lies, memory, here)
+    let starts_at = ap (λ q. start_in w.schedule.plan (own w.schedule.plan q) c) on in
+    omega (arith, lies, memory, starts_at)

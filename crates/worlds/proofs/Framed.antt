@@ -1,5 +1,5 @@
 -- Nodes that were told which of their lanes have room close a frame into a world.
-use Rattle.std.proofs.Common.{ℕ, ◌+◌, ◌≤◌, ◌<◌, ◌≡◌, ◌∙◌, List, count_by, length, refl, sum_by, sym, ap, subst, arith}
+use Rattle.std.proofs.Common.{ℕ, ◌*◌, ◌+◌, ◌^◌, ◌≤◌, ◌<◌, ◌≡◌, ◌∙◌, List, count_by, length, refl, sum_by, sym, ap, subst, arith}
 use Rattle.pair_wires.specs.Lanes.{Plain}
 use Rattle.ptl_types.specs.declared.headers.Lane.{Lane}
 use Rattle.ptl_types.specs.declared.headers.Lane.TheVariants.{Request, Answer}
@@ -15,12 +15,13 @@ use Rattle.rank_node.specs.Handles.{Agrees}
 use Rattle.rank_node.specs.Node.{IsNode, NodeState}
 use Rattle.rank_node.specs.Plans.{IsCompiledFor}
 use Rattle.schedule_compiler.specs.Jobs.{JobOf}
-use Rattle.worlds.specs.declared.parts.acts.Setting.{Setting}
-use Rattle.worlds.specs.parts.Keeps.{AgreeAll, AreCounted, AreParts, AreShort, AreStrays, IsWorld, spare_on}
+use Rattle.worlds.specs.declared.parts.lanes.Setting.{Setting}
+use Rattle.worlds.specs.declared.parts.traffic.Traffic.{Traffic}
+use Rattle.worlds.specs.parts.Keeps.{AgreeAll, AreCounted, AreParts, AreShort, AreStrays, spare_on}
 use Rattle.worlds.specs.parts.Layout.{lane_at, node_at, scene_of}
 use Rattle.worlds.proofs.parts.Gated.{IsGated, scene_gated}
 use Rattle.worlds.proofs.parts.Strays.{owned_and_strays}
-use Rattle.worlds.specs.opening.Frames.{AreSized, IsSameButGates, frame_window}
+use Rattle.worlds.specs.opening.Frames.{IsSameButGates, frame_setting, frame_window}
 use Rattle.worlds.specs.FrameState.{AreFramed, FrameState}
 use Rattle.worlds.specs.Frames.{IsClosed, MayClose}
 use Rattle.worlds.specs.Standing.{AreFields}
@@ -53,32 +54,38 @@ told_gated x y t = record {
 abbrev pub frame_of : JobOf → List Plain → FrameState
 frame_of job lanes = record { schedule = job.schedule; inputs = job.inputs; lanes = lanes }
 
--- for so many ranks under a window, without strays
-abbrev pub setting_of : ℕ → ℕ → Setting
-setting_of n window = record { ranks = n; window = window; strays = 0; spare = 0 }
-
-module _ (job : JobOf) (m : ℕ) (lanes : List Plain) (ss ds fs : List ℕ) (framed : AreFramed job m lanes ss ds fs)
-    (nodes : List NodeState) (may : MayClose (frame_of job lanes) nodes) where
+module _ (job : JobOf) (traffic : Traffic) (framed : AreFramed job traffic) (nodes : List NodeState)
+    (may : MayClose (frame_of job traffic.lanes) nodes) where
   abbrev p : Plan
   p = job.schedule.plan
 
   abbrev n : ℕ
   n = job.schedule.plan.ranks
 
-  pub many : length nodes ≡ m
-  many = may.of_job.size ∙ sym framed.ranks
+  abbrev lanes : List Plain
+  lanes = traffic.lanes
 
-  pub tasks : (r : ℕ) → r < m → (node_at nodes r).task.ranks ≡ m
-  tasks r h = (may.of_job.compiled r (subst (λ k. r < k) framed.ranks h)).ranks ∙ framed.bare.count ∙ sym framed.ranks
+  ranks_are : traffic.setting.ranks ≡ job.schedule.plan.ranks
+  ranks_are = ap (λ (s : Setting). s.ranks) framed.setting
 
-  module _ (news : List NodeState) (size : length news ≡ m) (told : (r : ℕ) → IsSameButGates (node_at nodes r) (node_at news r))
-      (kept : (r : ℕ) → r < m → IsNode (node_at nodes r)) (starts deliveries firings : List ℕ)
-      (counted : AreCounted m news lanes starts deliveries firings frame_window) where
+  pub many : length nodes ≡ traffic.setting.ranks
+  many = may.of_job.size ∙ sym ranks_are
+
+  pub tasks : (r : ℕ) → r < traffic.setting.ranks → (node_at nodes r).task.ranks ≡ traffic.setting.ranks
+  tasks r h = (may.of_job.compiled r (subst (λ k. r < k) ranks_are h)).ranks ∙ sym ranks_are
+
+  -- the nodes told, and the counts made right
+  module _ (news : List NodeState) (size : length news ≡ traffic.setting.ranks)
+      (told : (r : ℕ) → IsSameButGates (node_at nodes r) (node_at news r))
+      (kept : (r : ℕ) → r < traffic.setting.ranks → IsNode (node_at nodes r)) (after : Traffic)
+      (setting : after.setting ≡ traffic.setting) (same_lanes : after.lanes ≡ traffic.lanes)
+      (counted : AreCounted traffic.setting.ranks news traffic.lanes after.starts after.deliveries after.firings
+      traffic.setting.window) where
     gated : (r : ℕ) → IsGated (node_at nodes r) (node_at news r)
     gated r = told_gated (node_at nodes r) (node_at news r) (told r)
 
     kept_here : (r : ℕ) → r < n → IsNode (node_at nodes r)
-    kept_here r h = kept r (subst (λ k. r < k) (sym framed.ranks) h)
+    kept_here r h = kept r (subst (λ k. r < k) (sym ranks_are) h)
 
     agree_before : (k : ℕ → Slots) → AgreeAll n k news → AgreeAll n k nodes
     agree_before k a r h = subst (Agrees (k r)) (gated r).kept (a r h)
@@ -88,21 +95,21 @@ module _ (job : JobOf) (m : ℕ) (lanes : List Plain) (ss ds fs : List ℕ) (fra
 
     moment : (k : ℕ → Slots) → AgreeAll n k nodes → IsMoment (system_of p job.inputs k) (scene_of n nodes lanes).world
         (scene_of n nodes lanes).held
-    moment = joined_moment p job.inputs n nodes lanes framed.bare.count framed.bare.sound may.of_job.compiled kept_here may.sources may.sent
+    moment = joined_moment p job.inputs n nodes lanes refl framed.bare.sound may.of_job.compiled kept_here may.sources may.sent
 
     no_strays : AreStrays n nodes lanes 0 0
-    no_strays = joined_room p job.inputs n nodes lanes framed.bare.count framed.bare.sound may.of_job.compiled kept_here may.sources
+    no_strays = joined_room p job.inputs n nodes lanes refl framed.bare.sound may.of_job.compiled kept_here may.sources
         may.sent may.of_job.strays
 
     parts : AreParts p job.inputs n news lanes frame_window 0
     parts = record {
-      at_most = framed.bare.sized.at_most;
-      count = framed.bare.count;
+      at_most = subst (λ k. k ≤ 256) ranks_are framed.bare.sized.at_most;
+      count = refl;
       sound = framed.bare.sound;
       fit = framed.bare.fit;
       some = omega arith;
-      size = size ∙ framed.ranks;
-      wide = framed.bare.sized.wide_lanes;
+      size = size ∙ ranks_are;
+      wide = subst (λ k. length lanes ≡ 2 * (k * k)) ranks_are framed.bare.sized.wide_lanes;
       compiled = λ r h. subst (IsCompiledFor p job.inputs r) (sym (gated r).task) (may.of_job.compiled r h);
       node = λ r h. (gated r).node (kept_here r h);
       moment = λ k a. subst (λ (z : Scene). IsMoment (system_of p job.inputs k) z.world z.held) (sym same_scene)
@@ -128,67 +135,70 @@ module _ (job : JobOf) (m : ℕ) (lanes : List Plain) (ss ds fs : List ℕ) (fra
       held = no_strays.held;
     }
 
-    pub fields_closed : AreFields job (setting_of m frame_window) news lanes starts deliveries firings
+    setting_is : after.setting ≡ frame_setting n
+    setting_is = setting ∙ framed.setting
+
+    counted_here : AreCounted n news lanes after.starts after.deliveries after.firings frame_window
+    counted_here = subst (λ (s : Setting). AreCounted s.ranks news lanes after.starts after.deliveries after.firings s.window)
+        framed.setting counted
+
+    pub fields_closed : AreFields job news after
     fields_closed = record {
-      ranks = framed.ranks;
-      spare = omega arith;
-      world = subst (λ k. IsWorld p job.inputs k news lanes starts deliveries firings frame_window 0 0) (sym framed.ranks) (record {
-        parts = parts;
-        counted = subst (λ k. AreCounted k news lanes starts deliveries firings frame_window) framed.ranks counted;
-        stray = few_strays;
-      });
+      ranks = ap (λ (s : Setting). s.ranks) setting_is;
+      spare = subst (λ (s : Setting). s.spare < 2 ^ 32) (sym setting_is) (omega arith);
+      world = record {
+        parts = subst (λ (s : Setting). AreParts p job.inputs s.ranks news after.lanes s.window s.spare) (sym setting_is)
+            (subst (λ ls. AreParts p job.inputs n news ls frame_window 0) (sym same_lanes) parts);
+        counted = subst (λ (s : Setting). AreCounted s.ranks news after.lanes after.starts after.deliveries after.firings s.window)
+            (sym setting_is)
+            (subst (λ ls. AreCounted n news ls after.starts after.deliveries after.firings frame_window) (sym same_lanes) counted_here);
+        stray = subst (λ (s : Setting). AreStrays s.ranks news after.lanes s.strays s.spare) (sym setting_is)
+            (subst (λ ls. AreStrays n news ls 0 0) (sym same_lanes) few_strays);
+      };
     }
 
-    pub closed : IsClosed (frame_of job lanes) nodes (state_of job (setting_of m frame_window) news lanes)
+    pub closed : IsClosed (frame_of job traffic.lanes) nodes (state_of job news after)
     closed = record {
       schedule = refl;
       inputs = refl;
-      window = refl;
-      strays = refl;
-      spare = refl;
-      lanes = refl;
+      window = ap (λ (s : Setting). s.window) setting_is;
+      strays = ap (λ (s : Setting). s.strays) setting_is;
+      spare = ap (λ (s : Setting). s.spare) setting_is;
+      lanes = same_lanes;
       same = told;
-      scene = same_scene;
+      scene = ap (scene_of n news) same_lanes ∙ same_scene;
       slots = agree_before;
     }
 
-  -- ---- by the slices that a call was given, and those that it left
-  module _ (lent : List NodeState) (slice : List Plain) (same_nodes : lent ≡ nodes) (same_lanes : slice ≡ lanes) where
-    pub lent_sized : AreSized m slice ss ds fs
-    lent_sized =
-        subst (λ ls. AreSized m ls ss ds fs) (sym same_lanes)
-        (subst (λ k. AreSized k lanes ss ds fs) (sym framed.ranks) framed.bare.sized)
-
-    pub lent_many : length lent ≡ m
+  -- ---- by the nodes that a call was given, and those that it left
+  module _ (lent : List NodeState) (same_nodes : lent ≡ nodes) where
+    pub lent_many : length lent ≡ traffic.setting.ranks
     lent_many = ap length same_nodes ∙ many
 
-    pub lent_tasks : (r : ℕ) → r < m → (node_at lent r).task.ranks ≡ m
-    lent_tasks = subst (λ v. (r : ℕ) → r < m → (node_at v r).task.ranks ≡ m) (sym same_nodes) tasks
+    pub lent_tasks : (r : ℕ) → r < traffic.setting.ranks → (node_at lent r).task.ranks ≡ traffic.setting.ranks
+    lent_tasks = subst (λ v. (r : ℕ) → r < traffic.setting.ranks → (node_at v r).task.ranks ≡ traffic.setting.ranks)
+        (sym same_nodes) tasks
 
-    module _ (left news : List NodeState) (same : news ≡ left) (size : length left ≡ m)
-        (told : (r : ℕ) → IsSameButGates (node_at lent r) (node_at left r)) (kept : (r : ℕ) → r < m → IsNode (node_at lent r))
-        (starts deliveries firings : List ℕ) (window : ℕ) (four : window ≡ frame_window)
-        (counted : AreCounted m left slice starts deliveries firings window) where
+    module _ (last news : List NodeState) (same : news ≡ last) (size : length last ≡ traffic.setting.ranks)
+        (told : (r : ℕ) → IsSameButGates (node_at lent r) (node_at last r))
+        (kept : (r : ℕ) → r < traffic.setting.ranks → IsNode (node_at lent r)) (after : Traffic)
+        (setting : after.setting ≡ traffic.setting) (same_lanes : after.lanes ≡ traffic.lanes)
+        (counted : AreCounted traffic.setting.ranks last traffic.lanes after.starts after.deliveries after.firings
+        traffic.setting.window) where
       told_now : (r : ℕ) → IsSameButGates (node_at nodes r) (node_at news r)
       told_now r =
           subst (λ v. IsSameButGates (node_at v r) (node_at news r)) same_nodes
           (subst (λ v. IsSameButGates (node_at lent r) (node_at v r)) (sym same) (told r))
 
-      kept_now : (r : ℕ) → r < m → IsNode (node_at nodes r)
-      kept_now = subst (λ v. (r : ℕ) → r < m → IsNode (node_at v r)) same_nodes kept
+      kept_now : (r : ℕ) → r < traffic.setting.ranks → IsNode (node_at nodes r)
+      kept_now = subst (λ v. (r : ℕ) → r < traffic.setting.ranks → IsNode (node_at v r)) same_nodes kept
 
-      counted_now : AreCounted m news lanes starts deliveries firings frame_window
-      counted_now =
-          subst (λ k. AreCounted m news lanes starts deliveries firings k) four
-          (subst (λ ls. AreCounted m news ls starts deliveries firings window) same_lanes
-          (subst (λ v. AreCounted m v slice starts deliveries firings window) (sym same) counted))
+      counted_now : AreCounted traffic.setting.ranks news lanes after.starts after.deliveries after.firings traffic.setting.window
+      counted_now = subst (λ v. AreCounted traffic.setting.ranks v lanes after.starts after.deliveries after.firings
+          traffic.setting.window) (sym same) counted
 
-      pub left_fields : AreFields job (setting_of m window) news lanes starts deliveries firings
-      left_fields =
-          subst (λ k. AreFields job (setting_of m k) news lanes starts deliveries firings) (sym four)
-          (fields_closed news (ap length same ∙ size) told_now kept_now starts deliveries firings counted_now)
+      pub left_fields : AreFields job news after
+      left_fields = fields_closed news (ap length same ∙ size) told_now kept_now after setting same_lanes counted_now
 
-      pub left_closed : IsClosed (frame_of job lanes) nodes (state_of job (setting_of m window) news lanes)
-      left_closed =
-          subst (λ k. IsClosed (frame_of job lanes) nodes (state_of job (setting_of m k) news lanes)) (sym four)
-          (closed news (ap length same ∙ size) told_now kept_now starts deliveries firings counted_now)
+      pub left_closed : IsClosed (frame_of job traffic.lanes) nodes (state_of job news after)
+      left_closed = closed news (ap length same ∙ size) told_now kept_now after setting same_lanes counted_now

@@ -28,6 +28,7 @@ use Rattle.cuts.specs.windows.Possible.{is_possible, possible_steps}
 use Rattle.rank_node.specs.Gates.{goes_out, may_go, open_numbers}
 use Rattle.rank_node.specs.Node.{NodeState}
 use Rattle.worlds.specs.parts.Keeps.{AgreeAll, IsWorld}
+use Rattle.worlds.specs.declared.parts.traffic.Traffic.{Traffic}
 use Rattle.worlds.specs.parts.Layout.{held_in, node_at, scene_of}
 use Rattle.worlds.specs.parts.Marks.{lane_has, lane_may}
 use Rattle.worlds.proofs.parts.Held.{held_here}
@@ -90,10 +91,27 @@ same_number r t u e = ap fire_number e
 pub ready_is : (s : State) (t : ℕ) → In t (ready_numbers s) → is_ready s t ≡ true
 ready_is s t i = (In-filter_cases (is_ready s) t (map (λ (p : Posted). p.number) s.pending.waiting) i).1
 
-module _ (p : Plan) (inputs : Inputs) (n : ℕ) (nodes : List NodeState) (lanes : List Plain) (starts deliveries firings : List ℕ)
-    (window strays spare : ℕ)
-    (world : IsWorld p inputs n nodes lanes starts deliveries firings window strays spare) (slots : ℕ → Slots)
-    (agree : AgreeAll n slots nodes) where
+module _ (p : Plan) (inputs : Inputs) (nodes : List NodeState) (traffic : Traffic)
+    (world : IsWorld p inputs nodes traffic) (slots : ℕ → Slots)
+    (agree : AgreeAll traffic.setting.ranks slots nodes) where
+  abbrev n : ℕ
+  n = traffic.setting.ranks
+
+  abbrev lanes : List Plain
+  lanes = traffic.lanes
+
+  abbrev starts : List ℕ
+  starts = traffic.starts
+
+  abbrev deliveries : List ℕ
+  deliveries = traffic.deliveries
+
+  abbrev firings : List ℕ
+  firings = traffic.firings
+
+  abbrev window : ℕ
+  window = traffic.setting.window
+
   abbrev ranks : System
   ranks = system_of p inputs slots
 
@@ -122,7 +140,7 @@ module _ (p : Plan) (inputs : Inputs) (n : ℕ) (nodes : List NodeState) (lanes 
       let hd : d < n = omega (arith, q.0.1, c) in (
         hs,
         hd,
-        sym (may_be p inputs n nodes lanes starts deliveries firings window strays spare world slots agree s d lane hs hd)
+        sym (may_be p inputs nodes traffic world slots agree s d lane hs hd)
             ∙ ap₂ (λ a b. a && b) (lt-ltb 0 (length (held_in n lanes s d lane)) q.0.2) q.1,
       )
 
@@ -139,7 +157,7 @@ module _ (p : Plan) (inputs : Inputs) (n : ℕ) (nodes : List NodeState) (lanes 
       some : 0 < length (held_in n lanes s d lane)
       some = ltb-true 0 (length (held_in n lanes s d lane))
           (and_parts _ (is_possible ranks window z (Deliver s d lane))
-          (may_be p inputs n nodes lanes starts deliveries firings window strays spare world slots agree s d lane hs hd ∙ e)).0
+          (may_be p inputs nodes traffic world slots agree s d lane hs hd ∙ e)).0
 
       at : (ms : List Sent) → held_in n lanes s d lane ≡ ms → In (Deliver s d lane) steps
       at [] q = let a = some in let b = ap length q in absurd (omega (arith, a, b))
@@ -151,11 +169,11 @@ module _ (p : Plan) (inputs : Inputs) (n : ℕ) (nodes : List NodeState) (lanes 
   -- ---- firings
   state_is : (r : ℕ) → r < n → (node_at nodes r).nic ≡ state_at ranks z.world r
   state_is r h = rank-state p inputs slots z r (node_at nodes r)
-      (rank_is p inputs n nodes lanes starts deliveries firings window strays spare world slots agree r h)
+      (rank_is p inputs nodes traffic world slots agree r h)
 
   fires : (r : ℕ) → r < n → filter (is_possible ranks window z) (firings_at ranks z r) ≡ map (Fire r)
       (open_numbers (node_at nodes r).closed (node_at nodes r).nic)
-  fires r h = fires_are p inputs n nodes lanes starts deliveries firings window strays spare world slots agree r h
+  fires r h = fires_are p inputs nodes traffic world slots agree r h
 
   abbrev goes : ℕ → ℕ → Bool
   goes r t = goes_out (node_at nodes r).closed (target_at (node_at nodes r).nic t)
@@ -165,10 +183,10 @@ module _ (p : Plan) (inputs : Inputs) (n : ℕ) (nodes : List NodeState) (lanes 
       let q = parts_of (Fire r t) i in
       let c = world.parts.count in
       let h : r < n = omega (arith, q.0.0, c) in
-      let here = subst (λ xs. In (Fire r t) xs) (fires r h)
+      let among = subst (λ xs. In (Fire r t) xs) (fires r h)
       (In-filter (is_possible ranks window z) (Fire r t) (firings_at ranks z r)
       (In-map (Fire r) t (ready_numbers (state_at ranks z.world r)) q.0.1) q.1) in
-      let u = In-map_cases (Fire r) (Fire r t) (open_numbers (node_at nodes r).closed (node_at nodes r).nic) here in
+      let u = In-map_cases (Fire r) (Fire r t) (open_numbers (node_at nodes r).closed (node_at nodes r).nic) among in
       let v = In-filter_cases (goes r) u.0 (ready_numbers (node_at nodes r).nic) u.1 in (
         h,
         subst (λ a. may_go (node_at nodes r).closed (node_at nodes r).nic a ≡ true) (same_number r t u.0 u.2)
@@ -189,12 +207,12 @@ module _ (p : Plan) (inputs : Inputs) (n : ℕ) (nodes : List NodeState) (lanes 
       In-filter (is_possible ranks window z) (Fire r t) (enabled_steps ranks z) on may
 
   -- ---- any step
-  pub allowed : (x : Step) → In x steps → Allows n nodes lanes window x
+  pub allowed : (x : Step) → In x steps → Allows nodes traffic x
   allowed (Start r) i = start_waits r i
   allowed (Deliver s d lane) i = lane_waits s d lane i
   allowed (Fire r t) i = fire_waits r t i
 
-  pub listed_by : (x : Step) → Allows n nodes lanes window x → In x steps
+  pub listed_by : (x : Step) → Allows nodes traffic x → In x steps
   listed_by (Start r) a = start_may r a.0 a.1
   listed_by (Deliver s d lane) a = lane_goes s d lane a.0 a.1 a.2
   listed_by (Fire r t) a = fire_goes r t a.0 a.1

@@ -23,6 +23,7 @@ use Rattle.cuts.specs.windows.Possible.{is_possible}
 use Rattle.rank_node.specs.Gates.{open_numbers}
 use Rattle.rank_node.specs.Node.{NodeState}
 use Rattle.worlds.specs.parts.Keeps.{AgreeAll, AreGates, IsRank, IsWorld}
+use Rattle.worlds.specs.declared.parts.traffic.Traffic.{Traffic}
 use Rattle.worlds.specs.parts.Layout.{held_in, lane_at, node_at, scene_of}
 use Rattle.worlds.specs.parts.Marks.{lane_may}
 use Rattle.worlds.proofs.parts.Held.{held_here}
@@ -67,10 +68,27 @@ lane_may_be k w n lanes window s d Request hs hd =
     ap₂ (λ a b. nat_lt 0 (length a) && nat_lt (length b) window) (held_here n lanes s d Request hs hd)
     (held_here n lanes d s Answer hd hs)
 
-module _ (p : Plan) (inputs : Inputs) (n : ℕ) (nodes : List NodeState) (lanes : List Plain) (starts deliveries firings : List ℕ)
-    (window strays spare : ℕ)
-    (world : IsWorld p inputs n nodes lanes starts deliveries firings window strays spare) (slots : ℕ → Slots)
-    (agree : AgreeAll n slots nodes) where
+module _ (p : Plan) (inputs : Inputs) (nodes : List NodeState) (traffic : Traffic)
+    (world : IsWorld p inputs nodes traffic) (slots : ℕ → Slots)
+    (agree : AgreeAll traffic.setting.ranks slots nodes) where
+  abbrev n : ℕ
+  n = traffic.setting.ranks
+
+  abbrev lanes : List Plain
+  lanes = traffic.lanes
+
+  abbrev starts : List ℕ
+  starts = traffic.starts
+
+  abbrev deliveries : List ℕ
+  deliveries = traffic.deliveries
+
+  abbrev firings : List ℕ
+  firings = traffic.firings
+
+  abbrev window : ℕ
+  window = traffic.setting.window
+
   abbrev ranks : System
   ranks = system_of p inputs slots
 

@@ -2,11 +2,9 @@
 use denote.Param.Send.{IsSync, recorded_sync, struct_sync, view_sync}
 use denote.Struct.Declared.{shape}
 use Rattle.std.proofs.Crossing.{crosses}
-use Rattle.count_tree.proofs.CountTree.TheSendSync as tree
-use Rattle.pair_wires.proofs.lane.PlainLane.TheSendSync as lane
 use Rattle.schedule_compiler.proofs.job.Job.TheSendSync as job
 use Rattle.rank_node.proofs.Sent.{node-sync}
-use Rattle.worlds.proofs.parts.acts.Setting.TheSendSync as setting
+use Rattle.worlds.proofs.parts.traffic.Traffic.TheSendSync as traffic
 use Rattle.worlds.specs.contracts.world.World.{the_row}
 use Rattle.worlds.specs.contracts.world.World.TheInside as inside
 
@@ -14,14 +12,5 @@ pub world-sync : IsSync the_row
 world-sync =
     view_sync inside.the_row _ _ _ _ (recorded_sync inside.the_field.row _ _ inside.the_type.to_one (struct_sync (shape inside.the_type) (
       job.the_sync,
-      (
-        setting.the_field_sync,
-        (
-          search (node-sync, crosses) depth 20,
-          (
-            search (lane.the_sync, crosses) depth 20,
-            (tree.the_sync, (tree.the_sync, (tree.the_sync, tt))),
-          ),
-        ),
-      ),
+      (search (node-sync, crosses) depth 20, (traffic.the_field_sync, tt)),
     )))

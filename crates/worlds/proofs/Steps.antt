@@ -142,12 +142,12 @@ module _ (w : WorldState) (slots : ℕ → Slots) (is : IsStanding w) (agree : A
         | inl e ↦ absurd (asks ((is.moment slots agree).strays s d Answer m hs hd i e).asks)
       ]
   strays_on s d Request hs hd =
-      let here = ap (count_by is_stray) (held_here w.schedule.plan.ranks w.lanes s d Request hs hd) in
+      let held_there = ap (count_by is_stray) (held_here w.schedule.plan.ranks w.lanes s d Request hs hd) in
       let part = part_le (λ q. count_by is_stray (lane_at w.lanes (lane_place w.schedule.plan.ranks q d Request)).messages) s 0
       w.schedule.plan.ranks
       (omega arith) (omega (arith, hs)) in
       let at_most = is.at_most d hd in
-      omega (arith, here, part, at_most)
+      omega (arith, held_there, part, at_most)
 
   held_small : (s d : ℕ) (lane : Lane) → s < w.schedule.plan.ranks → d < w.schedule.plan.ranks
       → length ((scene_in w).held s d lane) < 2 ^ 33

@@ -54,12 +54,12 @@ module _ (k : System) (window : ℕ)
     followed zero = (0, refl)
     followed (suc n) =
         let so = followed n in
-        let next = one_more so.0 (enabled_steps k (chosen k words so.0)) refl in (
-          next.0,
+        let more = one_more so.0 (enabled_steps k (chosen k words so.0)) refl in (
+          more.0,
           ap (λ (q : Running C). chosen_step k answer after (possible_steps k window q.scene) q) so.1
               ∙ ap (λ xs. chosen_step k answer after xs (at_words so.0))
               (possible (chosen k words so.0) (chosen_reached k words so.0))
-              ∙ next.1,
+              ∙ more.1,
         )
 
     -- where it ends, it ends as the chosen run

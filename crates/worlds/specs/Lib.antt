@@ -1,5 +1,6 @@
 pub mod FrameState
 pub mod FrameLends
+pub mod LaneLends
 pub mod World
 pub mod Standing
 pub mod Later

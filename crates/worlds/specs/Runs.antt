@@ -20,15 +20,15 @@ pub record Running (C : Type 0) : Type 0 where
 
 -- of these steps the one that the chooser names is made, if there is any
 abbrev pub chosen_step : {C : Type 0} → System → (C → ℕ → ℕ) → (C → ℕ → C) → List Step → Running C → Running C
-chosen_step k answer after [] now = now
-chosen_step k answer after (x ∷ xs) now = record {
-  scene = step_made k (get_or (x ∷ xs) (answer now.chooser (length (x ∷ xs))) x) now.scene;
-  chooser = after now.chooser (length (x ∷ xs));
+chosen_step k answer after [] running = running
+chosen_step k answer after (x ∷ xs) running = record {
+  scene = step_made k (get_or (x ∷ xs) (answer running.chooser (length (x ∷ xs))) x) running.scene;
+  chooser = after running.chooser (length (x ∷ xs));
 }
 
 -- so many steps, the last one last
 abbrev pub chosen_run : {C : Type 0} → System → ℕ → (C → ℕ → ℕ) → (C → ℕ → C) → ℕ → Running C → Running C
 chosen_run k window answer after zero from = from
 chosen_run k window answer after (suc n) from =
-    let now = chosen_run k window answer after n from in
-    chosen_step k answer after (possible_steps k window now.scene) now
+    let running = chosen_run k window answer after n from in
+    chosen_step k answer after (possible_steps k window running.scene) running

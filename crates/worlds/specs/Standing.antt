@@ -1,13 +1,12 @@
 -- What holds of a world whatever was done with it.
 use Rattle.std.specs.Prelude.{ℕ, ◌+◌, ◌^◌, ◌<◌, ◌≤◌, ◌≡◌, List, length}
-use Rattle.pair_wires.specs.Lanes.{Plain}
 use Rattle.cuts.specs.view.Slots.{Slots}
 use Rattle.cuts.specs.histories.Moment.{IsMoment}
 use Rattle.cuts.specs.histories.System.{state_at}
 use Rattle.plan_core.specs.Sound.{AreInputsOf, SoundPlan}
 use Rattle.schedule_compiler.specs.Jobs.{JobOf}
 use Rattle.rank_node.specs.Node.{IsNode, NodeState}
-use Rattle.worlds.specs.declared.parts.acts.Setting.{Setting}
+use Rattle.worlds.specs.declared.parts.traffic.Traffic.{Traffic}
 use Rattle.worlds.specs.parts.Keeps.{IsWorld, strays_for}
 use Rattle.worlds.specs.parts.Layout.{node_at}
 use Rattle.worlds.specs.World.{AreSlots, WorldState, histories_in, nic_in, ranks_in, scene_in}
@@ -28,9 +27,7 @@ pub record IsStanding (w : WorldState) : Type 0 where
   pub spare : w.spare < 2 ^ 32
 
 -- what the fields of a world keep
-pub record AreFields (job : JobOf) (setting : Setting) (nodes : List NodeState) (lanes : List Plain)
-    (starts deliveries firings : List ℕ) : Type 0 where
-  pub ranks : setting.ranks ≡ job.schedule.plan.ranks
-  pub spare : setting.spare < 2 ^ 32
-  pub world : IsWorld job.schedule.plan job.inputs setting.ranks nodes lanes starts deliveries firings
-      setting.window setting.strays setting.spare
+pub record AreFields (job : JobOf) (nodes : List NodeState) (t : Traffic) : Type 0 where
+  pub ranks : t.setting.ranks ≡ job.schedule.plan.ranks
+  pub spare : t.setting.spare < 2 ^ 32
+  pub world : IsWorld job.schedule.plan job.inputs nodes t

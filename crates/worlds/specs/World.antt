@@ -13,7 +13,7 @@ use Rattle.cuts.specs.windows.Possible.{possible_steps}
 use Rattle.rank_node.specs.Node.{NodeState}
 use Rattle.schedule_compiler.specs.Jobs.{JobOf}
 use Rattle.schedule_compiler.specs.Schedules.{ScheduleOf}
-use Rattle.worlds.specs.declared.parts.acts.Setting.{Setting}
+use Rattle.worlds.specs.declared.parts.traffic.Traffic.{Traffic}
 use Rattle.worlds.specs.parts.Keeps.{AgreeAll}
 use Rattle.worlds.specs.parts.Layout.{node_at, scene_of}
 
@@ -29,15 +29,15 @@ pub record WorldState : Type 0 where
   pub spare : ℕ
 
 -- the world of a job with such parts
-abbrev pub state_of : JobOf → Setting → List NodeState → List Plain → WorldState
-state_of job setting nodes lanes = record {
+abbrev pub state_of : JobOf → List NodeState → Traffic → WorldState
+state_of job nodes t = record {
   schedule = job.schedule;
   inputs = job.inputs;
   nodes = nodes;
-  lanes = lanes;
-  window = setting.window;
-  strays = setting.strays;
-  spare = setting.spare;
+  lanes = t.lanes;
+  window = t.setting.window;
+  strays = t.setting.strays;
+  spare = t.setting.spare;
 }
 
 -- slots that agree with the handles that were given so far

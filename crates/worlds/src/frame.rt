@@ -7,11 +7,10 @@ ghost use Rattle.cuts.specs.windows.Places.{lane_place};
 ghost use Rattle.worlds.specs.parts.Layout.{lane_at};
 ghost use Rattle.worlds.specs.Frames.{IsClosed, IsFrameOf, MayClose};
 
-use crate::opening::{FRAME_WINDOW, Parts, mark_all, open_bare};
-use crate::parts::acts::Setting;
-use crate::parts::lanes::place;
+use crate::opening::{mark_all, open_bare};
+use crate::parts::lanes::lane_index;
+use crate::parts::traffic::Traffic;
 use crate::world::World;
-use count_tree::CountTree;
 use pair_wires::PlainLane;
 use ptl_types::{Lane, NoMemory, Rank};
 use rank_node::Node;
@@ -23,11 +22,7 @@ use std::marker::Model;
 /// what was still on its way between them, become a world by it, and no memory is taken then.
 pub struct Frame {
     job: Job,
-    ranks: u32,
-    lanes: Vec<PlainLane>,
-    starts: CountTree,
-    deliveries: CountTree,
-    firings: CountTree,
+    traffic: Traffic,
 }
 
 impl Model for Frame {
@@ -35,22 +30,15 @@ impl Model for Frame {
 
     ghost Value = { FrameState };
 
-    ghost view = { λ f. record { schedule = f.job.schedule; inputs = f.job.inputs; lanes = f.lanes.items } };
+    ghost view = { λ f. record { schedule = f.job.schedule; inputs = f.job.inputs; lanes = f.traffic.lanes } };
 
-    ghost invariant = { λ f. AreFramed f.job f.ranks f.lanes.items f.starts f.deliveries f.firings };
+    ghost invariant = { λ f. AreFramed f.job f.traffic };
 }
 
 // Written out, so that letting one go is one call: docs/DECISIONS.md, "Large types have a drop of their own".
 impl Drop for Frame {
     fn drop(self) {
-        let Frame {
-            job: _,
-            ranks: _,
-            lanes: _,
-            starts: _,
-            deliveries: _,
-            firings: _,
-        } = self;
+        let Frame { job: _, traffic: _ } = self;
     }
 }
 
@@ -67,14 +55,10 @@ impl Frame {
         ensures { IfOk result (λ frame. IsFrameOf job.now frame) }
     {
         let shared = job.share()?;
-        let parts = open_bare(alloc, job)?;
+        let traffic = open_bare(alloc, job)?;
         Ok(Frame {
             job: shared,
-            ranks: parts.ranks,
-            lanes: parts.lanes,
-            starts: parts.starts,
-            deliveries: parts.deliveries,
-            firings: parts.firings,
+            traffic,
         })
     }
 
@@ -86,8 +70,9 @@ impl Frame {
         ensures* writes_back { sem 𝓛 (LendsLane self.entry s d lane result) }
         ensures value { result.now ≡ lane_at self.old.lanes (lane_place self.old.schedule.plan.ranks s d lane) }
     {
-        let at = place(self.ranks, s, d, lane);
-        &mut self.lanes[at]
+        let index = lane_index(self.traffic.setting.ranks, s, d, lane);
+        let lanes = &mut self.traffic.lanes;
+        lanes.lane_mut(index)
     }
 
     /// The world of these nodes, one for each rank in order, and of what lies in the frame's lanes. Under its window a lane holds at
@@ -99,39 +84,8 @@ impl Frame {
         ensures { IsClosed self nodes.items result }
     {
         let mut nodes = nodes;
-        let Frame {
-            job,
-            ranks,
-            lanes,
-            mut starts,
-            mut deliveries,
-            mut firings,
-        } = self;
-        let window = u64::from(FRAME_WINDOW);
-        mark_all(
-            &mut nodes,
-            &lanes,
-            &mut starts,
-            &mut deliveries,
-            &mut firings,
-            ranks,
-            window,
-        );
-        World::around(
-            job,
-            Parts {
-                setting: Setting {
-                    ranks,
-                    window,
-                    strays: 0,
-                    spare: 0,
-                },
-                nodes,
-                lanes,
-                starts,
-                deliveries,
-                firings,
-            },
-        )
+        let Frame { job, mut traffic } = self;
+        mark_all(&mut nodes, &mut traffic);
+        World::around(job, nodes, traffic)
     }
 }

@@ -1,6 +1,7 @@
-//! The parts of a world: nodes by rank, lanes by place, and counts of the steps that are possible, with the steps over them.
+//! The parts of a world: nodes by rank, and the traffic between them, with the steps over both.
 
 pub mod acts;
 pub mod lanes;
 pub mod laws;
 pub mod marks;
+pub mod traffic;

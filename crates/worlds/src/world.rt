@@ -25,12 +25,10 @@ ghost use Rattle.worlds.specs.World.{AreSlots, histories_in, memory_in, nic_in, 
 
 use crate::finding::{delivery_at, part_of};
 use crate::making::{allows, make};
-use crate::opening::{Parts, opened as parts_of_job};
+use crate::opening::opened as parts_of_job;
 use crate::parts::acts;
-use crate::parts::acts::Setting;
-use count_tree::CountTree;
+use crate::parts::traffic::Traffic;
 use cuts::orders::Step;
-use pair_wires::PlainLane;
 use portals_ni::Nic;
 use ptl_types::{Count, LocalStep, Message, NoMemory, Rank};
 use rank_node::Node;
@@ -55,12 +53,8 @@ pub trait Chooser {
 /// All ranks of a job on one thread, with the messages that are on their way. After its opening no call answers that memory ran out.
 pub struct World {
     job: Job,
-    setting: Setting,
     nodes: Vec<Node>,
-    lanes: Vec<PlainLane>,
-    starts: CountTree,
-    deliveries: CountTree,
-    firings: CountTree,
+    traffic: Traffic,
 }
 
 impl Model for World {
@@ -73,14 +67,13 @@ impl Model for World {
       schedule = w.job.schedule;
       inputs = w.job.inputs;
       nodes = w.nodes.items;
-      lanes = w.lanes.items;
-      window =
-          w.setting.window;
-      strays = w.setting.strays;
-      spare = w.setting.spare;
+      lanes = w.traffic.lanes;
+      window = w.traffic.setting.window;
+      strays = w.traffic.setting.strays;
+      spare = w.traffic.setting.spare;
     } };
 
-    ghost invariant = { λ w. AreFields w.job w.setting w.nodes.items w.lanes.items w.starts w.deliveries w.firings };
+    ghost invariant = { λ w. AreFields w.job w.nodes.items w.traffic };
 }
 
 // Written out, so that letting one go is one call: docs/DECISIONS.md, "Large types have a drop of their own".
@@ -88,18 +81,14 @@ impl Drop for World {
     fn drop(self) {
         let World {
             job: _,
-            setting: _,
             nodes: _,
-            lanes: _,
-            starts: _,
-            deliveries: _,
-            firings: _,
+            traffic: _,
         } = self;
     }
 }
 
 /// A job's plan has few links.
-fn few_links(job: &Job)
+fn recall_few_links(job: &Job)
     ensures { FitLanes job.now.schedule.plan 0 }
 {
     let _ = job.schedule().plan();
@@ -114,7 +103,7 @@ impl World {
     pub fn open(alloc: Global, job: &Job) -> Result<World, NoMemory>
         ensures { IfOk result (λ world. IsOpened job.now u64.MAX 0 world) }
     {
-        few_links(job);
+        recall_few_links(job);
         World::opened(alloc, job, u64::MAX, 0)
     }
 
@@ -128,7 +117,7 @@ impl World {
         requires { 0 < window }
         ensures { IfOk result (λ world. IsOpened job.now window 0 world) }
     {
-        few_links(job);
+        recall_few_links(job);
         World::opened(alloc, job, u64::from(window), 0)
     }
 
@@ -152,31 +141,23 @@ impl World {
         ensures { IfOk result (λ world. IsOpened job.now window strays world) }
     {
         let shared = job.share()?;
-        let parts = parts_of_job(alloc, job, window, strays)?;
+        let (nodes, traffic) = parts_of_job(alloc, job, window, strays)?;
         Ok(World {
             job: shared,
-            setting: parts.setting,
-            nodes: parts.nodes,
-            lanes: parts.lanes,
-            starts: parts.starts,
-            deliveries: parts.deliveries,
-            firings: parts.firings,
+            nodes,
+            traffic,
         })
     }
 
-    /// A world of a job around its parts.
-    pub(crate) fn around(job: Job, parts: Parts) -> World
-        requires { AreFields job parts.setting parts.nodes.items parts.lanes.items parts.starts parts.deliveries parts.firings }
-        ensures { result ≡ state_of job parts.setting parts.nodes.items parts.lanes.items }
+    /// A world of a job around its nodes and the traffic between them.
+    pub(crate) fn around(job: Job, nodes: Vec<Node>, traffic: Traffic) -> World
+        requires { AreFields job nodes.items traffic }
+        ensures { result ≡ state_of job nodes.items traffic }
     {
         World {
             job,
-            setting: parts.setting,
-            nodes: parts.nodes,
-            lanes: parts.lanes,
-            starts: parts.starts,
-            deliveries: parts.deliveries,
-            firings: parts.firings,
+            nodes,
+            traffic,
         }
     }
 
@@ -201,7 +182,7 @@ impl World {
         ensures rest { result ≡ 0 → (slots : ℕ → Slots) → AreSlots self.now slots →
             IsAtRest (ranks_in self.now slots) (histories_in self.now) }
     {
-        self.starts.total() + self.deliveries.total() + self.firings.total()
+        self.traffic.starts.total() + self.traffic.deliveries.total() + self.traffic.firings.total()
     }
 
     /// The possible step number `i`, from 0: starts by rank; deliveries by source, target, request before answer; firings by
@@ -210,18 +191,18 @@ impl World {
         requires { (slots : ℕ → Slots) → AreSlots self.now slots → i < length (steps_in self.now slots) }
         ensures { (slots : ℕ → Slots) → AreSlots self.now slots → slice_get (steps_in self.now slots) i ≡ Some result }
     {
-        let starts = self.starts.total();
+        let starts = self.traffic.starts.total();
         if i < starts {
-            let (r, _) = self.starts.find(i);
+            let (r, _) = self.traffic.starts.find(i);
             return Step::Start(r as u32);
         }
         let later = i - starts;
-        let deliveries = self.deliveries.total();
+        let deliveries = self.traffic.deliveries.total();
         if later < deliveries {
-            let (place, _) = self.deliveries.find(later);
-            return delivery_at(self.setting.ranks, place);
+            let (place, _) = self.traffic.deliveries.find(later);
+            return delivery_at(self.traffic.setting.ranks, place);
         }
-        let (r, rest) = self.firings.find(later - deliveries);
+        let (r, rest) = self.traffic.firings.find(later - deliveries);
         let node = &self.nodes[r];
         let _ = node.ready();
         Step::Fire(r as u32, node.ready_at(rest as u32))
@@ -232,13 +213,7 @@ impl World {
     pub fn is_enabled(&self, step: Step) -> bool
         ensures { (slots : ℕ → Slots) → AreSlots self.now slots → (IsTrue result ↔ In step (steps_in self.now slots)) }
     {
-        allows(
-            &self.nodes,
-            &self.lanes,
-            self.setting.ranks,
-            self.setting.window,
-            step,
-        )
+        allows(&self.nodes, &self.traffic, step)
     }
 
     /// Makes a step that is possible: one local step of one rank, whose message, if any, goes to the end of its lane. `kept` is
@@ -253,15 +228,7 @@ impl World {
         ensures barriers { (slots : ℕ → Slots) → AreSlots self.new slots →
             AreRoundsKept self.new.schedule.plan self.new.inputs slots (histories_in self.new) }
     {
-        make(
-            self.setting,
-            &mut self.nodes,
-            &mut self.lanes,
-            &mut self.starts,
-            &mut self.deliveries,
-            &mut self.firings,
-            step,
-        );
+        make(&mut self.nodes, &mut self.traffic, step);
     }
 
     /// Whether no step is possible. Then the world is at rest: each rank is complete, and each cell holds its value, in its
@@ -340,18 +307,7 @@ impl World {
         ensures later { IsLater self.old self.new }
         ensures strays { self.new.strays ≡ self.old.strays - 1 }
     {
-        acts::inject(
-            self.setting,
-            &mut self.nodes,
-            &mut self.lanes,
-            &mut self.starts,
-            &mut self.deliveries,
-            &mut self.firings,
-            s,
-            d,
-            message,
-        );
-        self.setting.strays -= 1;
+        acts::inject(&mut self.nodes, &mut self.traffic, s, d, message);
     }
 
     /// The local steps of a rank, oldest first.

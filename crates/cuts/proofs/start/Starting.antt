@@ -1,9 +1,9 @@
 -- A start is, to the plan's machine, the start and the landing of each message that came before.
-use Rattle.std.proofs.Common.{ℕ, zero, suc, Bool, true, false, cond, not, ◌&&◌, ◌+◌, ◌-◌, ◌*◌, ◌%◌, ◌^◌, ◌≡◌, ◌≤◌, ◌<◌, ◌⊎◌, ◌==◌, nat_le}
+use Rattle.std.proofs.Common.{ℕ, suc, Bool, true, false, cond, not, ◌&&◌, ◌+◌, ◌-◌, ◌*◌, ◌%◌, ◌^◌, ◌≡◌, ◌≤◌, ◌<◌, ◌⊎◌, ◌==◌}
 use Rattle.std.proofs.Common.{List, [], ◌∷◌, ◌++◌, refl, length, ap, ap₂, ◌∙◌, sym, subst, inl, inr, arith, map, filter, flat_map, Option}
 use Rattle.std.proofs.Common.{Some, None, eqb-true, eq-eqb, count_by, append-nil, append_assoc, le-leb, if◌then◌else◌, add-zero, zero-add}
 use Rattle.std.proofs.Common.{min}
-use Rattle.std.proofs.lemmas.Bool.{ne_eqb, and_from, false_from_ne_true, cases_eq, not-true, and_parts, leb-true}
+use Rattle.std.proofs.lemmas.Bool.{ne_eqb, and_from, cases_eq, not-true, and_parts}
 use Rattle.std.proofs.lemmas.List.Elements.{filter-append}
 use Rattle.ni_model.specs.Append.{each_counted, append, append_fault, each_gone, frees, is_within, need}
 use Rattle.ni_model.specs.Counts.{bump, successes, plus}
@@ -18,7 +18,7 @@ use Rattle.plan_core.proofs.Links.{Distinct-own, In-from_to, In-own, Lands, own-
 use Rattle.plan_core.proofs.Lists.{In-filter, In-filter_cases, count-append, count-cons, In-map_cases}
 use Rattle.plan_core.specs.Members.{In}
 use Rattle.plan_core.specs.Places.{cell_length, place_in, start_in}
-use Rattle.plan_core.specs.Plan.{Plan, all_links, cell, is_bump, link, own, all_cells, from_to}
+use Rattle.plan_core.specs.Plan.{Plan, all_links, cell, is_bump, link, own, all_cells}
 use Rattle.plan_core.specs.Sound.{SoundPlan}
 use Rattle.plan_core.specs.Values.{Inputs, initial, land, land_as}
 use Rattle.plan_core.specs.declared.Cell.{Cell}
@@ -36,24 +36,21 @@ use Rattle.ni_model.specs.Lists.{entries_in}
 use Rattle.ni_model.specs.Queues.{Waiting}
 use Rattle.ni_model.specs.Refusals.{ct_inc_fault, inc_passes}
 use Rattle.ni_model.specs.State.{State, parts_of, side_of, with_parts}
-use Rattle.ptl_types.specs.declared.calls.NiFault.{NiFault}
 use Rattle.ptl_types.specs.declared.calls.NiFault.TheVariants.{CountFull, NoSpace, OutOfRegion, Stale}
-use Rattle.ptl_types.specs.declared.entries.Entry.{Entry}
 use Rattle.ptl_types.specs.declared.entries.List.TheVariants.{Priority}
 use Rattle.ptl_types.specs.declared.handles.Handle.{Handle}
 use Rattle.ptl_types.specs.Handles.{same_handle, top}
 use Rattle.cuts.proofs.view.Installed.{placed_step, map-same, placed, placed-own, placed-shift, sum_step}
 use Rattle.cuts.proofs.view.StepFire.{lookup_counter, cts_rise, step_start}
 use Rattle.cuts.proofs.view.Tables.{place_in-one}
-use Rattle.cuts.specs.view.View.{cell_entry, entry_of, Annex, counter_of, raise_go, view}
+use Rattle.cuts.specs.view.View.{entry_of, Annex, counter_of, raise_go, view}
 use Rattle.std.proofs.lemmas.List.{length-append}
 use Rattle.std.proofs.lemmas.List.Sums.{count_by-le-length, length-filter, sum_by-cons}
-use Rattle.std.specs.Prelude.{◌||◌, is_some, sum_by}
+use Rattle.std.specs.Prelude.{is_some, sum_by}
 use Rattle.cuts.specs.machine.Machine.{came, note, seen}
 use Rattle.cuts.specs.machine.Machine.Move.{Began, Took}
 use Rattle.cuts.specs.machine.Seen.{Came, Seen, bumps, content, reached_count, to_cell}
-use Rattle.cuts.proofs.view.MatchBits.{bits_match-from, bits_match-true, high-of}
-use Rattle.cuts.proofs.view.StepArrive.{Lands-here, above-one, atomic-whole, came-counted, cell_bits-lt, content-push, entry-high}
+use Rattle.cuts.proofs.view.StepArrive.{Lands-here, atomic-whole, came-counted, content-push}
 use Rattle.plan_calls.specs.Bits.{cell_bits}
 use Rattle.cuts.specs.view.TriggeredOps.{kind_for, link_header}
 use Rattle.cuts.specs.view.Steps.{IsLinkHere, Sized}
@@ -63,78 +60,9 @@ use Rattle.ptl_types.specs.Operations.{bytes_of}
 use Rattle.ptl_types.specs.declared.elements.AtomicOp.{AtomicOp}
 use Rattle.ptl_types.specs.declared.elements.ElemType.{ElemType}
 use Rattle.ptl_types.specs.declared.handles.Count.{Count}
-
--- ---- small facts
-pub above : (n m : ℕ) → n < m → nat_le m n ≡ false
-above n m h = false_from_ne_true _ (λ e. let l = leb-true _ _ e in absurd (omega arith))
-
-pub none_of : (a b : Bool) → a ≡ false → b ≡ false → not (a || b) ≡ true
-none_of a b e f = ap₂ (λ x y. not (x || y)) e f
-
-pub room : (limit n given : ℕ) → n < limit → given < top → not (nat_le limit n || nat_le top given) ≡ true
-room limit n given h k = none_of (nat_le limit n) (nat_le top given) (above n limit h) (above given top k)
-
-need2 : (a b : Bool) (x y : NiFault) → a ≡ true → b ≡ true → need a x (need b y None) ≡ None
-need2 true true x y e f = refl
-need2 true false x y e f = cc
-need2 false b x y e f = cc
-
-pub need4 : (a b c d : Bool) (w x y z : NiFault) → a ≡ true → b ≡ true → c ≡ true → d ≡ true →
-    need a w (need b x (need c y (need d z None))) ≡ None
-need4 true true c d w x y z e f g h = need2 c d y z g h
-need4 true false c d w x y z e f g h = cc
-need4 false b c d w x y z e f g h = cc
-
-pub length-from_to : (k n : ℕ) → length (from_to k n) ≡ n
-length-from_to k zero = refl
-length-from_to k (suc n) = ap suc (length-from_to (suc k) n)
-
--- ---- which headers a cell's entry finds
-bits-cell : (p : Plan) (inputs : Inputs) → SoundPlan p (length inputs) → (k : Slots) (r l : ℕ) → IsLinkHere p r l → (c : ℕ) →
-    c < length p.cells
-    → bits_match (2 ^ 16 - 1) (link_header p k l).match_bits (cell_bits p c * 2 ^ 16) ≡ ((link p l).target == c)
-bits-cell p inputs sound k r l h c i = at (cases_eq (link p l).target c)
-  where
-    t : (link p l).target < 2 ^ 24
-    t = let top = (sound.links_sound l h.known).cells in let at_most = sound.few_cells in omega arith
-
-    d : c < 2 ^ 24
-    d = let at_most = sound.few_cells in omega arith
-
-    small : (cell p (link p l).source).rank < 2 ^ 16
-    small =
-        let w = sound.links_sound l h.known in
-        let up = w.rising in
-        let top = w.cells in
-        let a = sound.ranks_known (link p l).source (omega arith) in let b = sound.few_ranks in omega arith
-
-    at : ((link p l).target ≡ c) ⊎ ((link p l).target ≡ c → ⊥) → bits_match (2 ^ 16 - 1) (link_header p k l).match_bits
-        (cell_bits p c * 2 ^ 16) ≡ ((link p l).target == c)
-    at (inl e) =
-        bits_match-from _ _ (high-of (cell_bits p (link p l).target) (cell p (link p l).source).rank (cell_bits-lt p (link p l).target t)
-        small ∙ ap (cell_bits p) e ∙ sym (entry-high p c d))
-        ∙ sym (eq-eqb _ _ e)
-    at (inr n) =
-        false_from_ne_true _ (λ m. n (above-one _ (link p l).target _ c t d
-        (sym (high-of (cell_bits p (link p l).target) (cell p (link p l).source).rank (cell_bits-lt p (link p l).target t) small)
-        ∙ bits_match-true _ _ m ∙ entry-high p c d)))
-        ∙ sym (ne_eqb _ _ n)
-
--- the entry of a cell, as a start appends it
-abbrev pub appended_entry : Plan → Slots → ℕ → Entry
-appended_entry p s c = cell_entry p s c
-
-pub entry-started : (p : Plan) (s : Slots) (r c : ℕ) → (cell p c).rank ≡ r → started_entry (counter_at s (own p r) c) (own_cell p r c)
-    ≡ appended_entry p s c
-entry-started p s r c e = ap (λ v. started_entry (counter_at s (own p v) c) (own_cell p v c)) (sym e)
-
-allows_link : (p : Plan) (s : Slots) (c : ℕ) (o : Option AtomicOp) → allows (appended_entry p s c) (kind_for o) ≡ true
-allows_link p s c None = refl
-allows_link p s c (Some v) = refl
-
-with_true : (b a : Bool) → a ≡ true → ((b && true) && a) ≡ b
-with_true true a e = e
-with_true false a e = refl
+pub use Rattle.cuts.proofs.start.Facts.{above, length-from_to, need4, none_of, room}
+pub use Rattle.cuts.proofs.start.Finding.{appended_entry, entry-started}
+use Rattle.cuts.proofs.start.Finding.{bits-cell, allows_link, with_true}
 
 -- ---- the facts of an early message
 pub record IsEarly (annex : Annex) (p : Plan) (r : ℕ) (x : Early) : Type 0 where

@@ -1,8 +1,8 @@
 -- Parts of which nothing was done are a world.
-use Rattle.std.proofs.Common.{ℕ, zero, suc, true, false, not, ◌&&◌, ◌+◌, ◌*◌, ◌<◌, ◌≤◌, ◌≡◌, ◌∙◌, List, [], get_or, length, count_by}
+use Rattle.std.proofs.Common.{ℕ, zero, suc, true, false, not, ◌&&◌, ◌+◌, ◌*◌, ◌<◌, ◌≤◌, ◌≡◌, ◌∙◌, List, [], get_or, length, count_by, map}
 use Rattle.std.proofs.Common.{sum_by, nat_lt, replicate, if◌then◌else◌, refl, ap, sym, subst, inl, inr, arith, lt-ltb, ltb-true}
 use Rattle.std.proofs.lemmas.Bool.{and_parts, cases_Bool, cases_lt}
-use Rattle.std.proofs.lemmas.List.{get_or-replicate, get_or_past, length-replicate}
+use Rattle.std.proofs.lemmas.List.{get_or-map, get_or-replicate, get_or_past, length-map, length-replicate}
 use Rattle.std.proofs.lemmas.List.Sums.{sum_by-cons}
 use Rattle.ptl_types.specs.declared.headers.Lane.{Lane}
 use Rattle.ptl_types.specs.declared.headers.Lane.TheVariants.{Request, Answer}
@@ -20,12 +20,18 @@ use Rattle.cuts.specs.orders.Chosen.{Scene, first_scene}
 use Rattle.cuts.proofs.rest.Moments.{first_moment}
 use Rattle.cuts.specs.windows.Places.{lane_place}
 use Rattle.rank_node.specs.Node.{NodeState}
+use Rattle.worlds.specs.declared.parts.traffic.Traffic.{Traffic}
 use Rattle.worlds.specs.parts.Keeps.{AreParts, AreShort, AreStrays, IsWorld, strays_for}
 use Rattle.worlds.specs.parts.Layout.{held_in, lane_at, no_node, node_at, scene_of}
 use Rattle.worlds.specs.parts.Marks.{delivery_count, firing_count, lane_has, start_count}
 use Rattle.worlds.proofs.parts.Gated.{scene_by}
 use Rattle.worlds.proofs.parts.Placed.{lane_in}
 use Rattle.worlds.specs.opening.Fresh.{IsFresh, fresh_lane}
+
+-- what is counted of the nodes is counted of each
+pub counted_at : (f : NodeState → ℕ) (nodes : List NodeState) (xs : List ℕ) → xs ≡ map f nodes → (r : ℕ) → r < length nodes
+    → get_or xs r 0 ≡ f (node_at nodes r)
+counted_at f nodes xs e r h = ap (λ ys. get_or ys r 0) e ∙ get_or-map f nodes r no_node 0 h
 
 -- a window that has room at all has room on a lane without messages
 has-room : (window : ℕ) (ms : List Sent) → 0 < window → ms ≡ [] → nat_lt (length ms) window ≡ true
@@ -110,7 +116,7 @@ module _ (p : Plan) (inputs : Inputs) (n : ℕ) (nodes : List NodeState) (lanes 
     room = λ r h. (fresh r h).strays;
     at_most = λ d h. let q = none-for d h in omega (arith, q);
     received = λ r h. subst AreShort (sym (done-before r)) tt;
-    held = λ s d lane m hs hd here stray. absurd (subst (In m) (empty s d lane hs hd) here);
+    held = λ s d lane m hs hd lies stray. absurd (subst (In m) (empty s d lane hs hd) lies);
   }
 
   none-may : (s d : ℕ) (lane : Lane) → s < n → d < n → delivery_count lanes n window s d lane ≡ 0
@@ -118,28 +124,40 @@ module _ (p : Plan) (inputs : Inputs) (n : ℕ) (nodes : List NodeState) (lanes 
       (empty s d Request hs hd)
   none-may s d Answer hs hd = ap (λ (ms : List Sent). if nat_lt 0 (length ms) then 1 else 0) (empty s d Answer hs hd)
 
-  -- with the counts of starts and firings
-  pub is-world : (starts deliveries firings : List ℕ)
-      → length starts ≡ n → ((r : ℕ) → r < n → get_or starts r 0 ≡ start_count (node_at nodes r))
-      → deliveries ≡ replicate (2 * (n * n)) 0
-      → length firings ≡ n → ((r : ℕ) → r < n → get_or firings r 0 ≡ firing_count (node_at nodes r))
-      → IsWorld p inputs n nodes lanes starts deliveries firings window strays strays
-  is-world starts deliveries firings wide_starts of_starts none wide_firings of_firings = record {
-    parts = are-parts;
-    counted = record {
-      wide_starts = wide_starts;
-      wide_deliveries = ap length none ∙ length-replicate (2 * (n * n)) 0;
-      wide_firings = wide_firings;
-      of_starts = of_starts;
-      of_firings = of_firings;
-      of_deliveries = λ s d lane hs hd.
-          ap (λ xs. get_or xs (lane_place n s d lane) 0) none
-          ∙ get_or-replicate (2 * (n * n)) (lane_place n s d lane) 0 0 (lane_in n s d lane hs hd)
-          ∙ sym (none-may s d lane hs hd);
-      gates = λ r d hr hd.
-          ap (λ closed. get_or closed d false) (fresh r hr).gates
-          ∙ get_or-replicate n d false false hd
-          ∙ ap not (sym (has-room window (lane_at lanes (lane_place n r d Request)).messages some (empty r d Request hr hd)));
-    };
-    stray = are-strays;
+  -- with so many ranks, such lanes and counts
+  abbrev begun : ℕ → List Plain → List ℕ → List ℕ → List ℕ → Traffic
+  begun m ls starts deliveries firings = record {
+    setting = record { ranks = m; window = window; strays = strays; spare = strays };
+    lanes = ls;
+    starts = starts;
+    deliveries = deliveries;
+    firings = firings;
   }
+
+  pub is-world : (m : ℕ) → m ≡ n → (ls : List Plain) → ls ≡ lanes → (starts deliveries firings : List ℕ)
+      → starts ≡ map start_count nodes → deliveries ≡ replicate (2 * (n * n)) 0 → firings ≡ map firing_count nodes
+      → IsWorld p inputs nodes (begun m ls starts deliveries firings)
+  is-world m many ls table starts deliveries firings are_starts none are_firings =
+      subst (λ k. IsWorld p inputs nodes (begun k ls starts deliveries firings)) (sym many)
+      (subst (λ t. IsWorld p inputs nodes (begun n t starts deliveries firings)) (sym table) is)
+    where
+      is : IsWorld p inputs nodes (begun n lanes starts deliveries firings)
+      is = record {
+        parts = are-parts;
+        counted = record {
+          wide_starts = ap length are_starts ∙ length-map nodes start_count ∙ size;
+          wide_deliveries = ap length none ∙ length-replicate (2 * (n * n)) 0;
+          wide_firings = ap length are_firings ∙ length-map nodes firing_count ∙ size;
+          of_starts = λ r h. counted_at start_count nodes starts are_starts r (omega (arith, h, size));
+          of_firings = λ r h. counted_at firing_count nodes firings are_firings r (omega (arith, h, size));
+          of_deliveries = λ s d lane hs hd.
+              ap (λ xs. get_or xs (lane_place n s d lane) 0) none
+              ∙ get_or-replicate (2 * (n * n)) (lane_place n s d lane) 0 0 (lane_in n s d lane hs hd)
+              ∙ sym (none-may s d lane hs hd);
+          gates = λ r d hr hd.
+              ap (λ closed. get_or closed d false) (fresh r hr).gates
+              ∙ get_or-replicate n d false false hd
+              ∙ ap not (sym (has-room window (lane_at lanes (lane_place n r d Request)).messages some (empty r d Request hr hd)));
+        };
+        stray = are-strays;
+      }

@@ -84,58 +84,67 @@ module _ (n : ℕ) (nodes : List NodeState) (lanes : List Plain) (starts deliver
     }
 
     -- or no other request lane came to have room or to have none, and node s was told of that one
-    module _ (wide : (q : ℕ) → q < n → length (node_at nodes q).closed ≡ n) (later : List Plain) (s d : ℕ) (hs : s < n) (hd : d < n)
-        (rooms : (q e : ℕ) → q < n → e < n → ((q ≡ s) × (e ≡ d) → ⊥) → lane_has later n window q e Request ≡ lane_has lanes n window q e
+    module _ (wide : (q : ℕ) → q < n → length (node_at nodes q).closed ≡ n) (lanes_after : List Plain) (s d : ℕ) (hs : s < n) (hd : d < n)
+        (rooms : (q e : ℕ) → q < n → e < n → ((q ≡ s) × (e ≡ d) → ⊥) → lane_has lanes_after n window q e Request ≡ lane_has lanes n window
+        q e
         Request) where
-      abbrev nexts : List NodeState
-      nexts = gated later n window s d news
+      abbrev nodes_after : List NodeState
+      nodes_after = gated lanes_after n window s d news
 
       inside_news : s < length news
       inside_news = let e = length-set nodes r new in omega (arith, e, size, hs)
 
-      starts_gated : (q : ℕ) → q < n → get_or starts q 0 ≡ start_count (node_at nexts q)
+      starts_gated : (q : ℕ) → q < n → get_or starts q 0 ≡ start_count (node_at nodes_after q)
       starts_gated q h =
           starts_same q h
           ∙ ap (λ (x : Diary). if nat_lt 0 (count_by is_start x.locals) then 0 else 1)
-          (sym (is_gated later n window s d news q inside_news).diary)
+          (sym (is_gated lanes_after n window s d news q inside_news).diary)
 
-      gates_gated : (q e : ℕ) → q < n → e < n → get_or (node_at nexts q).closed e false ≡ not (lane_has later n window q e Request)
+      gates_gated : (q e : ℕ) → q < n → e < n → get_or (node_at nodes_after q).closed e false ≡ not (lane_has lanes_after n window q e
+          Request)
       gates_gated q e hq he =
           let w = ap length (closed s) ∙ wide s hs in
-          gate_right later n window s d news q e (not (lane_has later n window q e Request)) inside_news (omega (arith, w, hd))
-          (λ i. ap₂ (λ x y. not (lane_has later n window x y Request)) (sym i.0) (sym i.1))
+          gate_right lanes_after n window s d news q e (not (lane_has lanes_after n window q e Request)) inside_news (omega (arith, w, hd))
+          (λ i. ap₂ (λ x y. not (lane_has lanes_after n window x y Request)) (sym i.0) (sym i.1))
           (λ x. told_last q e hq he ∙ ap not (sym (rooms q e hq he x)))
 
       module _ (ds : List ℕ) (sized : length ds ≡ 2 * (n * n))
-          (marked : (q u : ℕ) (l : Lane) → q < n → u < n → get_or ds (lane_place n q u l) 0 ≡ delivery_count later n window q u l) where
-        -- r is the one that was told
-        pub sent_counted : r ≡ s → AreCounted n nexts later starts ds (firing_mark nexts s firings) window
-        sent_counted is = record {
-          wide_starts = k.wide_starts;
-          wide_deliveries = sized;
-          wide_firings = length-set firings s (firing_count (node_at nexts s)) ∙ k.wide_firings;
-          of_starts = starts_gated;
-          of_firings = λ q h.
-              let w = k.wide_firings in
-              at_set (λ x. x ≡ firing_count (node_at nexts q)) firings s q (firing_count (node_at nexts s)) 0 (omega (arith, w, hs))
-              (λ e. ap (λ t. firing_count (node_at nexts t)) (sym e))
-              (λ x. k.of_firings q h ∙ ap firing_count (sym (gated_other later n window s d news q x ∙ other q (λ e. x (e ∙ is)))));
-          of_deliveries = marked;
-          gates = gates_gated;
-        }
+          (marked : (q u : ℕ) (l : Lane) → q < n → u < n → get_or ds (lane_place n q u l) 0 ≡ delivery_count lanes_after n window q u l)
+        where
+          -- r is the one that was told
+          pub sent_counted : r ≡ s → AreCounted n nodes_after lanes_after starts ds (firing_mark nodes_after s firings) window
+          sent_counted is = record {
+            wide_starts = k.wide_starts;
+            wide_deliveries = sized;
+            wide_firings = length-set firings s (firing_count (node_at nodes_after s)) ∙ k.wide_firings;
+            of_starts = starts_gated;
+            of_firings = λ q h.
+                let w = k.wide_firings in
+                at_set (λ x. x ≡ firing_count (node_at nodes_after q)) firings s q (firing_count (node_at nodes_after s)) 0 (omega (
+                  arith,
+                  w,
+                  hs,
+                ))
+                (λ e. ap (λ t. firing_count (node_at nodes_after t)) (sym e))
+                (λ x. k.of_firings q h ∙ ap firing_count (sym (gated_other lanes_after n window s d news q x ∙ other q (λ e. x (e ∙ is)))));
+            of_deliveries = marked;
+            gates = gates_gated;
+          }
 
-        -- r may be another
-        pub delivered_counted : AreCounted n nexts later starts ds (firing_mark nexts s (firing_mark news r firings)) window
-        delivered_counted = record {
-          wide_starts = k.wide_starts;
-          wide_deliveries = sized;
-          wide_firings = length-set (firing_mark news r firings) s (firing_count (node_at nexts s)) ∙ firings_size;
-          of_starts = starts_gated;
-          of_firings = λ q h.
-              let w = firings_size in
-              at_set (λ x. x ≡ firing_count (node_at nexts q)) (firing_mark news r firings) s q (firing_count (node_at nexts s)) 0
-              (omega (arith, w, hs)) (λ e. ap (λ t. firing_count (node_at nexts t)) (sym e))
-              (λ x. firings_right q h ∙ ap firing_count (sym (gated_other later n window s d news q x)));
-          of_deliveries = marked;
-          gates = gates_gated;
-        }
+          -- r may be another
+          pub delivered_counted : AreCounted n nodes_after lanes_after starts ds (firing_mark nodes_after s (firing_mark news r firings))
+              window
+          delivered_counted = record {
+            wide_starts = k.wide_starts;
+            wide_deliveries = sized;
+            wide_firings = length-set (firing_mark news r firings) s (firing_count (node_at nodes_after s)) ∙ firings_size;
+            of_starts = starts_gated;
+            of_firings = λ q h.
+                let w = firings_size in
+                at_set (λ x. x ≡ firing_count (node_at nodes_after q)) (firing_mark news r firings) s q (firing_count (node_at nodes_after
+                s)) 0
+                (omega (arith, w, hs)) (λ e. ap (λ t. firing_count (node_at nodes_after t)) (sym e))
+                (λ x. firings_right q h ∙ ap firing_count (sym (gated_other lanes_after n window s d news q x)));
+            of_deliveries = marked;
+            gates = gates_gated;
+          }

@@ -39,6 +39,7 @@ use Rattle.cuts.specs.windows.Places.{lane_place}
 use Rattle.rank_node.proofs.Nodes.{receipt-node}
 use Rattle.rank_node.specs.Node.{NodeState, received_node}
 use Rattle.worlds.specs.parts.Keeps.{AgreeAll, IsWorld}
+use Rattle.worlds.specs.declared.parts.traffic.Traffic.{Traffic}
 use Rattle.worlds.specs.parts.Layout.{held_in, lane_at, node_at, scene_of}
 use Rattle.worlds.specs.parts.Marks.{HasPlace, delivery_mark, firing_mark, gated, lane_back, lane_has, lane_may, out_with, popped}
 use Rattle.worlds.specs.parts.Marks.{start_count}
@@ -49,17 +50,17 @@ use Rattle.worlds.proofs.parts.Marked.{lane_marked, mark_size}
 use Rattle.worlds.proofs.parts.Moving.{clash, Moved, Taken, agree_back, agree_now, may_go_out, nic_is, parts_news, scene_news, slots_now}
 use Rattle.worlds.proofs.parts.Moving.{strays_news}
 use Rattle.worlds.proofs.parts.Placed.{OneLane, lanes_apart}
-use Rattle.worlds.proofs.parts.Renewed.{IsRenewed, as_told, renewed_by}
+use Rattle.worlds.proofs.parts.Renewed.{IsRenewed, as_told, left, renewed_by}
 use Rattle.worlds.proofs.parts.Sets.{at_set, sum_moves}
 use Rattle.worlds.proofs.parts.Steps.{IsDone, finish, no_start, stays_of, wide_gates}
 use Rattle.worlds.proofs.parts.Strays.{short_more}
 
 -- what the code leaves after a delivery from s to d
-pub record IsDelivered (n window s d : ℕ) (lane : Lane) (news : List NodeState) (later : List Plain) (deliveries firings : List ℕ)
-    (nexts : List NodeState) (b c : List ℕ) : Type 0 where
-  pub gates : nexts ≡ gated later n window s d news
-  pub of_deliveries : b ≡ delivery_mark later n window d s (lane_back lane) (delivery_mark later n window s d lane deliveries)
-  pub of_firings : c ≡ firing_mark nexts s (firing_mark news d firings)
+pub record IsDelivered (n window s d : ℕ) (lane : Lane) (news : List NodeState) (lanes_after : List Plain) (deliveries firings : List ℕ)
+    (nodes_after : List NodeState) (b c : List ℕ) : Type 0 where
+  pub gates : nodes_after ≡ gated lanes_after n window s d news
+  pub of_deliveries : b ≡ delivery_mark lanes_after n window d s (lane_back lane) (delivery_mark lanes_after n window s d lane deliveries)
+  pub of_firings : c ≡ firing_mark nodes_after s (firing_mark news d firings)
 
 -- an answer goes back to the source of the request
 goes_back : (p : Plan) (slots : Slots) (r : ℕ) (v : State) (s : ℕ) (lane : Lane) (m x : Sent) → IsOf p slots r v →
@@ -92,9 +93,34 @@ owned_front m ms = at (not (is_stray m))
     at true = omega arith
     at false = omega arith
 
-module _ (p : Plan) (inputs : Inputs) (n : ℕ) (nodes : List NodeState) (lanes : List Plain) (starts deliveries firings : List ℕ)
-    (window strays spare : ℕ) (k : IsWorld p inputs n nodes lanes starts deliveries firings window strays spare)
-    (s d : ℕ) (lane : Lane) (hs : s < n) (hd : d < n) (may : lane_may lanes n window s d lane ≡ true) where
+module _ (p : Plan) (inputs : Inputs) (nodes : List NodeState) (traffic : Traffic)
+    (k : IsWorld p inputs nodes traffic)
+    (s d : ℕ) (lane : Lane) (hs : s < traffic.setting.ranks) (hd : d < traffic.setting.ranks)
+    (may : lane_may traffic.lanes traffic.setting.ranks traffic.setting.window s d lane ≡ true) where
+  abbrev n : ℕ
+  n = traffic.setting.ranks
+
+  abbrev lanes : List Plain
+  lanes = traffic.lanes
+
+  abbrev starts : List ℕ
+  starts = traffic.starts
+
+  abbrev deliveries : List ℕ
+  deliveries = traffic.deliveries
+
+  abbrev firings : List ℕ
+  firings = traffic.firings
+
+  abbrev window : ℕ
+  window = traffic.setting.window
+
+  abbrev strays : ℕ
+  strays = traffic.setting.strays
+
+  abbrev spare : ℕ
+  spare = traffic.setting.spare
+
   abbrev ms : List Sent
   ms = (lane_at lanes (lane_place n s d lane)).messages
 
@@ -197,20 +223,20 @@ module _ (p : Plan) (inputs : Inputs) (n : ℕ) (nodes : List NodeState) (lanes 
         let a = sum_moves (λ q. count_by is_stray (lane_at lanes (lane_place n q d Request)).messages)
         (λ q. count_by is_stray (lane_at mid (lane_place n q d Request)).messages) s (count_by is_received_stray (e ∷ [])) 0 0 n
         (omega arith) (omega arith)
-        (λ q x low high. deliver_taken.strays (lane_place n q d Request)) (here (is_stray m) refl) in
+        (λ q x low high. deliver_taken.strays (lane_place n q d Request)) (at_lane (is_stray m) refl) in
         omega (arith, a)
       where
         asks : is_stray m ≡ true → lane ≡ Request
         asks y = let c = k.parts.count in ((k.parts.moment slots agree).strays s d lane m (omega (arith, c)) (omega (arith, c))
             (subst (λ xs. In m xs) (sym (held_here n lanes s d lane hs hd)) first_in) y).asks
 
-        here : (b : Bool) → is_stray m ≡ b → count_by is_stray (lane_at mid (lane_place n s d Request)).messages + count_by
+        at_lane : (b : Bool) → is_stray m ≡ b → count_by is_stray (lane_at mid (lane_place n s d Request)).messages + count_by
             is_received_stray (e ∷ []) ≤ count_by is_stray (lane_at lanes (lane_place n s d Request)).messages + 0
-        here false y = let a = one_count in let b = ap (λ t. cond {A = ℕ} t 1 0) y in let c =
+        at_lane false y = let a = one_count in let b = ap (λ t. cond {A = ℕ} t 1 0) y in let c =
             deliver_taken.strays
             (lane_place n s d Request) in
             omega (arith, a, b, c)
-        here true y =
+        at_lane true y =
             let a = one_count in
             let b = count_front in
             let c = ap (λ t. count_by is_stray (lane_at lanes (lane_place n s d t)).messages) (asks y) in
@@ -354,11 +380,11 @@ module _ (p : Plan) (inputs : Inputs) (n : ℕ) (nodes : List NodeState) (lanes 
           (lane_marked n lanes deliveries window answered s d hs hd k.counted.wide_deliveries k.counted.of_deliveries lane
           (deliver_apart o refl)))
 
-      pub deliver_done : (nexts : List NodeState) (b c : List ℕ) →
+      pub deliver_done : (nodes_after : List NodeState) (b c : List ℕ) →
           IsDelivered n window s d lane (set nodes d (received_node s lane m (node_at nodes d))) (out_with n d o mid) deliveries firings
-          nexts b c
-          → IsDone p inputs n (Deliver s d lane) nodes lanes nexts (out_with n d o mid) starts b c window strays spare
-      deliver_done nexts b c is = finish p inputs n nodes lanes starts deliveries firings window strays spare k (Deliver s d lane)
+          nodes_after b c
+          → IsDone p inputs (Deliver s d lane) nodes traffic nodes_after (left traffic.setting (out_with n d o mid) starts b c)
+      deliver_done nodes_after b c is = finish p inputs nodes traffic k (Deliver s d lane)
           (set nodes d (received_node s lane m (node_at nodes d))) (out_with n d o mid)
           (parts_news p inputs n nodes lanes window strays spare k.parts k.stray d hd e mid deliver_taken deliver_enabled deliver_is o
           makes deliver_to deliver_open (received_node s lane m (node_at nodes d)) deliver_moved)
@@ -368,19 +394,21 @@ module _ (p : Plan) (inputs : Inputs) (n : ℕ) (nodes : List NodeState) (lanes 
           makes deliver_to deliver_open (received_node s lane m (node_at nodes d)) deliver_moved)
           (agree_back p inputs n nodes lanes window strays spare k.parts k.stray d hd e mid deliver_taken deliver_enabled deliver_is o
           makes deliver_to deliver_open (received_node s lane m (node_at nodes d)) deliver_moved)
-          nexts starts b c
+          nodes_after starts b c
           (renewed_by n window received answered (gated answered n window s d received) starts
           (delivery_mark answered n window d s (lane_back lane) (delivery_mark answered n window s d lane deliveries))
-          (λ v. firing_mark v s (firing_mark received d firings)) deliver_renewed nexts b c is.gates is.of_deliveries is.of_firings)
+          (λ v. firing_mark v s (firing_mark received d firings)) deliver_renewed nodes_after b c is.gates is.of_deliveries is.of_firings)
 
       -- as the code has it
-      pub deliver_as : (later : List Plain) → later ≡ out_with n d o mid → (news : List NodeState) →
+      pub deliver_as : (lanes_after : List Plain) → lanes_after ≡ out_with n d o mid → (news : List NodeState) →
           news ≡ set nodes d (received_node s lane m (node_at nodes d))
-          → (nexts : List NodeState) (b c : List ℕ) → IsDelivered n window s d lane news later deliveries firings nexts b c →
-          IsDone p inputs n (Deliver s d lane) nodes lanes nexts later starts b c window strays spare
-      deliver_as later out news made nexts b c is =
-          subst (λ l. IsDone p inputs n (Deliver s d lane) nodes lanes nexts l starts b c window strays spare) (sym out)
-          (deliver_done nexts b c
-          (subst (λ l. IsDelivered n window s d lane (set nodes d (received_node s lane m (node_at nodes d))) l deliveries firings nexts b
+          → (nodes_after : List NodeState) (b c : List ℕ) → IsDelivered n window s d lane news lanes_after deliveries firings nodes_after
+          b c →
+          IsDone p inputs (Deliver s d lane) nodes traffic nodes_after (left traffic.setting lanes_after starts b c)
+      deliver_as lanes_after out news made nodes_after b c is =
+          subst (λ l. IsDone p inputs (Deliver s d lane) nodes traffic nodes_after (left traffic.setting l starts b c)) (sym out)
+          (deliver_done nodes_after b c
+          (subst (λ l. IsDelivered n window s d lane (set nodes d (received_node s lane m (node_at nodes d))) l deliveries firings
+          nodes_after b
           c) out
-          (subst (λ v. IsDelivered n window s d lane v later deliveries firings nexts b c) made is)))
+          (subst (λ v. IsDelivered n window s d lane v lanes_after deliveries firings nodes_after b c) made is)))

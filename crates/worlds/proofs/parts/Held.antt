@@ -64,8 +64,8 @@ module _ (n : ℕ) (lanes : List Plain) (size : length lanes ≡ 2 * (n * n)) (a
   abbrev pub set_lane : List Plain
   set_lane = set lanes (lane_place n a b way) (plain ms (lane_at lanes (lane_place n a b way)).capacity)
 
-  here : lane_place n a b way < length lanes
-  here = inside n lanes size a b way ha hb
+  in_table : lane_place n a b way < length lanes
+  in_table = inside n lanes size a b way ha hb
 
   pub set_size : length set_lane ≡ 2 * (n * n)
   set_size = length-set lanes (lane_place n a b way) (plain ms (lane_at lanes (lane_place n a b way)).capacity) ∙ size
@@ -78,12 +78,12 @@ module _ (n : ℕ) (lanes : List Plain) (size : length lanes ≡ 2 * (n * n)) (a
 
   pub set_here : (lane_at set_lane (lane_place n a b way)).messages ≡ ms
   set_here = ap (λ (x : Plain). x.messages) (get_or-set_same lanes (lane_place n a b way)
-      (plain ms (lane_at lanes (lane_place n a b way)).capacity) (plain [] 0) here)
+      (plain ms (lane_at lanes (lane_place n a b way)).capacity) (plain [] 0) in_table)
 
   -- each keeps its room
   pub set_capacity : (i : ℕ) → (lane_at set_lane i).capacity ≡ (lane_at lanes i).capacity
   set_capacity i = at_set (λ x. x.capacity ≡ (lane_at lanes i).capacity) lanes (lane_place n a b way) i
-      (plain ms (lane_at lanes (lane_place n a b way)).capacity) (plain [] 0) here (λ e. ap (λ j. (lane_at lanes j).capacity) (sym e))
+      (plain ms (lane_at lanes (lane_place n a b way)).capacity) (plain [] 0) in_table (λ e. ap (λ j. (lane_at lanes j).capacity) (sym e))
       (λ x. refl)
 
   pub held_set : (s d : ℕ) (lane : Lane) → held_in n set_lane s d lane

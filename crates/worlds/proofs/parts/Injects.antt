@@ -22,6 +22,8 @@ use Rattle.cuts.proofs.rest.Moments.{next_stray}
 use Rattle.cuts.specs.windows.Places.{lane_place}
 use Rattle.rank_node.specs.Node.{NodeState, stray_bytes}
 use Rattle.worlds.specs.parts.Keeps.{AreCounted, AreParts, AreStrays, IsWorld, strays_for}
+use Rattle.worlds.specs.declared.parts.lanes.Setting.{Setting}
+use Rattle.worlds.specs.declared.parts.traffic.Traffic.{Traffic}
 use Rattle.worlds.specs.parts.Layout.{held_in, lane_at, no_node, node_at, scene_of}
 use Rattle.worlds.specs.parts.Steps.{IsInjected, injected}
 use Rattle.worlds.proofs.parts.Counted.{sent_counted}
@@ -30,18 +32,18 @@ use Rattle.worlds.proofs.parts.Held.{held_here, held_set, inside, set_capacity, 
 use Rattle.worlds.proofs.parts.Marked.{mark_size, request_marked}
 use Rattle.worlds.proofs.parts.Moving.{agree_now, few_held, slots_now}
 use Rattle.worlds.proofs.parts.Placed.{OneLane, is_lane_of, one_lane}
-use Rattle.worlds.proofs.parts.Renewed.{IsRenewed, agree_next, as_told, renewed, renewed_by, scene_next}
+use Rattle.worlds.proofs.parts.Renewed.{IsRenewed, agree_next, as_told, left, renewed, renewed_by, scene_next}
 use Rattle.worlds.proofs.parts.Sets.{at_set, part_le, sum_le, sum_moves}
 use Rattle.worlds.proofs.parts.Steps.{wide_gates}
 use Rattle.worlds.proofs.parts.Strays.{owned_and_strays, owned_same, stray_more}
 use Rattle.worlds.specs.parts.Marks.{delivery_mark, firing_mark, gated}
 
 -- what the code leaves after a stray from s to d
-pub record IsJoined (n window s d : ℕ) (news : List NodeState) (later : List Plain) (deliveries firings : List ℕ)
-    (nexts : List NodeState) (b c : List ℕ) : Type 0 where
-  pub gates : nexts ≡ gated later n window s d news
-  pub of_deliveries : b ≡ delivery_mark later n window s d Request deliveries
-  pub of_firings : c ≡ firing_mark nexts s firings
+pub record IsJoined (n window s d : ℕ) (news : List NodeState) (lanes_after : List Plain) (deliveries firings : List ℕ)
+    (nodes_after : List NodeState) (b c : List ℕ) : Type 0 where
+  pub gates : nodes_after ≡ gated lanes_after n window s d news
+  pub of_deliveries : b ≡ delivery_mark lanes_after n window s d Request deliveries
+  pub of_firings : c ≡ firing_mark nodes_after s firings
 
 -- the injection of a stray on a used lane is a step of the plan's ranks and strays
 pub stray_step : (ranks : System) (z : Scene) (s d : ℕ) (m : Sent) → s < ranks.count → d < ranks.count → ranks.used s d Request ≡ true
@@ -59,14 +61,43 @@ stray_step ranks z s d m hs hd used stray source target kept = record {
   put = λ q u lane. refl;
 }
 
-module _ (p : Plan) (inputs : Inputs) (n : ℕ) (nodes : List NodeState) (lanes : List Plain) (starts deliveries firings : List ℕ)
-    (window strays spare : ℕ) (k : IsWorld p inputs n nodes lanes starts deliveries firings window strays spare)
-    (s d : ℕ) (m : Sent) (some : 0 < strays) (hs : s < n) (hd : d < n) (stray : is_stray m ≡ true) where
+module _ (p : Plan) (inputs : Inputs) (nodes : List NodeState) (traffic : Traffic)
+    (k : IsWorld p inputs nodes traffic)
+    (s d : ℕ) (m : Sent) (some : 0 < traffic.setting.strays) (hs : s < traffic.setting.ranks) (hd : d < traffic.setting.ranks)
+    (stray : is_stray m ≡ true) where
+  abbrev n : ℕ
+  n = traffic.setting.ranks
+
+  abbrev lanes : List Plain
+  lanes = traffic.lanes
+
+  abbrev starts : List ℕ
+  starts = traffic.starts
+
+  abbrev deliveries : List ℕ
+  deliveries = traffic.deliveries
+
+  abbrev firings : List ℕ
+  firings = traffic.firings
+
+  abbrev window : ℕ
+  window = traffic.setting.window
+
+  abbrev strays : ℕ
+  strays = traffic.setting.strays
+
+  abbrev spare : ℕ
+  spare = traffic.setting.spare
+
   abbrev full : List Sent
   full = (lane_at lanes (lane_place n s d Request)).messages ++ m ∷ []
 
-  abbrev later : List Plain
-  later = set_lane n lanes k.parts.wide s d Request hs hd full
+  abbrev lanes_after : List Plain
+  lanes_after = set_lane n lanes k.parts.wide s d Request hs hd full
+
+  -- one fewer may still be injected
+  abbrev fewer : Setting
+  fewer = record traffic.setting { strays = traffic.setting.strays - 1 }
 
   -- there is room for it
   pub inject_room : length (lane_at lanes (lane_place n s d Request)).messages < (lane_at lanes (lane_place n s d Request)).capacity
@@ -83,8 +114,8 @@ module _ (p : Plan) (inputs : Inputs) (n : ℕ) (nodes : List NodeState) (lanes 
       let o = owned_and_strays (lane_at lanes (lane_place n s d Request)).messages in
       omega (arith, a, b, e, f, g, w, o, some)
 
-  is_injected : scene_of n nodes later ≡ injected s d m (scene_of n nodes lanes)
-  is_injected = scene_by (scene_of n nodes lanes).world (scene_of n nodes lanes).world (held_in n later)
+  is_injected : scene_of n nodes lanes_after ≡ injected s d m (scene_of n nodes lanes)
+  is_injected = scene_by (scene_of n nodes lanes).world (scene_of n nodes lanes).world (held_in n lanes_after)
       (λ q u l. held_in n lanes q u l ++ (if is_request_lane s d q u l then m ∷ [] else [])) (λ q. refl) held
     where
       by_lane : (q u : ℕ) (l : Lane) → (if is_lane_of s d Request q u l then full else held_in n lanes q u l) ≡ held_in n lanes q u l ++
@@ -101,70 +132,72 @@ module _ (p : Plan) (inputs : Inputs) (n : ℕ) (nodes : List NodeState) (lanes 
             ∙ ap (λ t. held_in n lanes q u l ++ (if t then m ∷ [] else [])) (sym e)
       ]
 
-      held : (q u : ℕ) (l : Lane) → held_in n later q u l ≡ held_in n lanes q u l ++ (if is_request_lane s d q u l then m ∷ [] else [])
+      held : (q u : ℕ) (l : Lane) → held_in n lanes_after q u l ≡ held_in n lanes q u l ++ (if is_request_lane s d q u l then m ∷ [] else
+          [])
       held q u l =
           held_set n lanes k.parts.wide s d Request hs hd full q u l
           ∙ by_lane q u l
 
   -- no other lane changed
   inject_apart : (a b : ℕ) (l : Lane) → a < n → b < n → (OneLane a b l s d Request → ⊥) →
-      lane_at later (lane_place n a b l) ≡ lane_at lanes (lane_place n a b l)
+      lane_at lanes_after (lane_place n a b l) ≡ lane_at lanes (lane_place n a b l)
   inject_apart a b l ha hb x = set_other n lanes k.parts.wide s d Request hs hd full a b l hb x
 
   abbrev told : List NodeState
-  told = gated later n window s d nodes
+  told = gated lanes_after n window s d nodes
 
   abbrev marked : List ℕ
-  marked = delivery_mark later n window s d Request deliveries
+  marked = delivery_mark lanes_after n window s d Request deliveries
 
-  inject_counted : AreCounted n told later starts marked (firing_mark told s firings) window
+  inject_counted : AreCounted n told lanes_after starts marked (firing_mark told s firings) window
   inject_counted =
-      subst (λ v. AreCounted n (gated later n window s d v) later starts marked (firing_mark (gated later n window s d v) s firings)
+      subst (λ v. AreCounted n (gated lanes_after n window s d v) lanes_after starts marked (firing_mark (gated lanes_after n window s d
+      v) s firings)
       window) (set-get_or nodes s no_node)
       (sent_counted n nodes lanes starts deliveries firings window k.counted k.parts.size s hs (node_at nodes s) refl refl
-      (wide_gates p inputs n nodes lanes window spare k.parts) later s d hs hd
+      (wide_gates p inputs n nodes lanes window spare k.parts) lanes_after s d hs hd
       (λ a b ha hb x. ap (λ (z : Plain). nat_lt (length z.messages) window)
       (inject_apart a b Request ha hb (λ i. x (i.source, i.destination))))
-      marked (mark_size n later window s d Request deliveries ∙ k.counted.wide_deliveries)
-      (request_marked n lanes deliveries window later s d hs hd k.counted.wide_deliveries k.counted.of_deliveries inject_apart)
+      marked (mark_size n lanes_after window s d Request deliveries ∙ k.counted.wide_deliveries)
+      (request_marked n lanes deliveries window lanes_after s d hs hd k.counted.wide_deliveries k.counted.of_deliveries inject_apart)
       refl)
 
-  inject_renewed : IsRenewed n window nodes later told starts marked (firing_mark told s firings)
-  inject_renewed = let size = k.parts.size in as_told n window nodes later s d (omega (arith, size, hs)) starts marked
+  inject_renewed : IsRenewed n window nodes lanes_after told starts marked (firing_mark told s firings)
+  inject_renewed = let size = k.parts.size in as_told n window nodes lanes_after s d (omega (arith, size, hs)) starts marked
       (firing_mark told s firings) inject_counted
 
   -- ---- strays
-  more_there : (q u : ℕ) → u < n → ((q ≡ s) × (u ≡ d) → ⊥) → count_by is_stray (lane_at later (lane_place n q u Request)).messages
+  more_there : (q u : ℕ) → u < n → ((q ≡ s) × (u ≡ d) → ⊥) → count_by is_stray (lane_at lanes_after (lane_place n q u Request)).messages
       ≤ count_by is_stray (lane_at lanes (lane_place n q u Request)).messages
   more_there q u hu x = let a = ap (λ (l : Plain). count_by is_stray l.messages)
       (set_other n lanes k.parts.wide s d Request hs hd full q u Request hu (λ o. x (o.source, o.destination))) in
       omega (arith, a)
 
-  more_here : count_by is_stray (lane_at later (lane_place n s d Request)).messages ≤ count_by is_stray
+  more_here : count_by is_stray (lane_at lanes_after (lane_place n s d Request)).messages ≤ count_by is_stray
       (lane_at lanes (lane_place n s d Request)).messages + 1
   more_here =
       let a = ap (count_by is_stray) (set_here n lanes k.parts.wide s d Request hs hd full) in
       let b = stray_more (lane_at lanes (lane_place n s d Request)).messages m stray in
       omega (arith, a, b)
 
-  few_injected : (u : ℕ) → u < n → strays_for n nodes later u + (strays - 1) ≤ spare
+  few_injected : (u : ℕ) → u < n → strays_for n nodes lanes_after u + (strays - 1) ≤ spare
   few_injected u hu = elim (cases_eq u d) [
     | inl i ↦
         let a = sum_moves (λ q. count_by is_stray (lane_at lanes (lane_place n q d Request)).messages)
-        (λ q. count_by is_stray (lane_at later (lane_place n q d Request)).messages) s 0 1 0 n (omega arith) (omega arith)
+        (λ q. count_by is_stray (lane_at lanes_after (lane_place n q d Request)).messages) s 0 1 0 n (omega arith) (omega arith)
         (λ q x low high. more_there q d hd (λ y. x y.0)) (let h = more_here in omega (arith, h)) in
         let b = k.stray.at_most d hd in
-        let c = ap (strays_for n nodes later) i in
+        let c = ap (strays_for n nodes lanes_after) i in
         omega (arith, a, b, c)
     | inr x ↦
         let a = sum_le (λ q. count_by is_stray (lane_at lanes (lane_place n q u Request)).messages)
-        (λ q. count_by is_stray (lane_at later (lane_place n q u Request)).messages) 0 n
+        (λ q. count_by is_stray (lane_at lanes_after (lane_place n q u Request)).messages) 0 n
         (λ q low high. more_there q u hu (λ y. x y.1)) in
         let b = k.stray.at_most u hu in
         omega (arith, a, b)
   ]
 
-  strays_injected : length m.bytes ≤ stray_bytes → AreStrays n nodes later (strays - 1) spare
+  strays_injected : length m.bytes ≤ stray_bytes → AreStrays n nodes lanes_after (strays - 1) spare
   strays_injected short = record {
     room = k.stray.room;
     at_most = few_injected;
@@ -180,62 +213,66 @@ module _ (p : Plan) (inputs : Inputs) (n : ℕ) (nodes : List NodeState) (lanes 
         (λ j h. k.stray.held q u lane x hq hu h e) i;
   }
 
-  module _ (nexts : List NodeState) (b c : List ℕ) (is : IsJoined n window s d nodes later deliveries firings nexts b c) where
-    next : IsRenewed n window nodes later nexts starts b c
-    next = renewed_by n window nodes later told starts marked (λ v. firing_mark v s firings) inject_renewed nexts b c is.gates
-        is.of_deliveries is.of_firings
+  module _ (nodes_after : List NodeState) (b c : List ℕ) (is : IsJoined n window s d nodes lanes_after deliveries firings nodes_after b c)
+    where
+      told_again : IsRenewed n window nodes lanes_after nodes_after starts b c
+      told_again = renewed_by n window nodes lanes_after told starts marked (λ v. firing_mark v s firings) inject_renewed nodes_after b c
+          is.gates
+          is.of_deliveries is.of_firings
 
-    pub inject_step : IsInjected n s d m nodes lanes nexts later
-    inject_step = record {
-      scene = scene_next n window nodes later nexts starts b c next ∙ is_injected;
-      slots = agree_next n window nodes later nexts starts b c next;
-    }
-
-    -- on a used lane a world is left
-    module _ (source : m.header.source ≡ s) (target : m.header.target ≡ d) (kept : IsKept m) (short : length m.bytes ≤ stray_bytes)
-        (used : is_used_lane p s d Request ≡ true) where
-      parts_injected : AreParts p inputs n nodes later window spare
-      parts_injected = record {
-        at_most = k.parts.at_most;
-        count = k.parts.count;
-        sound = k.parts.sound;
-        fit = k.parts.fit;
-        some = k.parts.some;
-        size = k.parts.size;
-        wide = set_size n lanes k.parts.wide s d Request hs hd full;
-        compiled = k.parts.compiled;
-        node = k.parts.node;
-        moment = λ slots g.
-            let count = k.parts.count in
-            let z = scene_of n nodes lanes in
-            subst (λ (v : Scene). IsMoment (system_of p inputs slots) v.world v.held) (sym is_injected)
-            (next_stray p inputs slots z.world z.held (k.parts.moment slots g) (injected s d m z).world (injected s d m z).held
-            (stray_step (system_of p inputs slots) z s d m (omega (arith, count)) (omega (arith, count)) used stray source target kept));
-        room = λ q u lane hq hu. let e = k.parts.room q u lane hq hu in let f = set_capacity n lanes k.parts.wide s d Request hs hd full
-            (lane_place n q u lane) in omega (arith, e, f);
-        within = λ q u lane hq hu. at_set (λ (l : Plain). length (owned l.messages) ≤ window) lanes (lane_place n s d Request)
-            (lane_place n q u lane) (plain full (lane_at lanes (lane_place n s d Request)).capacity) (plain [] 0)
-            (inside n lanes k.parts.wide s d Request hs hd)
-            (λ j. let e = owned_same (lane_at lanes (lane_place n s d Request)).messages m stray in let f =
-            k.parts.within s d Request hs hd
-            in omega (arith, e, f))
-            (λ j. k.parts.within q u lane hq
-            hu);
+      pub inject_step : IsInjected s d m nodes traffic nodes_after (left fewer lanes_after starts b c)
+      inject_step = record {
+        setting = refl;
+        scene = scene_next fewer nodes lanes_after nodes_after starts b c told_again ∙ is_injected;
+        slots = agree_next fewer nodes lanes_after nodes_after starts b c told_again;
       }
 
-      pub inject_world : IsWorld p inputs n nexts later starts b c window (strays - 1) spare
-      inject_world = renewed n window nodes later nexts starts b c next p inputs (strays - 1) spare parts_injected (strays_injected short)
+      -- on a used lane a world is left
+      module _ (source : m.header.source ≡ s) (target : m.header.target ≡ d) (kept : IsKept m) (short : length m.bytes ≤ stray_bytes)
+          (used : is_used_lane p s d Request ≡ true) where
+        parts_injected : AreParts p inputs n nodes lanes_after window spare
+        parts_injected = record {
+          at_most = k.parts.at_most;
+          count = k.parts.count;
+          sound = k.parts.sound;
+          fit = k.parts.fit;
+          some = k.parts.some;
+          size = k.parts.size;
+          wide = set_size n lanes k.parts.wide s d Request hs hd full;
+          compiled = k.parts.compiled;
+          node = k.parts.node;
+          moment = λ slots g.
+              let count = k.parts.count in
+              let z = scene_of n nodes lanes in
+              subst (λ (v : Scene). IsMoment (system_of p inputs slots) v.world v.held) (sym is_injected)
+              (next_stray p inputs slots z.world z.held (k.parts.moment slots g) (injected s d m z).world (injected s d m z).held
+              (stray_step (system_of p inputs slots) z s d m (omega (arith, count)) (omega (arith, count)) used stray source target kept));
+          room = λ q u lane hq hu. let e = k.parts.room q u lane hq hu in let f = set_capacity n lanes k.parts.wide s d Request hs hd full
+              (lane_place n q u lane) in omega (arith, e, f);
+          within = λ q u lane hq hu. at_set (λ (l : Plain). length (owned l.messages) ≤ window) lanes (lane_place n s d Request)
+              (lane_place n q u lane) (plain full (lane_at lanes (lane_place n s d Request)).capacity) (plain [] 0)
+              (inside n lanes k.parts.wide s d Request hs hd)
+              (λ j. let e = owned_same (lane_at lanes (lane_place n s d Request)).messages m stray in let f =
+              k.parts.within s d Request hs hd
+              in omega (arith, e, f))
+              (λ j. k.parts.within q u lane hq
+              hu);
+        }
+
+        pub inject_world : IsWorld p inputs nodes_after (left fewer lanes_after starts b c)
+        inject_world = renewed fewer nodes lanes_after nodes_after starts b c told_again p inputs parts_injected (strays_injected short)
 
   -- ---- as the code has it
-  module _ (left : List Plain) (put : left ≡ later) (nexts : List NodeState) (b c : List ℕ)
-      (is : IsJoined n window s d nodes left deliveries firings nexts b c) where
-    joined : IsJoined n window s d nodes later deliveries firings nexts b c
-    joined = subst (λ l. IsJoined n window s d nodes l deliveries firings nexts b c) put is
+  module _ (last : List Plain) (put : last ≡ lanes_after) (nodes_after : List NodeState) (b c : List ℕ)
+      (is : IsJoined n window s d nodes last deliveries firings nodes_after b c) where
+    joined : IsJoined n window s d nodes lanes_after deliveries firings nodes_after b c
+    joined = subst (λ l. IsJoined n window s d nodes l deliveries firings nodes_after b c) put is
 
-    pub inject_step_as : IsInjected n s d m nodes lanes nexts left
-    inject_step_as = subst (λ l. IsInjected n s d m nodes lanes nexts l) (sym put) (inject_step nexts b c joined)
+    pub inject_step_as : IsInjected s d m nodes traffic nodes_after (left fewer last starts b c)
+    inject_step_as = subst (λ l. IsInjected s d m nodes traffic nodes_after (left fewer l starts b c)) (sym put) (inject_step nodes_after
+        b c joined)
 
     pub inject_world_as : m.header.source ≡ s → m.header.target ≡ d → IsKept m → length m.bytes ≤ stray_bytes →
-        is_used_lane p s d Request ≡ true → IsWorld p inputs n nexts left starts b c window (strays - 1) spare
-    inject_world_as source target kept short used = subst (λ l. IsWorld p inputs n nexts l starts b c window (strays - 1) spare) (sym put)
-        (inject_world nexts b c joined source target kept short used)
+        is_used_lane p s d Request ≡ true → IsWorld p inputs nodes_after (left fewer last starts b c)
+    inject_world_as source target kept short used = subst (λ l. IsWorld p inputs nodes_after (left fewer l starts b c)) (sym put)
+        (inject_world nodes_after b c joined source target kept short used)

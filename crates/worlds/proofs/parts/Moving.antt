@@ -160,10 +160,11 @@ module _ (p : Plan) (inputs : Inputs) (n : ℕ) (nodes : List NodeState) (lanes 
         mid_size : length mid ≡ 2 * (n * n)
         mid_size = taken.size ∙ parts.wide
 
-        abbrev later : List Plain
-        later = out_with n r o mid
+        abbrev lanes_after : List Plain
+        lanes_after = out_with n r o mid
 
-        held_later : (slots : ℕ → Slots) → AgreeAll n slots nodes → (q u : ℕ) (l : Lane) → held_in n later q u l ≡ (behind slots).held q u l
+        held_later : (slots : ℕ → Slots) → AgreeAll n slots nodes → (q u : ℕ) (l : Lane) → held_in n lanes_after q u l ≡ (behind
+            slots).held q u l
         held_later slots a q u l =
             held_out n mid mid_size r hr o goes q u l
             ∙ ap (λ x. held_in n mid q u l ++ (if q == r then filter (is_for u l) (and_then x []) else [])) (sym (makes_at slots a))
@@ -206,7 +207,7 @@ module _ (p : Plan) (inputs : Inputs) (n : ℕ) (nodes : List NodeState) (lanes 
                     ((lane_at mid (lane_place n r m.header.target (lane_of m.header.kind))).messages ++ m ∷ [])
 
         -- ---- the lanes after it
-        later_size : length later ≡ 2 * (n * n)
+        later_size : length lanes_after ≡ 2 * (n * n)
         later_size = at o refl
           where
             at : (x : Option Sent) → o ≡ x → length (out_with n r x mid) ≡ 2 * (n * n)
@@ -214,7 +215,7 @@ module _ (p : Plan) (inputs : Inputs) (n : ℕ) (nodes : List NodeState) (lanes 
             at (Some m) q = set_size n mid mid_size r m.header.target (lane_of m.header.kind) hr (goes m q)
                 ((lane_at mid (lane_place n r m.header.target (lane_of m.header.kind))).messages ++ m ∷ [])
 
-        later_capacity : (i : ℕ) → (lane_at later i).capacity ≡ (lane_at lanes i).capacity
+        later_capacity : (i : ℕ) → (lane_at lanes_after i).capacity ≡ (lane_at lanes i).capacity
         later_capacity i = at o refl
           where
             at : (x : Option Sent) → o ≡ x → (lane_at (out_with n r x mid) i).capacity ≡ (lane_at lanes i).capacity
@@ -223,7 +224,7 @@ module _ (p : Plan) (inputs : Inputs) (n : ℕ) (nodes : List NodeState) (lanes 
                 ((lane_at mid (lane_place n r m.header.target (lane_of m.header.kind))).messages ++ m ∷ []) i ∙ taken.capacity i
 
         -- what is in a lane was there, or is what was made
-        later_members : (i : ℕ) (x : Sent) → In x (lane_at later i).messages → In x (lane_at lanes i).messages ⊎ (o ≡ Some x)
+        later_members : (i : ℕ) (x : Sent) → In x (lane_at lanes_after i).messages → In x (lane_at lanes i).messages ⊎ (o ≡ Some x)
         later_members i x = at o refl
           where
             at : (y : Option Sent) → o ≡ y → In x (lane_at (out_with n r y mid) i).messages → In x (lane_at lanes i).messages ⊎ (o ≡ Some x)
@@ -242,7 +243,7 @@ module _ (p : Plan) (inputs : Inputs) (n : ℕ) (nodes : List NodeState) (lanes 
                 ])
                 (λ j h. inl (taken.members i x h))
 
-        later_strays : (i : ℕ) → count_by is_stray (lane_at later i).messages ≤ count_by is_stray (lane_at mid i).messages
+        later_strays : (i : ℕ) → count_by is_stray (lane_at lanes_after i).messages ≤ count_by is_stray (lane_at mid i).messages
         later_strays i = at o refl
           where
             at : (y : Option Sent) → o ≡ y → count_by is_stray (lane_at (out_with n r y mid) i).messages ≤ count_by is_stray
@@ -258,7 +259,8 @@ module _ (p : Plan) (inputs : Inputs) (n : ℕ) (nodes : List NodeState) (lanes 
                 let b = ap (λ t. count_by is_stray (lane_at mid t).messages) j in omega (arith, a, b))
                 (λ j. omega arith)
 
-        later_within : (s d : ℕ) (lane : Lane) → s < n → d < n → length (owned (lane_at later (lane_place n s d lane)).messages) ≤ window
+        later_within : (s d : ℕ) (lane : Lane) → s < n → d < n → length (owned (lane_at lanes_after (lane_place n s d lane)).messages) ≤
+            window
         later_within s d lane hs hd = at o refl
           where
             mid_within : length (owned (lane_at mid (lane_place n s d lane)).messages) ≤ window
@@ -308,14 +310,14 @@ module _ (p : Plan) (inputs : Inputs) (n : ℕ) (nodes : List NodeState) (lanes 
               (λ x. sym (ap (λ b. cond b ((node_at nodes q).diary.locals ++ e ∷ []) (node_at nodes q).diary.locals)
               (ne_eqb r q (λ h. x (sym h)))))
 
-          pub scene_news : (slots : ℕ → Slots) → AgreeAll n slots news → scene_of n news later ≡ step_made (system_of p inputs slots)
+          pub scene_news : (slots : ℕ → Slots) → AgreeAll n slots news → scene_of n news lanes_after ≡ step_made (system_of p inputs slots)
               (named r e) (scene_of n nodes lanes)
           scene_news slots a =
-              scene_by (λ q. (node_at news q).diary.locals) (behind slots).world (held_in n later) (behind slots).held world_news
+              scene_by (λ q. (node_at news q).diary.locals) (behind slots).world (held_in n lanes_after) (behind slots).held world_news
               (held_later slots (agree_back slots a))
               ∙ sym (is slots (agree_back slots a))
 
-          pub parts_news : AreParts p inputs n news later window spare
+          pub parts_news : AreParts p inputs n news lanes_after window spare
           parts_news = record {
             at_most = parts.at_most;
             count = parts.count;
@@ -339,10 +341,10 @@ module _ (p : Plan) (inputs : Inputs) (n : ℕ) (nodes : List NodeState) (lanes 
           module _ (short : AreShort (e ∷ [])) (fewer : sum_by (λ s. count_by is_stray (lane_at mid (lane_place n s r Request)).messages)
               (from_to 0 n) + count_by is_received_stray (e ∷ []) ≤ sum_by
               (λ s. count_by is_stray (lane_at lanes (lane_place n s r Request)).messages) (from_to 0 n)) where
-            few_news : (d : ℕ) → d < n → strays_for n news later d ≤ strays_for n nodes lanes d
+            few_news : (d : ℕ) → d < n → strays_for n news lanes_after d ≤ strays_for n nodes lanes d
             few_news d hd =
                 let out = sum_le (λ s. count_by is_stray (lane_at mid (lane_place n s d Request)).messages)
-                (λ s. count_by is_stray (lane_at later (lane_place n s d Request)).messages) 0 n
+                (λ s. count_by is_stray (lane_at lanes_after (lane_place n s d Request)).messages) 0 n
                 (λ s low high. later_strays (lane_place n s d Request)) in
                 elim (cases_eq d r) [
                   | inl i ↦
@@ -365,7 +367,7 @@ module _ (p : Plan) (inputs : Inputs) (n : ℕ) (nodes : List NodeState) (lanes 
                       omega (arith, out, got, less)
                 ]
 
-            pub strays_news : AreStrays n news later strays spare
+            pub strays_news : AreStrays n news lanes_after strays spare
             strays_news = record {
               room = λ q h. at_set (λ (v : NodeState). v.strays ≡ spare) nodes r q new no_node inside_nodes
                   (λ i. moved.strays ∙ room.room r hr) (λ x. room.room q h);

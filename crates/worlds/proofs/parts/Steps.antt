@@ -34,6 +34,7 @@ use Rattle.rank_node.specs.Copies.{Diary}
 use Rattle.rank_node.specs.Gates.{may_go, goes_out}
 use Rattle.rank_node.specs.Node.{IsNode, IsStarted, NodeState, fired_node}
 use Rattle.worlds.specs.parts.Keeps.{AgreeAll, AreCounted, AreParts, AreStrays, IsWorld}
+use Rattle.worlds.specs.declared.parts.traffic.Traffic.{Traffic}
 use Rattle.worlds.specs.parts.Layout.{held_in, lane_at, no_node, node_at, scene_of}
 use Rattle.worlds.specs.parts.Marks.{HasPlace, delivery_mark, firing_mark, gated, lane_has, out_with, receiver, sent_out, start_count}
 use Rattle.worlds.specs.parts.Marks.{start_mark}
@@ -44,21 +45,21 @@ use Rattle.worlds.proofs.parts.Marked.{mark_size, request_marked}
 use Rattle.worlds.proofs.parts.Moving.{Moved, agree_back, agree_now, may_go_out, nic_is, none_taken, parts_news, scene_news, slots_now}
 use Rattle.worlds.proofs.parts.Moving.{strays_news}
 use Rattle.worlds.proofs.parts.Placed.{OneLane}
-use Rattle.worlds.proofs.parts.Renewed.{IsRenewed, agree_next, as_is, as_told, renewed, renewed_by, scene_next}
+use Rattle.worlds.proofs.parts.Renewed.{IsRenewed, agree_next, as_is, as_told, left, renewed, renewed_by, scene_next}
 use Rattle.worlds.proofs.parts.Sets.{at_set}
 
 -- what the code leaves after a firing of rank r, which sends to rank d or nowhere
-pub record IsFired (n window r d : ℕ) (sends : Bool) (news : List NodeState) (later : List Plain) (deliveries firings : List ℕ)
-    (nexts : List NodeState) (b c : List ℕ) : Type 0 where
-  pub gates : nexts ≡ (if sends then gated later n window r d news else news)
-  pub of_deliveries : b ≡ (if sends then delivery_mark later n window r d Request deliveries else deliveries)
-  pub of_firings : c ≡ firing_mark nexts r firings
+pub record IsFired (n window r d : ℕ) (sends : Bool) (news : List NodeState) (lanes_after : List Plain) (deliveries firings : List ℕ)
+    (nodes_after : List NodeState) (b c : List ℕ) : Type 0 where
+  pub gates : nodes_after ≡ (if sends then gated lanes_after n window r d news else news)
+  pub of_deliveries : b ≡ (if sends then delivery_mark lanes_after n window r d Request deliveries else deliveries)
+  pub of_firings : c ≡ firing_mark nodes_after r firings
 
 -- a step was made
-pub record IsDone (p : Plan) (inputs : Inputs) (n : ℕ) (x : Step) (nodes : List NodeState) (lanes : List Plain) (nexts : List NodeState)
-    (later : List Plain) (a b c : List ℕ) (window strays spare : ℕ) : Type 0 where
-  pub step : IsStepped p inputs n x nodes lanes nexts later
-  pub world : IsWorld p inputs n nexts later a b c window strays spare
+pub record IsDone (p : Plan) (inputs : Inputs) (x : Step) (nodes : List NodeState) (traffic : Traffic) (nodes_after : List NodeState)
+    (after : Traffic) : Type 0 where
+  pub step : IsStepped p inputs x nodes traffic nodes_after after
+  pub world : IsWorld p inputs nodes_after after
 
 -- the interface of a rank of the plan stays that
 pub stays_of : (p : Plan) (slots : Slots) (r : ℕ) (go : Beginning) (es : List Local) (v : State) → IsOf p slots r v →
@@ -95,23 +96,48 @@ not-not : (b : Bool) → not (not b) ≡ b
 not-not true = refl
 not-not false = refl
 
-module _ (p : Plan) (inputs : Inputs) (n : ℕ) (nodes : List NodeState) (lanes : List Plain) (starts deliveries firings : List ℕ)
-    (window strays spare : ℕ) (k : IsWorld p inputs n nodes lanes starts deliveries firings window strays spare) where
+module _ (p : Plan) (inputs : Inputs) (nodes : List NodeState) (traffic : Traffic)
+    (k : IsWorld p inputs nodes traffic) where
+  abbrev n : ℕ
+  n = traffic.setting.ranks
+
+  abbrev lanes : List Plain
+  lanes = traffic.lanes
+
+  abbrev starts : List ℕ
+  starts = traffic.starts
+
+  abbrev deliveries : List ℕ
+  deliveries = traffic.deliveries
+
+  abbrev firings : List ℕ
+  firings = traffic.firings
+
+  abbrev window : ℕ
+  window = traffic.setting.window
+
+  abbrev strays : ℕ
+  strays = traffic.setting.strays
+
+  abbrev spare : ℕ
+  spare = traffic.setting.spare
+
   -- whatever the step is
-  pub finish : (x : Step) (news : List NodeState) (later : List Plain) → AreParts p inputs n news later window spare →
-      AreStrays n news later strays spare
-      → ((slots : ℕ → Slots) → AgreeAll n slots news → scene_of n news later ≡ step_made (system_of p inputs slots) x
+  pub finish : (x : Step) (news : List NodeState) (lanes_after : List Plain) → AreParts p inputs n news lanes_after window spare →
+      AreStrays n news lanes_after strays spare
+      → ((slots : ℕ → Slots) → AgreeAll n slots news → scene_of n news lanes_after ≡ step_made (system_of p inputs slots) x
       (scene_of n nodes lanes))
       → ((slots : ℕ → Slots) → AgreeAll n slots news → AgreeAll n slots nodes)
-      → (nexts : List NodeState) (a b c : List ℕ) → IsRenewed n window news later nexts a b c
-      → IsDone p inputs n x nodes lanes nexts later a b c window strays spare
-  finish x news later parts room scene back nexts a b c is = record {
+      → (nodes_after : List NodeState) (a b c : List ℕ) → IsRenewed n window news lanes_after nodes_after a b c
+      → IsDone p inputs x nodes traffic nodes_after (left traffic.setting lanes_after a b c)
+  finish x news lanes_after parts room scene back nodes_after a b c is = record {
     step = record {
-      scene = λ slots g. scene_next n window news later nexts a b c is
-          ∙ scene slots (agree_next n window news later nexts a b c is slots g);
-      slots = λ slots g. back slots (agree_next n window news later nexts a b c is slots g);
+      setting = refl;
+      scene = λ slots g. scene_next traffic.setting news lanes_after nodes_after a b c is
+          ∙ scene slots (agree_next traffic.setting news lanes_after nodes_after a b c is slots g);
+      slots = λ slots g. back slots (agree_next traffic.setting news lanes_after nodes_after a b c is slots g);
     };
-    world = renewed n window news later nexts a b c is p inputs strays spare parts room;
+    world = renewed traffic.setting news lanes_after nodes_after a b c is p inputs parts room;
   }
 
   -- ---- a firing
@@ -161,11 +187,11 @@ module _ (p : Plan) (inputs : Inputs) (n : ℕ) (nodes : List NodeState) (lanes 
       fire_asks m q =
           let f = slots_now p inputs n nodes lanes window strays spare k.parts k.stray in
           ap (λ b. if b then Answer else Request) (from_link-request p (f r) r m
-          (fired_link p (f r) r t (node_at nodes r).nic m (subst (IsOf p (f r) r) (sym here) (of f)) (sym makes ∙ q)))
+          (fired_link p (f r) r t (node_at nodes r).nic m (subst (IsOf p (f r) r) (sym nic_of_history) (of f)) (sym makes ∙ q)))
         where
-          here : (node_at nodes r).nic ≡ state_at (system_of p inputs
+          nic_of_history : (node_at nodes r).nic ≡ state_at (system_of p inputs
               (slots_now p inputs n nodes lanes window strays spare k.parts k.stray)) (scene_of n nodes lanes).world r
-          here = nic_is p inputs n nodes lanes window strays spare k.parts k.stray
+          nic_of_history = nic_is p inputs n nodes lanes window strays spare k.parts k.stray
               (slots_now p inputs n nodes lanes window strays spare k.parts k.stray)
               (agree_now p inputs n nodes lanes window strays spare k.parts k.stray) r hr
 
@@ -233,10 +259,10 @@ module _ (p : Plan) (inputs : Inputs) (n : ℕ) (nodes : List NodeState) (lanes 
           k.counted.of_deliveries (fire_apart m q))
           refl)
 
-      pub fire_done : (nexts : List NodeState) (b c : List ℕ) → IsFired n window r (receiver r o) (is_some o) fire_news
-          (out_with n r o lanes) deliveries firings nexts b c
-          → IsDone p inputs n (Fire r t) nodes lanes nexts (out_with n r o lanes) starts b c window strays spare
-      fire_done nexts b c is = finish (Fire r t) fire_news (out_with n r o lanes)
+      pub fire_done : (nodes_after : List NodeState) (b c : List ℕ) → IsFired n window r (receiver r o) (is_some o) fire_news
+          (out_with n r o lanes) deliveries firings nodes_after b c
+          → IsDone p inputs (Fire r t) nodes traffic nodes_after (left traffic.setting (out_with n r o lanes) starts b c)
+      fire_done nodes_after b c is = finish (Fire r t) fire_news (out_with n r o lanes)
           (parts_news p inputs n nodes lanes window strays spare k.parts k.stray r hr (Fired t) lanes (none_taken lanes) fire_enabled
           fire_is o makes fire_to fire_open (fired_node t (node_at nodes r)) fire_moved)
           (strays_news p inputs n nodes lanes window strays spare k.parts k.stray r hr (Fired t) lanes (none_taken lanes) fire_enabled
@@ -245,24 +271,24 @@ module _ (p : Plan) (inputs : Inputs) (n : ℕ) (nodes : List NodeState) (lanes 
           fire_is o makes fire_to fire_open (fired_node t (node_at nodes r)) fire_moved)
           (agree_back p inputs n nodes lanes window strays spare k.parts k.stray r hr (Fired t) lanes (none_taken lanes) fire_enabled
           fire_is o makes fire_to fire_open (fired_node t (node_at nodes r)) fire_moved)
-          nexts starts b c
+          nodes_after starts b c
           (renewed_by n window fire_news (out_with n r o lanes)
           (if is_some o then gated (out_with n r o lanes) n window r (receiver r o) fire_news else fire_news) starts
           (if is_some o then delivery_mark (out_with n r o lanes) n window r (receiver r o) Request deliveries else deliveries)
-          (λ v. firing_mark v r firings) (fire_renewed o refl) nexts b c is.gates is.of_deliveries is.of_firings)
+          (λ v. firing_mark v r firings) (fire_renewed o refl) nodes_after b c is.gates is.of_deliveries is.of_firings)
 
       -- as the code has it
-      pub fire_as : (sends : Bool) → sends ≡ is_some o → (d : ℕ) → d ≡ receiver r o → (later : List Plain) →
-          later ≡ out_with n r o lanes → (news : List NodeState) → news ≡ set nodes r (fired_node t (node_at nodes r))
-          → (nexts : List NodeState) (b c : List ℕ) → IsFired n window r d sends news later deliveries firings nexts b c →
-          IsDone p inputs n (Fire r t) nodes lanes nexts later starts b c window strays spare
-      fire_as sends some d whom later out news made nexts b c is =
-          subst (λ l. IsDone p inputs n (Fire r t) nodes lanes nexts l starts b c window strays spare) (sym out)
-          (fire_done nexts b c
-          (subst (λ x. IsFired n window r (receiver r o) x fire_news (out_with n r o lanes) deliveries firings nexts b c) some
-          (subst (λ l. IsFired n window r (receiver r o) sends fire_news l deliveries firings nexts b c) out
-          (subst (λ v. IsFired n window r (receiver r o) sends v later deliveries firings nexts b c) made
-          (subst (λ u. IsFired n window r u sends news later deliveries firings nexts b c) whom is)))))
+      pub fire_as : (sends : Bool) → sends ≡ is_some o → (d : ℕ) → d ≡ receiver r o → (lanes_after : List Plain) →
+          lanes_after ≡ out_with n r o lanes → (news : List NodeState) → news ≡ set nodes r (fired_node t (node_at nodes r))
+          → (nodes_after : List NodeState) (b c : List ℕ) → IsFired n window r d sends news lanes_after deliveries firings nodes_after b c →
+          IsDone p inputs (Fire r t) nodes traffic nodes_after (left traffic.setting lanes_after starts b c)
+      fire_as sends some d whom lanes_after out news made nodes_after b c is =
+          subst (λ l. IsDone p inputs (Fire r t) nodes traffic nodes_after (left traffic.setting l starts b c)) (sym out)
+          (fire_done nodes_after b c
+          (subst (λ x. IsFired n window r (receiver r o) x fire_news (out_with n r o lanes) deliveries firings nodes_after b c) some
+          (subst (λ l. IsFired n window r (receiver r o) sends fire_news l deliveries firings nodes_after b c) out
+          (subst (λ v. IsFired n window r (receiver r o) sends v lanes_after deliveries firings nodes_after b c) made
+          (subst (λ u. IsFired n window r u sends news lanes_after deliveries firings nodes_after b c) whom is)))))
 
   -- ---- a start
   module _ (r : ℕ) (hr : r < n) (waits : count_by is_start (node_at nodes r).diary.locals ≡ 0) (new : NodeState)
@@ -298,7 +324,7 @@ module _ (p : Plan) (inputs : Inputs) (n : ℕ) (nodes : List NodeState) (lanes 
     none_open m q = absurd cc
 
     pub start_done : (a c : List ℕ) → a ≡ start_mark (set nodes r new) r starts → c ≡ firing_mark (set nodes r new) r firings
-        → IsDone p inputs n (Start r) nodes lanes (set nodes r new) lanes a deliveries c window strays spare
+        → IsDone p inputs (Start r) nodes traffic (set nodes r new) (left traffic.setting lanes a deliveries c)
     start_done a c of_starts of_firings = finish (Start r) (set nodes r new) lanes
         (parts_news p inputs n nodes lanes window strays spare k.parts k.stray r hr Started lanes (none_taken lanes) start_enabled
         start_is None refl none_to none_open new start_moved)

@@ -1,5 +1,5 @@
 -- The parts of a world whose nodes come from elsewhere: for these all room is taken before the nodes are there.
-use Rattle.std.specs.Prelude.{ℕ, ◌*◌, ◌<◌, ◌≤◌, ◌≡◌, List, length}
+use Rattle.std.specs.Prelude.{ℕ, ◌*◌, ◌<◌, ◌≤◌, ◌≡◌, length}
 use Rattle.ptl_types.specs.declared.headers.Lane.{Lane}
 use Rattle.pair_wires.specs.Lanes.{Plain}
 use Rattle.plan_core.specs.Plan.{Plan}
@@ -7,6 +7,8 @@ use Rattle.plan_core.specs.Sound.{SoundPlan, AreInputsOf}
 use Rattle.plan_core.specs.Values.{Inputs}
 use Rattle.rank_node.specs.Node.{NodeState}
 use Rattle.worlds.specs.declared.opening.laying.Room.TheVariants.{Window}
+use Rattle.worlds.specs.declared.parts.lanes.Setting.{Setting}
+use Rattle.worlds.specs.declared.parts.traffic.Traffic.{Traffic}
 use Rattle.worlds.specs.opening.Laying.{laid_lane}
 
 -- how many messages a lane may hold
@@ -17,21 +19,25 @@ frame_window = 4
 abbrev pub frame_lane : Plan → ℕ → ℕ → Lane → Plain
 frame_lane p s d lane = laid_lane p (Window frame_window) s d lane
 
--- lanes and counts for n ranks
-pub record AreSized (n : ℕ) (lanes : List Plain) (starts deliveries firings : List ℕ) : Type 0 where
-  pub some : 0 < n
-  pub at_most : n ≤ 256
-  pub wide_lanes : length lanes ≡ 2 * (n * n)
-  pub wide_starts : length starts ≡ n
-  pub wide_deliveries : length deliveries ≡ 2 * (n * n)
-  pub wide_firings : length firings ≡ n
+-- n ranks under that window, without strays
+abbrev pub frame_setting : ℕ → Setting
+frame_setting n = record { ranks = n; window = frame_window; strays = 0; spare = 0 }
+
+-- lanes and counts for its ranks
+pub record AreSized (t : Traffic) : Type 0 where
+  pub some : 0 < t.setting.ranks
+  pub at_most : t.setting.ranks ≤ 256
+  pub wide_lanes : length t.lanes ≡ 2 * (t.setting.ranks * t.setting.ranks)
+  pub wide_starts : length t.starts ≡ t.setting.ranks
+  pub wide_deliveries : length t.deliveries ≡ 2 * (t.setting.ranks * t.setting.ranks)
+  pub wide_firings : length t.firings ≡ t.setting.ranks
 
 -- of a plan and its inputs
-pub record IsBare (p : Plan) (inputs : Inputs) (n : ℕ) (lanes : List Plain) (starts deliveries firings : List ℕ) : Type 0 where
-  pub count : p.ranks ≡ n
+pub record IsBare (p : Plan) (inputs : Inputs) (t : Traffic) : Type 0 where
+  pub count : p.ranks ≡ t.setting.ranks
   pub sound : SoundPlan p (length inputs)
   pub fit : AreInputsOf p inputs
-  pub sized : AreSized n lanes starts deliveries firings
+  pub sized : AreSized t
 
 -- a node that was told which of its lanes have room: else it is as it was
 pub record IsSameButGates (old new : NodeState) : Type 0 where

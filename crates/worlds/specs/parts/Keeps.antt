@@ -19,6 +19,7 @@ use Rattle.cuts.specs.windows.Places.{lane_place}
 use Rattle.rank_node.specs.Handles.{Agrees}
 use Rattle.rank_node.specs.Node.{IsNode, NodeState, stray_bytes}
 use Rattle.rank_node.specs.Plans.{IsCompiledFor}
+use Rattle.worlds.specs.declared.parts.traffic.Traffic.{Traffic}
 use Rattle.worlds.specs.parts.Layout.{lane_at, node_at, scene_of}
 use Rattle.worlds.specs.parts.Marks.{delivery_count, firing_count, lane_has, start_count}
 
@@ -78,16 +79,14 @@ pub record AreCounted (n : ℕ) (nodes : List NodeState) (lanes : List Plain) (s
   pub gates : (r d : ℕ) → r < n → d < n →
       slice_index_or (node_at nodes r).closed d false ≡ not (lane_has lanes n window r d Request)
 
--- the parts of a world of n ranks under a window, with so many strays still to be injected, of so many in all
-pub record IsWorld (p : Plan) (inputs : Inputs) (n : ℕ) (nodes : List NodeState) (lanes : List Plain)
-    (starts deliveries firings : List ℕ) (window strays spare : ℕ) : Type 0 where
-  pub parts : AreParts p inputs n nodes lanes window spare
-  pub counted : AreCounted n nodes lanes starts deliveries firings window
-  pub stray : AreStrays n nodes lanes strays spare
+-- the nodes of a plan's ranks, and the traffic between them: its lanes, counts and window, and the strays that may still be injected
+pub record IsWorld (p : Plan) (inputs : Inputs) (nodes : List NodeState) (t : Traffic) : Type 0 where
+  pub parts : AreParts p inputs t.setting.ranks nodes t.lanes t.setting.window t.setting.spare
+  pub counted : AreCounted t.setting.ranks nodes t.lanes t.starts t.deliveries t.firings t.setting.window
+  pub stray : AreStrays t.setting.ranks nodes t.lanes t.setting.strays t.setting.spare
 
 -- of some plan and its inputs
-pub record IsSomeWorld (n : ℕ) (nodes : List NodeState) (lanes : List Plain) (starts deliveries firings : List ℕ)
-    (window strays spare : ℕ) : Type 0 where
+pub record IsSomeWorld (nodes : List NodeState) (t : Traffic) : Type 0 where
   pub plan : Plan
   pub inputs : Inputs
-  pub world : IsWorld plan inputs n nodes lanes starts deliveries firings window strays spare
+  pub world : IsWorld plan inputs nodes t

@@ -10,6 +10,7 @@ use Rattle.cuts.specs.histories.History.{is_start}
 use Rattle.cuts.specs.windows.Places.{lane_place}
 use Rattle.rank_node.specs.Gates.{open_numbers}
 use Rattle.rank_node.specs.Node.{NodeState, gated_node}
+use Rattle.worlds.specs.declared.parts.traffic.Traffic.{Traffic}
 use Rattle.worlds.specs.parts.Layout.{node_at, lane_at}
 
 -- a further message fits under the window
@@ -43,6 +44,10 @@ firing_mark nodes r xs = slice_set xs r (firing_count (node_at nodes r))
 
 abbrev pub delivery_mark : List Plain → ℕ → ℕ → ℕ → ℕ → Lane → List ℕ → List ℕ
 delivery_mark lanes n window s d lane xs = slice_set xs (lane_place n s d lane) (delivery_count lanes n window s d lane)
+
+-- the deliveries and the firings counted anew
+abbrev pub with_marks : Traffic → List ℕ → List ℕ → Traffic
+with_marks t deliveries firings = record t { deliveries = deliveries; firings = firings }
 
 -- the lane by which what comes on this one is answered, or was asked for
 abbrev pub lane_back : Lane → Lane

@@ -2,20 +2,20 @@
 
 ghost use Rattle.std.specs.Prelude.{ℕ, false, not, ◌≡◌, ◌<◌, ◌≤◌, ◌*◌, IfOk, length, slice_index_or};
 ghost use Rattle.ptl_types.specs.declared.headers.Lane.{Lane};
-ghost use Rattle.ptl_types.specs.declared.headers.Lane.TheVariants.{Answer, Request};
+ghost use Rattle.ptl_types.specs.declared.headers.Lane.TheVariants.{Request};
 ghost use Rattle.cuts.specs.windows.Places.{lane_place};
 ghost use Rattle.rank_node.specs.Node.{IsNode};
 ghost use Rattle.worlds.specs.parts.Keeps.{AreCounted};
 ghost use Rattle.worlds.specs.parts.Layout.{lane_at, node_at};
-ghost use Rattle.worlds.specs.parts.Marks.{delivery_count, delivery_mark, lane_has};
-ghost use Rattle.worlds.specs.opening.Frames.{AreSized, IsBare, IsSameButGates, frame_lane};
+ghost use Rattle.worlds.specs.parts.Marks.{delivery_count, lane_has};
+ghost use Rattle.worlds.specs.opening.Frames.{AreSized, IsBare, IsSameButGates, frame_lane, frame_setting};
 
-use crate::opening::counting::{fill_firings, fill_starts};
 use crate::opening::laying::{Room, lay_all};
-use crate::parts::marks::{gate, mark_delivery};
+use crate::parts::lanes::{LaneTable, Setting};
+use crate::parts::marks::{Firings, Starts, gate, mark_pair};
+use crate::parts::traffic::Traffic;
 use count_tree::CountTree;
-use pair_wires::PlainLane;
-use ptl_types::{Lane, NoMemory, Rank};
+use ptl_types::{Lane, NoMemory};
 use rank_node::Node;
 use schedule_compiler::Job;
 use std::alloc::Global;
@@ -23,33 +23,17 @@ use std::alloc::Global;
 /// How many messages a lane of a frame may hold.
 pub const FRAME_WINDOW: u32 = 4;
 
-/// Lanes and counts for nodes that come from elsewhere.
-#[derive(Drop)]
-pub struct Bare {
-    /// How many ranks there are.
-    pub ranks: u32,
-    /// The lanes: by source, target, request before answer.
-    pub lanes: Vec<PlainLane>,
-    /// Room for the number of possible starts at each rank.
-    pub starts: CountTree,
-    /// Room for the number of possible deliveries on each lane.
-    pub deliveries: CountTree,
-    /// Room for the number of possible firings at each rank.
-    pub firings: CountTree,
-}
-
-/// The empty lanes of a job, each with room for four messages, or for all that are sent on it where these are fewer, and room for the
-/// counts of a world.
+/// The traffic of a job for nodes that come from elsewhere, without strays: empty lanes, each with room for four messages, or for all
+/// that are sent on it where these are fewer, and room for the counts of a world.
 ///
 /// # Errors
 ///
 /// There was no memory for it. The job is as it was.
-pub fn open_bare(alloc: Global, job: &Job) -> Result<Bare, NoMemory>
-    ensures ranks { IfOk result (λ b. b.ranks ≡ job.now.schedule.plan.ranks) }
-    ensures bare { IfOk result (λ b. IsBare job.now.schedule.plan job.now.inputs job.now.schedule.plan.ranks b.lanes.items
-        b.starts b.deliveries b.firings) }
+pub fn open_bare(alloc: Global, job: &Job) -> Result<Traffic, NoMemory>
+    ensures setting { IfOk result (λ b. b.setting ≡ frame_setting job.now.schedule.plan.ranks) }
+    ensures bare { IfOk result (λ b. IsBare job.now.schedule.plan job.now.inputs b) }
     ensures lanes { IfOk result (λ b. (s d : ℕ) (lane : Lane) → s < job.now.schedule.plan.ranks → d < job.now.schedule.plan.ranks →
-        lane_at b.lanes.items (lane_place job.now.schedule.plan.ranks s d lane) ≡ frame_lane job.now.schedule.plan s d lane) }
+        lane_at b.lanes (lane_place job.now.schedule.plan.ranks s d lane) ≡ frame_lane job.now.schedule.plan s d lane) }
 {
     let schedule = job.schedule();
     let ranks = schedule.ranks();
@@ -60,9 +44,14 @@ pub fn open_bare(alloc: Global, job: &Job) -> Result<Bare, NoMemory>
     let starts = CountTree::open(alloc, ranks)?;
     let deliveries = CountTree::open(alloc, places)?;
     let firings = CountTree::open(alloc, ranks)?;
-    Ok(Bare {
-        ranks,
-        lanes,
+    Ok(Traffic {
+        setting: Setting {
+            ranks,
+            window: u64::from(FRAME_WINDOW),
+            strays: 0,
+            spare: 0,
+        },
+        lanes: LaneTable::of_lanes(lanes),
         starts,
         deliveries,
         firings,
@@ -70,7 +59,7 @@ pub fn open_bare(alloc: Global, job: &Job) -> Result<Bare, NoMemory>
 }
 
 /// What holds of each node whatever was done with it.
-fn kept(nodes: &[Node])
+fn recall_nodes(nodes: &[Node])
     ensures { (r : ℕ) → r < length nodes.now → IsNode (node_at nodes.now r) }
 {
     for r in 0..nodes.len() {
@@ -80,85 +69,63 @@ fn kept(nodes: &[Node])
 }
 
 /// Tells each node which of its request lanes have room under the window.
-fn gate_all(nodes: &mut [Node], lanes: &[PlainLane], ranks: u32, window: u64)
-    requires nonempty { 0 < ranks }
-    requires at_most { ranks ≤ 256 }
-    requires nodes { length nodes.old ≡ ranks }
-    requires lanes { length lanes.now ≡ 2 * (ranks * ranks) }
-    requires wide { (r : ℕ) → r < ranks → length (node_at nodes.old r).closed ≡ ranks }
-    ensures size { length nodes.new ≡ ranks }
+fn gate_all(nodes: &mut [Node], lanes: &LaneTable, setting: Setting)
+    requires nonempty { 0 < setting.ranks }
+    requires at_most { setting.ranks ≤ 256 }
+    requires nodes { length nodes.old ≡ setting.ranks }
+    requires lanes { length lanes.now ≡ 2 * (setting.ranks * setting.ranks) }
+    requires wide { (r : ℕ) → r < setting.ranks → length (node_at nodes.old r).closed ≡ setting.ranks }
+    ensures size { length nodes.new ≡ setting.ranks }
     ensures same { (r : ℕ) → IsSameButGates (node_at nodes.old r) (node_at nodes.new r) }
-    ensures gates { (r d : ℕ) → r < ranks → d < ranks →
-        slice_index_or (node_at nodes.new r).closed d false ≡ not (lane_has lanes.now ranks window r d Request) }
+    ensures gates { (r d : ℕ) → r < setting.ranks → d < setting.ranks →
+        slice_index_or (node_at nodes.new r).closed d false ≡ not (lane_has lanes.now setting.ranks setting.window r d Request) }
 {
+    let ranks = setting.ranks;
     let pairs = ranks * ranks;
     for pair in 0..pairs {
         let s = pair / ranks;
         let d = pair % ranks;
-        gate(nodes, lanes, ranks, window, s, d);
+        gate(nodes, lanes, setting, s, d);
     }
 }
 
-/// Counts the deliveries of both lanes from a rank to a rank.
-fn mark_pair(
-    deliveries: &mut CountTree,
-    lanes: &[PlainLane],
-    ranks: u32,
-    window: u64,
-    s: Rank,
-    d: Rank,
-)
-    requires at_most { ranks ≤ 256 }
-    requires counted { length deliveries.old ≡ 2 * (ranks * ranks) }
-    requires size { length lanes.now ≡ 2 * (ranks * ranks) }
-    requires source { s < ranks }
-    requires destination { d < ranks }
-    ensures { deliveries.new ≡ delivery_mark lanes.now ranks window s d Answer
-        (delivery_mark lanes.now ranks window s d Request deliveries.old) }
-{
-    mark_delivery(deliveries, lanes, ranks, window, s, d, Lane::Request);
-    mark_delivery(deliveries, lanes, ranks, window, s, d, Lane::Answer);
-}
-
 /// Counts the deliveries that are possible, by lane.
-fn fill_deliveries(deliveries: &mut CountTree, lanes: &[PlainLane], ranks: u32, window: u64)
-    requires nonempty { 0 < ranks }
-    requires at_most { ranks ≤ 256 }
-    requires counted { length deliveries.old ≡ 2 * (ranks * ranks) }
-    requires lanes { length lanes.now ≡ 2 * (ranks * ranks) }
-    ensures size { length deliveries.new ≡ 2 * (ranks * ranks) }
-    ensures counts { (s d : ℕ) (lane : Lane) → s < ranks → d < ranks →
-        slice_index_or deliveries.new (lane_place ranks s d lane) 0 ≡ delivery_count lanes.now ranks window s d lane }
+fn fill_deliveries(deliveries: &mut CountTree, lanes: &LaneTable, setting: Setting)
+    requires nonempty { 0 < setting.ranks }
+    requires at_most { setting.ranks ≤ 256 }
+    requires counted { length deliveries.old ≡ 2 * (setting.ranks * setting.ranks) }
+    requires lanes { length lanes.now ≡ 2 * (setting.ranks * setting.ranks) }
+    ensures size { length deliveries.new ≡ 2 * (setting.ranks * setting.ranks) }
+    ensures counts { (s d : ℕ) (lane : Lane) → s < setting.ranks → d < setting.ranks →
+        slice_index_or deliveries.new (lane_place setting.ranks s d lane) 0
+        ≡ delivery_count lanes.now setting.ranks setting.window s d lane }
 {
+    let ranks = setting.ranks;
     let pairs = ranks * ranks;
     for pair in 0..pairs {
         let s = pair / ranks;
         let d = pair % ranks;
-        mark_pair(deliveries, lanes, ranks, window, s, d);
+        mark_pair(deliveries, lanes, setting, s, d);
     }
 }
 
 /// Counts what is possible at nodes and on lanes that come from elsewhere, and tells the nodes which of their lanes have room.
-pub fn mark_all(
-    nodes: &mut [Node],
-    lanes: &[PlainLane],
-    starts: &mut CountTree,
-    deliveries: &mut CountTree,
-    firings: &mut CountTree,
-    ranks: u32,
-    window: u64,
-)
-    requires sized { AreSized ranks lanes.now starts.old deliveries.old firings.old }
-    requires nodes { length nodes.old ≡ ranks }
-    requires tasks { (r : ℕ) → r < ranks → (node_at nodes.old r).task.ranks ≡ ranks }
-    ensures size { length nodes.new ≡ ranks }
-    ensures kept { (r : ℕ) → r < ranks → IsNode (node_at nodes.old r) }
+pub fn mark_all(nodes: &mut [Node], traffic: &mut Traffic)
+    requires sized { AreSized traffic.old }
+    requires nodes { length nodes.old ≡ traffic.old.setting.ranks }
+    requires tasks { (r : ℕ) → r < traffic.old.setting.ranks → (node_at nodes.old r).task.ranks ≡ traffic.old.setting.ranks }
+    ensures setting { traffic.new.setting ≡ traffic.old.setting }
+    ensures lanes { traffic.new.lanes ≡ traffic.old.lanes }
+    ensures size { length nodes.new ≡ traffic.old.setting.ranks }
+    ensures kept { (r : ℕ) → r < traffic.old.setting.ranks → IsNode (node_at nodes.old r) }
     ensures same { (r : ℕ) → IsSameButGates (node_at nodes.old r) (node_at nodes.new r) }
-    ensures counted { AreCounted ranks nodes.new lanes.now starts.new deliveries.new firings.new window }
+    ensures counted { AreCounted traffic.old.setting.ranks nodes.new traffic.old.lanes traffic.new.starts traffic.new.deliveries
+        traffic.new.firings traffic.old.setting.window }
 {
-    kept(nodes);
-    gate_all(nodes, lanes, ranks, window);
-    fill_starts(starts, nodes);
-    fill_deliveries(deliveries, lanes, ranks, window);
-    fill_firings(firings, nodes);
+    let setting = traffic.setting;
+    recall_nodes(nodes);
+    gate_all(nodes, &traffic.lanes, setting);
+    traffic.starts.count_all::<Node, Starts>(nodes);
+    fill_deliveries(&mut traffic.deliveries, &traffic.lanes, setting);
+    traffic.firings.count_all::<Node, Firings>(nodes);
 }

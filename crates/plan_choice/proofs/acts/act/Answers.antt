@@ -50,6 +50,7 @@ returns-in-Start c =
     let m = subst (MayMake c.args.ranks c.args.seats.now c.args.lanes.now) c.in-Start.is c.requires.may in
     record {
       made = rw c.in-Start.is (record { seats = c.start.ensures; lanes = refl; source = refl; destination = refl });
+      size = refl;
       source = m.0;
       destination = m.0;
     }
@@ -57,7 +58,7 @@ returns-in-Start c =
 pub returns-in-Deliver : goal.returns-in-Deliver
 returns-in-Deliver c =
     let m = subst (MayMake c.args.ranks c.args.seats.now c.args.lanes.now) c.in-Deliver.is c.requires.may in
-    record { made = rw c.in-Deliver.is c.deliver.ensures; source = m.0; destination = m.1 }
+    record { made = rw c.in-Deliver.is c.deliver.ensures.made; size = c.deliver.ensures.size; source = m.0; destination = m.1 }
 
 pub returns-in-Fire : goal.returns-in-Fire
 returns-in-Fire c =
@@ -69,6 +70,7 @@ returns-in-Fire c =
         source = refl;
         destination = c.fire.ensures.for_whom;
       });
+      size = c.fire.ensures.size;
       source = m.0;
       destination = c.fire.ensures.destination;
     }

@@ -63,8 +63,8 @@ send_out-requires-clause-goes c =
     subst (λ ls. HasPlace c.args.ranks c.args.d ls c.receive-made.result) (sym c.take-message.ensures.rest)
     (subst (HasPlace c.args.ranks c.args.d (popped c.args.ranks c.args.s c.args.d c.args.lane c.args.lanes.now)) (sym answer) may.goes)
 
-pub returns : goal.returns
-returns c = λ m rest first.
+pub returns-clause-made : goal.returns-clause-made
+returns-clause-made c = λ m rest first.
     let inside : c.args.d < length c.args.seats.now = let size = c.requires.seats in let h = c.requires.destination in
     omega (arith, size, h) in
     let same = get_or_default c.args.seats.now c.args.d c.index-seats-d.result no_seated inside in

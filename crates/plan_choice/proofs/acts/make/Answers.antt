@@ -1,5 +1,7 @@
 -- The step, and then its counts.
-use Rattle.std.proofs.Common.{◌∙◌}
+use Rattle.std.proofs.Common.{◌∙◌, ap, sym}
+use Rattle.worlds.specs.declared.parts.traffic.Traffic.{Traffic}
+use Rattle.plan_choice.specs.Acts.{marked, with_lanes}
 use Rattle.plan_choice.proofs.acts.make.Goals as goal
 
 pub act-s-requires : goal.act-s-requires
@@ -15,7 +17,7 @@ refresh-requires c = record {
   sized = record {
     at_most = c.requires.sized.at_most;
     seats = c.act-s.auto.seats ∙ c.requires.sized.seats;
-    lanes = c.act-s.auto.lanes ∙ c.requires.sized.lanes;
+    lanes = c.act-s.ensures.size ∙ c.requires.sized.lanes;
     starts = c.requires.sized.starts;
     deliveries = c.requires.sized.deliveries;
     firings = c.requires.sized.firings;
@@ -25,11 +27,14 @@ refresh-requires c = record {
 }
 
 pub returns : goal.returns
-returns c = record {
-  s = c.act-s.result.0;
-  d = c.act-s.result.1;
-  source = c.act-s.ensures.source;
-  destination = c.act-s.ensures.destination;
-  made = c.act-s.ensures.made;
-  marked = c.refresh.ensures;
-}
+returns c =
+    let lanes = ap (λ (t : Traffic). t.lanes) c.refresh.ensures in
+    record {
+      s = c.act-s.result.0;
+      d = c.act-s.result.1;
+      source = c.act-s.ensures.source;
+      destination = c.act-s.ensures.destination;
+      made = c.act-s.ensures.made;
+      marks = c.refresh.ensures ∙ ap (λ ls. marked c.act-s.new.seats c.act-s.result.0 c.act-s.result.1
+          (with_lanes c.args.traffic.now ls)) (sym lanes);
+    }

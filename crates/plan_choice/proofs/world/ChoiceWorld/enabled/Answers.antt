@@ -10,7 +10,7 @@ returns-clause-number c =
     let e = c.total.ensures.sum in
     let f = c.total-2.ensures.sum in
     let g = c.total-3.ensures.sum in
-    let k = number _ s.starts s.deliveries s.firings c.self.invariant in
+    let k = number s.kinds.items s.seats.items s.traffic c.self.invariant in
     let v = ap (λ (w : ChoiceState). length (steps_in w)) c.self.view_is in
     omega (arith, e, f, g, k, v)
 

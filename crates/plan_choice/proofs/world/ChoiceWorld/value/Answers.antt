@@ -7,7 +7,7 @@ use Rattle.choice_texts.proofs.laws.Traffic.{words_within}
 use Rattle.choice_texts.specs.laws.Decided.{result_of}
 use Rattle.plan_choice.specs.ranks.Seats.{ChoiceRankState}
 use Rattle.plan_choice.specs.Acts.{no_seated}
-use Rattle.plan_choice.specs.World.{ChoiceState, histories_in, nic_in, scene_in}
+use Rattle.plan_choice.specs.World.{ChoiceState, histories_in, nic_in, scene_in, state_of}
 use Rattle.plan_choice.proofs.Moving.{moment_in, slots_at}
 use Rattle.plan_choice.proofs.world.ChoiceWorld.value.Goals as goal
 
@@ -19,7 +19,7 @@ word_at-requires c =
     let i = subst (λ (w : ChoiceState). c.args.step < length w.kinds) (sym c.self.view_is) c.requires.step in
     let size = is.size in
     let inside : c.args.r < length s.seats.items = omega (arith, h, size) in
-    let w : ChoiceState = record { ranks = s.ranks; kinds = s.kinds.items; seats = s.seats.items; lanes = s.lanes.items } in
+    let w : ChoiceState = state_of s.kinds.items s.seats.items s.traffic in
     let within = words_within w.ranks w.kinds (slots_at w) is.in_range (histories_in w) (scene_in w).held (moment_in w is) c.args.r
     c.args.step i in
     let same = ap length (c.memory-memory.ensures.value ∙ ap (λ (v : State). v.memory) (c.nic.ensures

@@ -8,7 +8,7 @@ invariant_of-self-lent c w =
     let s = c.self.inside in
     let k = c.self.invariant in
     record {
-      ranks = k.ranks;
+      setting = k.setting;
       bare = record {
         count = k.bare.count;
         sound = k.bare.sound;
@@ -16,7 +16,7 @@ invariant_of-self-lent c w =
         sized = record {
           some = k.bare.sized.some;
           at_most = k.bare.sized.at_most;
-          wide_lanes = length-set s.lanes.items c.place-at.result w ∙ k.bare.sized.wide_lanes;
+          wide_lanes = length-set s.traffic.lanes c.lane_index-index.result w ∙ k.bare.sized.wide_lanes;
           wide_starts = k.bare.sized.wide_starts;
           wide_deliveries = k.bare.sized.wide_deliveries;
           wide_firings = k.bare.sized.wide_firings;

@@ -7,14 +7,14 @@ use Rattle.worlds.proofs.opening.Laid.{all-laid, at_most-pairs}
 use Rattle.worlds.proofs.opening.framing.fill_deliveries.Goals as goal
 
 pub overflow_mul-pairs : goal.overflow_mul-pairs
-overflow_mul-pairs c = let q = at_most-pairs c.args.ranks c.requires.at_most in omega (arith, q)
+overflow_mul-pairs c = let q = at_most-pairs c.args.setting.ranks c.requires.at_most in omega (arith, q)
 
 pub loop-pair-init : goal.loop-pair-init
 loop-pair-init c = record { size = c.requires.counted; laid = λ k h. absurd (omega (arith, h)) }
 
 pub mark_pair-requires : goal.mark_pair-requires
 mark_pair-requires c =
-    let n = c.args.ranks in
+    let n = c.args.setting.ranks in
     let h : c.loop-pair.pair < n * n = c.loop-pair-test.true in
     record {
       at_most = c.requires.at_most;
@@ -26,20 +26,20 @@ mark_pair-requires c =
 
 pub loop-pair-preserved : goal.loop-pair-preserved
 loop-pair-preserved c =
-    let n = c.args.ranks in
+    let n = c.args.setting.ranks in
     let i = c.loop-pair.pair in
     let lanes = c.args.lanes.now in
     let h : i < n * n = c.loop-pair-test.true in
-    subst (λ (v : List ℕ). AreFilled n c.args.window lanes v (i + 1)) (sym c.mark_pair.ensures)
-    (filled_more n c.args.window lanes c.loop-pair.deliveries i h c.loop-pair.invariant)
+    subst (λ (v : List ℕ). AreFilled n c.args.setting.window lanes v (i + 1)) (sym c.mark_pair.ensures)
+    (filled_more n c.args.setting.window lanes c.loop-pair.deliveries i h c.loop-pair.invariant)
 
 pub returns : goal.returns
 returns c =
-    let n = c.args.ranks in
+    let n = c.args.setting.ranks in
     let t = c.loop-pair-test.false in
     let v = c.loop-pair.invariant in
     record {
       size = v.size;
-      counts = all-laid (delivery_count c.args.lanes.now n c.args.window) n c.loop-pair.deliveries 0
+      counts = all-laid (delivery_count c.args.lanes.now n c.args.setting.window) n c.loop-pair.deliveries 0
           (λ k h. v.laid k (omega (arith, h, t)));
     }

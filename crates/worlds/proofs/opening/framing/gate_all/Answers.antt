@@ -8,7 +8,7 @@ use Rattle.worlds.proofs.opening.Told.{AreGatedTo, destination_in, source_in, to
 use Rattle.worlds.proofs.opening.framing.gate_all.Goals as goal
 
 pub overflow_mul-pairs : goal.overflow_mul-pairs
-overflow_mul-pairs c = let q = at_most-pairs c.args.ranks c.requires.at_most in omega (arith, q)
+overflow_mul-pairs c = let q = at_most-pairs c.args.setting.ranks c.requires.at_most in omega (arith, q)
 
 pub loop-pair-init : goal.loop-pair-init
 loop-pair-init c = record {
@@ -19,33 +19,35 @@ loop-pair-init c = record {
 
 pub gate-requires : goal.gate-requires
 gate-requires c =
-    let n = c.args.ranks in
+    let n = c.args.setting.ranks in
     let h : c.loop-pair.pair < n * n = c.loop-pair-test.true in
     let i = c.loop-pair.pair in
     let v = c.loop-pair.invariant in
     record {
       at_most = c.requires.at_most;
       size = c.requires.lanes;
-      source = source_in n c.args.window c.args.lanes.now c.args.nodes.now c.loop-pair.nodes i c.requires.nonempty h c.requires.wide v;
-      destination = destination_in n c.args.window c.args.lanes.now c.args.nodes.now c.loop-pair.nodes i c.requires.nonempty h
+      source = source_in n c.args.setting.window c.args.lanes.now c.args.nodes.now c.loop-pair.nodes i c.requires.nonempty h
+          c.requires.wide v;
+      destination = destination_in n c.args.setting.window c.args.lanes.now c.args.nodes.now c.loop-pair.nodes i c.requires.nonempty h
           c.requires.wide v;
       nodes = v.size;
       closed = (v.same (i / n)).wide ∙ c.requires.wide (i / n)
-          (source_in n c.args.window c.args.lanes.now c.args.nodes.now c.loop-pair.nodes i c.requires.nonempty h c.requires.wide v);
+          (source_in n c.args.setting.window c.args.lanes.now c.args.nodes.now c.loop-pair.nodes i c.requires.nonempty h c.requires.wide v);
     }
 
 pub loop-pair-preserved : goal.loop-pair-preserved
 loop-pair-preserved c =
-    let n = c.args.ranks in
+    let n = c.args.setting.ranks in
     let h : c.loop-pair.pair < n * n = c.loop-pair-test.true in
-    subst (λ (v : List NodeState). AreGatedTo n c.args.window c.args.lanes.now c.args.nodes.now v (c.loop-pair.pair + 1))
+    subst (λ (v : List NodeState). AreGatedTo n c.args.setting.window c.args.lanes.now c.args.nodes.now v (c.loop-pair.pair + 1))
     (sym c.gate.ensures)
-    (told_more n c.args.window c.args.lanes.now c.args.nodes.now c.loop-pair.nodes c.loop-pair.pair c.requires.nonempty h c.requires.wide
+    (told_more n c.args.setting.window c.args.lanes.now c.args.nodes.now c.loop-pair.nodes c.loop-pair.pair c.requires.nonempty h
+    c.requires.wide
     c.loop-pair.invariant)
 
 pub returns : goal.returns
 returns c =
-    let n = c.args.ranks in
+    let n = c.args.setting.ranks in
     let t = c.loop-pair-test.false in
     let v = c.loop-pair.invariant in
     record {

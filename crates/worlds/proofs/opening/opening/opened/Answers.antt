@@ -1,12 +1,11 @@
 -- The parts are a world of which nothing was done.
-use Rattle.std.proofs.Common.{ℕ, ◌*◌, ◌<◌, ◌≤◌, ◌≡◌, ◌∙◌, List, get_or, length, replicate, ap, refl, subst, sym, arith}
+use Rattle.std.proofs.Common.{ℕ, ◌*◌, ◌<◌, ◌≤◌, ◌≡◌, ◌∙◌, List, length, map, replicate, ap, refl, subst, sym, arith}
 use Rattle.schedule_compiler.specs.Schedules.{ScheduleOf}
 use Rattle.ptl_types.specs.declared.headers.Lane.{Lane}
 use Rattle.plan_core.specs.Sound.{SoundPlan, AreInputsOf}
 use Rattle.cuts.specs.windows.Places.{lane_place}
-use Rattle.rank_node.specs.Node.{NodeState}
-use Rattle.worlds.specs.declared.parts.acts.Setting.{Setting}
-use Rattle.worlds.specs.parts.Layout.{lane_at, node_at}
+use Rattle.worlds.specs.declared.parts.lanes.Setting.{Setting}
+use Rattle.worlds.specs.parts.Layout.{lane_at, scene_of}
 use Rattle.worlds.specs.parts.Marks.{firing_count, start_count}
 use Rattle.worlds.specs.opening.Fresh.{fresh_lane}
 use Rattle.worlds.specs.opening.Laying.{FitLanes}
@@ -45,21 +44,16 @@ returns c =
     let wide : length lanes ≡ 2 * (n * n) = c.in_ok-lanes.ensures.size ∙ ap (λ (s : ScheduleOf). 2 * (s.plan.ranks * s.plan.ranks)) same in
     let laid = subst (λ (s : ScheduleOf). (a d : ℕ) (lane : Lane) → a < s.plan.ranks → d < s.plan.ranks
     → lane_at lanes (lane_place s.plan.ranks a d lane) ≡ fresh_lane s.plan strays a d lane) same c.in_ok-lanes.ensures.laid in
-    let starts = c.in_ok-starts.ensures in
-    let firings = c.in_ok-firings.ensures in
-    let of_starts = subst (λ (v : List NodeState). (r : ℕ) → r < length v → get_or c.in_ok-starts.starts r 0 ≡ start_count (node_at v r))
-    c.deref.ensures.value starts.counts in
-    let of_firings = subst (λ (v : List NodeState). (r : ℕ) → r < length v → get_or c.in_ok-firings.firings r 0 ≡ firing_count
-    (node_at v r)) c.deref-2.ensures.value firings.counts in
+    let table = c.of_lanes.ensures in
     record {
       world = is-world p inputs n nodes lanes c.args.window strays at_most refl sound fit c.requires.window size wide fresh laid
-          c.in_ok-starts.starts c.in_ok-deliveries.deliveries c.in_ok-firings.firings
-          (starts.size ∙ ap length c.deref.ensures.value ∙ size)
-          (λ r h. of_starts r (subst (λ m. r < m) (sym size) h))
+          c.ranks-ranks.result ranks c.of_lanes.result table c.in_ok-starts.starts c.in_ok-deliveries.deliveries c.in_ok-firings.firings
+          (c.in_ok-starts.ensures ∙ ap (map start_count) c.deref.ensures.value)
           (c.in_ok-deliveries.ensures ∙ ap (λ m. replicate (2 * (m * m)) 0) ranks)
-          (firings.size ∙ ap length c.deref-2.ensures.value ∙ size)
-          (λ r h. of_firings r (subst (λ m. r < m) (sym size) h));
+          (c.in_ok-firings.ensures ∙ ap (map firing_count) c.deref-2.ensures.value);
       setting = ap (λ m. let w : Setting = record { ranks = m; window = c.args.window; strays = strays; spare = strays } in w) ranks;
-      first = is-first p inputs n nodes lanes c.args.window strays at_most refl sound fit c.requires.window size wide fresh laid;
+      first =
+          ap (scene_of n nodes) table
+          ∙ is-first p inputs n nodes lanes c.args.window strays at_most refl sound fit c.requires.window size wide fresh laid;
       steps = λ r h. (fresh r h).steps;
     }

@@ -1,18 +1,19 @@
 -- By `inject_step_as` and `inject_world_as`.
-use Rattle.std.proofs.Common.{not, ap, sym, ◌∙◌}
+use Rattle.std.proofs.Common.{not, ap, refl, subst, sym, ◌∙◌}
+use Rattle.worlds.specs.parts.Keeps.{IsWorld}
+use Rattle.worlds.specs.parts.Steps.{IsInjected}
 use Rattle.worlds.proofs.parts.Injects.{inject_room, inject_step_as, inject_world_as}
 use Rattle.worlds.proofs.parts.Steps.{wide_gates}
 use Rattle.worlds.proofs.parts.acts.inject.Goals as goal
 
 pub put_request-requires-clause-room : goal.put_request-requires-clause-room
-put_request-requires-clause-room c = inject_room c.requires.world.plan c.requires.world.inputs c.args.setting.ranks c.args.nodes.now
-    c.args.lanes.now c.args.starts.now c.args.deliveries.now c.args.firings.now c.args.setting.window c.args.setting.strays
-    c.args.setting.spare c.requires.world.world c.args.s c.args.d c.args.message c.requires.left c.requires.from c.requires.destination
-    c.requires.stray
+put_request-requires-clause-room c = inject_room c.requires.world.plan c.requires.world.inputs c.args.nodes.now c.args.traffic.now
+    c.requires.world.world c.args.s c.args.d c.args.message c.requires.left c.requires.from c.requires.destination c.requires.stray
 
 pub joined-requires-clause-closed : goal.joined-requires-clause-closed
-joined-requires-clause-closed c = wide_gates c.requires.world.plan c.requires.world.inputs c.args.setting.ranks c.args.nodes.now
-    c.args.lanes.now c.args.setting.window c.args.setting.spare c.requires.world.world.parts c.args.s c.requires.from
+joined-requires-clause-closed c = wide_gates c.requires.world.plan c.requires.world.inputs c.args.traffic.now.setting.ranks
+    c.args.nodes.now c.args.traffic.now.lanes c.args.traffic.now.setting.window c.args.traffic.now.setting.spare
+    c.requires.world.world.parts c.args.s c.requires.from
 
 pub joined-requires-clause-told : goal.joined-requires-clause-told
 joined-requires-clause-told c = c.requires.world.world.counted.gates c.args.s c.args.d c.requires.from c.requires.destination
@@ -23,17 +24,17 @@ joined-requires-clause-right c = c.requires.world.world.counted.of_firings c.arg
 
 pub returns-clause-step : goal.returns-clause-step
 returns-clause-step c =
-    inject_step_as c.requires.world.plan c.requires.world.inputs c.args.setting.ranks c.args.nodes.now c.args.lanes.now c.args.starts.now
-    c.args.deliveries.now c.args.firings.now c.args.setting.window c.args.setting.strays c.args.setting.spare c.requires.world.world
+    subst (IsInjected c.args.s c.args.d c.args.message c.args.nodes.now c.args.traffic.now c.joined.new.nodes)
+    (sym c.joined.ensures.marks)
+    (inject_step_as c.requires.world.plan c.requires.world.inputs c.args.nodes.now c.args.traffic.now c.requires.world.world
     c.args.s c.args.d c.args.message c.requires.left c.requires.from c.requires.destination c.requires.stray c.put_request.new.lanes
-    c.put_request.ensures.put c.joined.new.nodes c.joined.new.deliveries c.joined.new.firings
-    (record { gates = c.joined.ensures.gates; of_deliveries = c.joined.ensures.deliveries; of_firings = c.joined.ensures.firings })
+    c.put_request.ensures.put c.joined.new.nodes _ _
+    (record { gates = c.joined.ensures.gates; of_deliveries = refl; of_firings = refl }))
 
 pub returns-clause-world : goal.returns-clause-world
 returns-clause-world c = λ p inputs k used.
-    inject_world_as p inputs c.args.setting.ranks c.args.nodes.now c.args.lanes.now c.args.starts.now c.args.deliveries.now
-    c.args.firings.now c.args.setting.window c.args.setting.strays c.args.setting.spare k c.args.s c.args.d c.args.message
+    subst (IsWorld p inputs c.joined.new.nodes) (sym c.joined.ensures.marks)
+    (inject_world_as p inputs c.args.nodes.now c.args.traffic.now k c.args.s c.args.d c.args.message
     c.requires.left c.requires.from c.requires.destination c.requires.stray c.put_request.new.lanes c.put_request.ensures.put
-    c.joined.new.nodes c.joined.new.deliveries c.joined.new.firings
-    (record { gates = c.joined.ensures.gates; of_deliveries = c.joined.ensures.deliveries; of_firings = c.joined.ensures.firings })
-    c.requires.source c.requires.target c.put_request.ensures.kept c.requires.short used
+    c.joined.new.nodes _ _ (record { gates = c.joined.ensures.gates; of_deliveries = refl; of_firings = refl })
+    c.requires.source c.requires.target c.put_request.ensures.kept c.requires.short used)

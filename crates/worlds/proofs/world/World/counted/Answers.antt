@@ -6,4 +6,4 @@ use Rattle.worlds.proofs.world.World.counted.Goals as goal
 pub returns-clause-kept : goal.returns-clause-kept
 returns-clause-kept c =
     let s = c.self.inside in
-    subst IsStanding c.self.view_is (stands s.job s.setting s.nodes.items s.lanes.items s.starts s.deliveries s.firings c.self.invariant)
+    subst IsStanding c.self.view_is (stands s.job s.nodes.items s.traffic c.self.invariant)

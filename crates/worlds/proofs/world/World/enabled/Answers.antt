@@ -14,13 +14,13 @@ returns-clause-number c = λ slots agree.
     let f = c.total-2.ensures.sum in
     let g = c.total-3.ensures.sum in
     let back = subst (λ (w : WorldState). AreSlots w slots) (sym c.self.view_is) agree in
-    let k = number s.job s.setting s.nodes.items s.lanes.items s.starts s.deliveries s.firings c.self.invariant slots back in
+    let k = number s.job s.nodes.items s.traffic c.self.invariant slots back in
     let v = ap (λ (w : WorldState). length (steps_in w slots)) c.self.view_is in
     omega (arith, e, f, g, k, v)
 
 pub returns-clause-kept : goal.returns-clause-kept
 returns-clause-kept c = let s = c.self.inside in subst IsStanding c.self.view_is
-    (stands s.job s.setting s.nodes.items s.lanes.items s.starts s.deliveries s.firings c.self.invariant)
+    (stands s.job s.nodes.items s.traffic c.self.invariant)
 
 pub returns-clause-rest : goal.returns-clause-rest
 returns-clause-rest c = λ nothing slots agree.
@@ -29,8 +29,8 @@ returns-clause-rest c = λ nothing slots agree.
     let f = c.total-2.ensures.sum in
     let g = c.total-3.ensures.sum in
     let back = subst (λ (w : WorldState). AreSlots w slots) (sym c.self.view_is) agree in
-    let k = number s.job s.setting s.nodes.items s.lanes.items s.starts s.deliveries s.firings c.self.invariant slots back in
-    let none = none_in (steps_in (state_of s.job s.setting s.nodes.items s.lanes.items) slots) (omega (arith, nothing, e, f, g, k)) in
+    let k = number s.job s.nodes.items s.traffic c.self.invariant slots back in
+    let none = none_in (steps_in (state_of s.job s.nodes.items s.traffic) slots) (omega (arith, nothing, e, f, g, k)) in
     subst (λ (w : WorldState). IsAtRest (ranks_in w slots) (histories_in w)) c.self.view_is
-    (rests (state_of s.job s.setting s.nodes.items s.lanes.items) slots
-    (stands s.job s.setting s.nodes.items s.lanes.items s.starts s.deliveries s.firings c.self.invariant) back none)
+    (rests (state_of s.job s.nodes.items s.traffic) slots
+    (stands s.job s.nodes.items s.traffic c.self.invariant) back none)

@@ -11,13 +11,9 @@ returns c = λ slots agree.
     let s = c.self.inside in
     let back = subst (λ (w : WorldState). AreSlots w slots) (sym c.self.view_is) agree in (
       λ t. subst (λ (w : WorldState). In c.args.step (steps_in w slots)) c.self.view_is
-          (listed_now s.job s.setting s.nodes.items s.lanes.items s.starts s.deliveries s.firings c.self.invariant slots back c.args.step
-          (subst (λ ns. Allows s.setting.ranks ns s.lanes.items s.setting.window c.args.step) c.deref.ensures.value
-          (subst (λ ls. Allows s.setting.ranks c.deref.result.now ls s.setting.window c.args.step) c.deref-2.ensures.value
-          (c.allows.ensures.0 t)))),
-      λ i. c.allows.ensures.1
-          (subst (λ ns. Allows s.setting.ranks ns c.deref-2.result.now s.setting.window c.args.step) (sym c.deref.ensures.value)
-          (subst (λ ls. Allows s.setting.ranks s.nodes.items ls s.setting.window c.args.step) (sym c.deref-2.ensures.value)
-          (allowed_in s.job s.setting s.nodes.items s.lanes.items s.starts s.deliveries s.firings c.self.invariant slots back c.args.step
-          (subst (λ (w : WorldState). In c.args.step (steps_in w slots)) (sym c.self.view_is) i)))),
+          (listed_now s.job s.nodes.items s.traffic c.self.invariant slots back c.args.step
+          (subst (λ ns. Allows ns s.traffic c.args.step) c.deref.ensures.value (c.allows.ensures.0 t))),
+      λ i. c.allows.ensures.1 (subst (λ ns. Allows ns s.traffic c.args.step) (sym c.deref.ensures.value)
+          (allowed_in s.job s.nodes.items s.traffic c.self.invariant slots back c.args.step
+          (subst (λ (w : WorldState). In c.args.step (steps_in w slots)) (sym c.self.view_is) i))),
     )

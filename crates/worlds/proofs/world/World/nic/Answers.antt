@@ -12,7 +12,7 @@ pub returns-clause-state : goal.returns-clause-state
 returns-clause-state c = λ slots agree.
     let s = c.self.inside in
     let back = subst (λ (w : WorldState). AreSlots w slots) (sym c.self.view_is) agree in
-    let is = stands s.job s.setting s.nodes.items s.lanes.items s.starts s.deliveries s.firings c.self.invariant in
+    let is = stands s.job s.nodes.items s.traffic c.self.invariant in
     let h = subst (λ (w : WorldState). c.args.r < w.schedule.plan.ranks) (sym c.self.view_is) c.requires in
     let size = is.size in
     let inside : c.args.r < length s.nodes.items = omega (arith, h, size) in

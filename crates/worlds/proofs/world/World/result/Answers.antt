@@ -20,13 +20,13 @@ place-requires c =
 pub part_of-requires : goal.part_of-requires
 part_of-requires c =
     let s = c.self.inside in
-    let is = stands s.job s.setting s.nodes.items s.lanes.items s.starts s.deliveries s.firings c.self.invariant in
+    let is = stands s.job s.nodes.items s.traffic c.self.invariant in
     let hr = subst (λ (w : WorldState). c.args.r < w.schedule.plan.ranks) (sym c.self.view_is) c.requires.rank in
     let told = subst (λ (o : ScheduleOf). IsCellOn o.plan c.args.r c.in-Some.cell) c.schedule-schedule.ensures
     (c.in-Some.ensures.cell c.in-Some.cell (sym c.in-Some.ensures.value)) in
     let size = is.size in
     let inside : c.args.r < length s.nodes.items = omega (arith, hr, size) in
-    let lies = result_lies (state_of s.job s.setting s.nodes.items s.lanes.items) is c.args.r c.in-Some.cell hr told.0
+    let lies = result_lies (state_of s.job s.nodes.items s.traffic) is c.args.r c.in-Some.cell hr told.0
     told.1 in
     let node = get_or_read s.nodes.items c.args.r c.index.result.now inside c.index.ensures no_node in
     let memory = ap length (c.memory.ensures.value ∙ ap (λ (x : State). x.memory) (c.nic.ensures ∙ ap (λ (x : NodeState). x.nic) node)) in

@@ -3,7 +3,7 @@ use Rattle.std.proofs.Common.{below_more, subst}
 use Rattle.std.proofs.lemmas.List.{get_or_read}
 use Rattle.rank_node.specs.Node.{IsNode}
 use Rattle.worlds.specs.parts.Layout.{no_node, node_at}
-use Rattle.worlds.proofs.opening.framing.kept.Goals as goal
+use Rattle.worlds.proofs.opening.framing.recall_nodes.Goals as goal
 
 pub loop-r-preserved : goal.loop-r-preserved
 loop-r-preserved c =
