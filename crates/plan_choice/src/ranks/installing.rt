@@ -16,7 +16,7 @@ ghost use Rattle.plan_choice.specs.ranks.Given.{AreMade, HasRoom, IsWide};
 ghost use Rattle.plan_choice.specs.ranks.Seats.{IsInstalled};
 
 use crate::ranks::region::{NOBODY, region};
-use crate::ranks::seat::ChoiceRank;
+use crate::ranks::choice_rank::ChoiceRank;
 use coll_lang::ChoiceKind;
 use portals_ni::Nic;
 use ptl_types::{
