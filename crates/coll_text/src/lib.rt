@@ -12,7 +12,7 @@ mod writing;
 
 pub use named::{op_named, type_named};
 pub use names::{is, is_name};
-pub use numerals::{Number, number_at, number_between};
+pub use numerals::{Number, long_number, number_at, number_between};
 pub use splitting::{Words, cut};
 pub use values::{Flaw, ValuesFault, data_line, push_value, value_of};
 pub use writing::{printed_value, push_data_line, push_line};

@@ -85,3 +85,13 @@ pub fn number_between(low: u32, high: u32, word: &[u8]) -> Option<u32>
         _ => None,
     }
 }
+
+/// The number that the word is, where it is one below 2^64.
+pub fn long_number(word: &[u8]) -> Option<u64>
+    ensures { result ≡ number_between 0 18446744073709551615 word.now }
+{
+    match number_at(word) {
+        Number::Small(n) => Some(n),
+        Number::Huge | Number::Malformed => None,
+    }
+}
