@@ -99,79 +99,126 @@ fn take_place(
     }
 }
 
-/// Takes data lines, the first of which has this number, and of which so many are due. What they say may have been read before.
+/// Data lines that are due.
+#[derive(Clone, Copy)]
+struct DataRun {
+    /// How many.
+    left: u32,
+    /// The type of their values.
+    ty: ElemType,
+    /// How many values each has.
+    count: u32,
+}
+
+/// Takes data lines of a run, the first of which has this number. What they say may have been read before.
 fn take_block(
     reader: &mut Reader,
-    left: u32,
-    ty: ElemType,
-    count: u32,
+    run: DataRun,
     lines: &[&[u8]],
     places: &mut [Option<Result<InputList, LineFault>>],
     number: u32,
 ) -> Result<(), ParseFault>
-    requires stage { reader.old.stage ≡ Stage.Data left ty count }
-    requires due { length lines.now ≤ left }
+    requires stage { reader.old.stage ≡ Stage.Data run.left run.ty run.count }
+    requires due { length lines.now ≤ run.left }
     requires places { length places.old ≡ length lines.now }
-    requires said { AreSaid ty count lines.now places.old }
+    requires said { AreSaid run.ty run.count lines.now places.old }
     requires at_most { number + length lines.now < 2 ^ 32 }
     ensures { (bytes : List ℕ) → TakesBlock result number (map (λ line. line.now) lines.now) bytes (past reader.old) (past reader.new) }
 {
     for i in 0..lines.len() {
-        let due = left - i as u32;
+        let due = run.left - i as u32;
         let place = places[i].take();
-        if let Err(fault) = take_place(reader, due, ty, count, lines[i], place) {
+        if let Err(fault) = take_place(reader, due, run.ty, run.count, lines[i], place) {
             return Err(fault_at(number + i as u32, fault));
         }
     }
     Ok(())
 }
 
-/// Takes the data lines that are due, as far as they are there, each read by one of as many threads.
-fn read_block<'a, R: Threads + Sync>(
-    rt: &R,
-    threads: u32,
-    reader: &mut Reader,
-    left: u32,
-    ty: ElemType,
-    count: u32,
-    number: u32,
-    bytes: &'a [u8],
-) -> Result<(u32, &'a [u8]), ParseFault>
-    requires threads { 0 < threads }
-    requires stage { reader.old.stage ≡ Stage.Data left ty count }
-    requires at_most { number + length bytes.now < 2 ^ 32 }
-    ensures { ReadsOn result number bytes.now (past reader.old) (past reader.new) }
-{
-    let alloc = reader.alloc;
-    let (lines, rest) = cut_lines(alloc, left, bytes)?;
-    let lines: &[&[u8]] = lines.as_slice();
-    let threads = if bytes.len() - rest.len() < FEW {
-        1
-    } else {
-        threads
-    };
-    let mut places = all_said(rt, alloc, threads, ty, count, lines)?;
-    take_block(reader, left, ty, count, lines, &mut places, number)?;
-    Ok((number + lines.len() as u32, rest))
+/// Who takes long runs of data lines.
+pub(crate) trait ReadAhead {
+    /// Where a long run of data lines comes next, takes as many of them as are there, or none. Answers the number of the line after
+    /// them, and what is left.
+    fn read_ahead<'a>(
+        &self,
+        reader: &mut Reader,
+        number: u32,
+        bytes: &'a [u8],
+    ) -> Result<(u32, &'a [u8]), ParseFault>
+        requires { number + length bytes.now < 2 ^ 32 }
+        ensures { ReadsOn result number bytes.now (past reader.old) (past reader.new) };
 }
 
-/// Where a long run of data lines comes next, takes as many of them as are there. Answers the number of the line after them, and what is
-/// left.
-pub(crate) fn read_ahead<'a, R: Threads + Sync>(
-    rt: &R,
-    threads: u32,
-    reader: &mut Reader,
-    number: u32,
-    bytes: &'a [u8],
-) -> Result<(u32, &'a [u8]), ParseFault>
-    requires threads { 0 < threads }
-    requires at_most { number + length bytes.now < 2 ^ 32 }
-    ensures { ReadsOn result number bytes.now (past reader.old) (past reader.new) }
-{
-    match reader.stage {
-        Stage::Data { left, ty, count } if FEW <= bytes.len() => {
-            read_block(rt, threads, reader, left, ty, count, number, bytes)
+/// Takes none of them: each line is taken in its turn.
+#[derive(Clone, Copy)]
+pub(crate) struct InTurn;
+
+impl ReadAhead for InTurn {
+    #[inline]
+    fn read_ahead<'a>(
+        &self,
+        _reader: &mut Reader,
+        number: u32,
+        bytes: &'a [u8],
+    ) -> Result<(u32, &'a [u8]), ParseFault> {
+        Ok((number, bytes))
+    }
+}
+
+/// Threads that read them.
+pub(crate) struct ByThreads<'a, R> {
+    /// Who starts them.
+    pub(crate) rt: &'a R,
+    /// How many there are at most, the caller among them.
+    pub(crate) threads: u32,
+    ghost some: { 0 < threads },
+}
+
+impl<'a, R> Drop for ByThreads<'a, R> {
+    fn drop(self) {
+        let ByThreads { rt: _, threads: _ } = self;
+    }
+}
+
+impl<'r, R: Threads + Sync> ByThreads<'r, R> {
+    /// Takes the data lines that are due, as far as they are there, each read by one of as many threads.
+    fn read_block<'a>(
+        &self,
+        reader: &mut Reader,
+        run: DataRun,
+        number: u32,
+        bytes: &'a [u8],
+    ) -> Result<(u32, &'a [u8]), ParseFault>
+        requires stage { reader.old.stage ≡ Stage.Data run.left run.ty run.count }
+        requires at_most { number + length bytes.now < 2 ^ 32 }
+        ensures { ReadsOn result number bytes.now (past reader.old) (past reader.new) }
+    {
+        let alloc = reader.alloc;
+        let (lines, rest) = cut_lines(alloc, run.left, bytes)?;
+        let lines: &[&[u8]] = lines.as_slice();
+        let threads = if bytes.len() - rest.len() < FEW {
+            1
+        } else {
+            self.threads
+        };
+        let mut places = all_said(self.rt, alloc, threads, run.ty, run.count, lines)?;
+        take_block(reader, run, lines, &mut places, number)?;
+        Ok((number + lines.len() as u32, rest))
+    }
+}
+
+impl<'r, R: Threads + Sync> ReadAhead for ByThreads<'r, R> {
+    fn read_ahead<'a>(
+        &self,
+        reader: &mut Reader,
+        number: u32,
+        bytes: &'a [u8],
+    ) -> Result<(u32, &'a [u8]), ParseFault> {
+        match reader.stage {
+            Stage::Data { left, ty, count } if FEW <= bytes.len() => {
+                self.read_block(reader, DataRun { left, ty, count }, number, bytes)
+            }
+            _ => Ok((number, bytes)),
         }
-        _ => Ok((number, bytes)),
     }
 }

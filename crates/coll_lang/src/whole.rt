@@ -9,7 +9,7 @@ ghost use Rattle.coll_lang.specs.Verdicts.{Reads, fault_at};
 ghost use Rattle.coll_lang.specs.Spelling.{text};
 ghost use Rattle.coll_lang.specs.Readable.{IsReadable};
 
-use crate::block::read_ahead;
+use crate::block::{ByThreads, InTurn, ReadAhead};
 use crate::description::Description;
 use crate::fault::{LineFault, ParseFault, Refusal};
 use crate::reader::Reader;
@@ -86,8 +86,8 @@ fn ended(reader: Reader, number: u32, rest: &[u8]) -> Result<Reader, ParseFault>
     }
 }
 
-/// What the lines say, taken one after the other.
-fn read_lines(alloc: Global, bytes: &[u8]) -> Result<Reader, ParseFault>
+/// What the lines say. Long runs of data lines may be taken ahead.
+fn read_lines<A: ReadAhead>(alloc: Global, ahead: &A, bytes: &[u8]) -> Result<Reader, ParseFault>
     requires { length bytes.now ≤ LONGEST_TEXT }
     ensures { Reads past result (read_from nothing 1 (lines bytes.now)) }
 {
@@ -95,28 +95,8 @@ fn read_lines(alloc: Global, bytes: &[u8]) -> Result<Reader, ParseFault>
     let mut rest = bytes;
     let mut number = 1u32;
     while !is_finished(reader.stage) {
-        (number, rest) = next_line(&mut reader, number, rest)?;
-    }
-    ended(reader, number, rest)
-}
-
-/// What the lines say. Long runs of data lines are read by as many threads.
-fn read_lines_by<R: Threads + Sync>(
-    rt: &R,
-    alloc: Global,
-    threads: u32,
-    bytes: &[u8],
-) -> Result<Reader, ParseFault>
-    requires threads { 0 < threads }
-    requires short { length bytes.now ≤ LONGEST_TEXT }
-    ensures { Reads past result (read_from nothing 1 (lines bytes.now)) }
-{
-    let mut reader = new_reader(alloc)?;
-    let mut rest = bytes;
-    let mut number = 1u32;
-    while !is_finished(reader.stage) {
         let (next, behind) = next_line(&mut reader, number, rest)?;
-        (number, rest) = read_ahead(rt, threads, &mut reader, next, behind)?;
+        (number, rest) = ahead.read_ahead(&mut reader, next, behind)?;
     }
     ended(reader, number, rest)
 }
@@ -138,33 +118,15 @@ fn refused(line: u32, name: Refusal) -> ParseFault
     ParseFault::Refused { line, name }
 }
 
-/// What a text describes, or its first refusal.
+/// What a text describes, or its first refusal. Long runs of data lines may be taken ahead.
 #[tactic(auto, unfolding(crate::specs::Language::read))]
-fn parsed(alloc: Global, bytes: &[u8]) -> Result<Description, ParseFault>
+fn parsed<A: ReadAhead>(alloc: Global, ahead: &A, bytes: &[u8]) -> Result<Description, ParseFault>
     ensures { Reads (λ d. d) result (read bytes.now) }
 {
     if bytes.len() > LONGEST_TEXT {
         return Err(refused(0, Refusal::TooLong));
     }
-    let reader = read_lines(alloc, bytes)?;
-    Ok(Description::of(reader))
-}
-
-/// What a text describes, or its first refusal. Long runs of data lines are read by as many threads.
-#[tactic(auto, unfolding(crate::specs::Language::read))]
-fn parsed_by<R: Threads + Sync>(
-    rt: &R,
-    alloc: Global,
-    threads: u32,
-    bytes: &[u8],
-) -> Result<Description, ParseFault>
-    requires threads { 0 < threads }
-    ensures { Reads (λ d. d) result (read bytes.now) }
-{
-    if bytes.len() > LONGEST_TEXT {
-        return Err(refused(0, Refusal::TooLong));
-    }
-    let reader = read_lines_by(rt, alloc, threads, bytes)?;
+    let reader = read_lines(alloc, ahead, bytes)?;
     Ok(Description::of(reader))
 }
 
@@ -180,7 +142,7 @@ pub fn parse(alloc: Global, bytes: &[u8]) -> Result<Description, ParseFault>
     ensures spelled { IfOk result (λ d. bytes.now ≡ text d) }
     ensures readable { IfOk result (λ d. IsReadable d) }
 {
-    parsed(alloc, bytes)
+    parsed(alloc, &InTurn, bytes)
 }
 
 /// Reads a description, as `parse` does. Long runs of data lines are read by as many threads; where no thread can be started, the call
@@ -202,5 +164,5 @@ pub fn parse_by<R: Threads + Sync>(
     ensures spelled { IfOk result (λ d. bytes.now ≡ text d) }
     ensures readable { IfOk result (λ d. IsReadable d) }
 {
-    parsed_by(rt, alloc, threads, bytes)
+    parsed(alloc, &ByThreads { rt, threads }, bytes)
 }

@@ -22,10 +22,10 @@ loop-i-preserved c =
     let within : i < length c.args.lines.now = c.loop-i-test.true in
     let going : is_finished r.stage ≡ false = rw (c.loop-i.invariant.stage within) refl in
     record {
-      stage = λ more. due_next (past r) (past new) c.args.left i c.args.ty c.args.count _ (omega arith)
+      stage = λ more. due_next (past r) (past new) c.args.run.left i c.args.run.ty c.args.run.count _ (omega arith)
           (c.loop-i.invariant.stage within) c.in_default.ensures;
       read = λ bytes. c.loop-i.invariant.read bytes
           ∙ goes_on_next (past r) (past new) c.args.number i c.args.lines.now _ bytes within going c.in_default.ensures;
-      said = said_but_one c.args.ty c.args.count c.args.lines.now c.loop-i.places i _ c.take-place.ensures.after c.loop-i.invariant.said;
+      said = said_but_one c.args.run.ty c.args.run.count c.args.lines.now c.loop-i.places i _ c.take-place.ensures.after c.loop-i.invariant.said;
       count = length-set c.loop-i.places i c.take-place.new.self ∙ c.loop-i.invariant.count;
     }

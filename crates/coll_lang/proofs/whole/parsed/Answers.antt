@@ -1,7 +1,7 @@
 use Rattle.std.proofs.Common.{arith}
 use Rattle.coll_lang.specs.States.{past}
 use Rattle.coll_lang.proofs.Coming.{kept}
-use Rattle.coll_lang.proofs.whole.parsed_by.Goals as goal
+use Rattle.coll_lang.proofs.whole.parsed.Goals as goal
 
 pub of-requires : goal.of-requires
 of-requires g c =

@@ -2,7 +2,7 @@ use Rattle.std.proofs.Common.{◌≡◌, ◌+◌, ◌≤◌, length}
 use Rattle.coll_text.specs.Text.{lines}
 use Rattle.coll_lang.specs.States.{past}
 use Rattle.coll_lang.specs.Language.{nothing, read_from}
-use Rattle.coll_lang.proofs.whole.read_lines_by.Given as goal
+use Rattle.coll_lang.proofs.whole.read_lines.Given as goal
 
 abbrev pub invariant-loop-reader : goal.invariant-loop-reader
 invariant-loop-reader g l = record {
