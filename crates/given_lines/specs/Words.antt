@@ -1,5 +1,5 @@
 -- The lines of a given plan, word by word.
-use Rattle.std.specs.Prelude.{ℕ, ◌^◌, ◌&&◌, List, [], ◌∷◌, Option, Some, None, Bool, true, false, Result, Ok, Err, is_some, nat_lt}
+use Rattle.std.specs.Prelude.{ℕ, ◌&&◌, List, [], ◌∷◌, Option, Some, None, Bool, true, false, Result, Ok, Err, is_some, nat_lt}
 use Rattle.std.specs.Prelude.{option_and_then, option_map, if◌then◌else◌, codes}
 use Rattle.std.specs.Str.{bytes_eq}
 use Rattle.ptl_types.specs.declared.elements.AtomicOp.{AtomicOp}
@@ -22,7 +22,7 @@ use Rattle.given_lines.specs.declared.given.Mark.TheVariants as marks
 
 -- a number below 2^64
 abbrev pub long_of : List ℕ → Option ℕ
-long_of word = option_and_then (λ n. if nat_lt n (2 ^ 64) then Some n else None) (number_of word)
+long_of word = number_between 0 18446744073709551615 word
 
 -- a number below 2^32
 abbrev pub short_of : List ℕ → Option ℕ

@@ -20,8 +20,8 @@ fn cell_with(rank: &[u8], ty: &[u8], op: &[u8], length: &[u8], needs: &[u8]) -> 
         rank: short_of(rank)?,
         ty: type_named(ty)?,
         op: cell_op_of(op)?,
-        length: long_of(length)?,
-        needs: long_of(needs)?,
+        length: long_number(length)?,
+        needs: long_number(needs)?,
     })
 }
 
@@ -58,10 +58,10 @@ fn link_with(
 {
     Some(Link {
         source: short_of(source)?,
-        source_offset: long_of(source_offset)?,
-        length: long_of(length)?,
+        source_offset: long_number(source_offset)?,
+        length: long_number(length)?,
         target: short_of(target)?,
-        target_offset: long_of(target_offset)?,
+        target_offset: long_number(target_offset)?,
         kind: kind_of(kind)?,
     })
 }
@@ -94,7 +94,7 @@ fn threshold_in(mut words: Words) -> Option<u64>
     let threshold = words.next()?;
     match words.next() {
         Some(_) => None,
-        None => long_of(threshold),
+        None => long_number(threshold),
     }
 }
 
