@@ -1,7 +1,7 @@
 -- Lines that are written of a plan are read, word by word.
 use Rattle.std.proofs.Common.{◌≡◌, ℕ, ◌<◌, ◌^◌, List, [], ◌∷◌, length, Option, Some, None, Bool, true, false, cond}
 use Rattle.std.proofs.Common.{◌&&◌, refl, ap, ◌∙◌, arith, codes}
-use Rattle.std.specs.Prelude.{nat_lt, is_some, option_and_then}
+use Rattle.std.specs.Prelude.{is_some, option_and_then}
 use Rattle.std.specs.List.{list_all, AllByRecursion}
 use Rattle.std.specs.Fmt.{decimal}
 use Rattle.std.specs.Str.{bytes_eq}
@@ -9,7 +9,6 @@ use Rattle.std.proofs.lemmas.Bool.Decides.{nat_tests}
 use Rattle.ptl_types.specs.declared.elements.AtomicOp.{AtomicOp}
 use Rattle.ptl_types.specs.declared.elements.AtomicOp.TheVariants as ops
 use Rattle.coll_text.specs.Text.{line, number_between}
-use Rattle.coll_text.proofs.ReadBack.{number_read}
 use Rattle.coll_text.proofs.WordsBack.{is_solid, number_solid}
 use Rattle.coll_lang.specs.Words.{type_word}
 use Rattle.coll_lang.proofs.FormsBack.{between_read, op_solid, type_back, type_solid}
@@ -29,9 +28,6 @@ use Rattle.given_laws.specs.Written.{CanBeWritten, IsCellOfWords, IsLinkOfWords}
 
 short_read : (n : ℕ) → n < 2 ^ 32 → short_of (decimal n) ≡ Some n
 short_read n small = between_read 0 4294967295 n (omega arith) (omega (arith, small)) (omega arith)
-
-is_below : (a b : ℕ) → a < b → nat_lt a b ≡ true
-is_below a b lt = grind (arith, nat_tests, lt)
 
 long_read : (n : ℕ) → n < 2 ^ 64 → long_of (decimal n) ≡ Some n
 long_read n small =
