@@ -1,11 +1,8 @@
 //! What a line is by its first word.
 
-use crate::notes::{OPERATIONS, TYPES};
 use crate::places::word;
-use coll_lang::{op_word, type_word};
 use coll_shape::StepKind;
 use coll_text::is;
-use ptl_types::ElemType;
 
 /// What a line after the first two begins with.
 #[derive(Clone, Copy)]
@@ -53,24 +50,4 @@ pub(crate) fn kind_in(line: &[u8]) -> Option<StepKind> {
     } else {
         StepKind::named(word(line, 0))
     }
-}
-
-/// The type of that word.
-pub(crate) fn type_named(word: &[u8]) -> Option<ElemType> {
-    for ty in &TYPES {
-        if is(word, type_word(*ty)) {
-            return Some(*ty);
-        }
-    }
-    None
-}
-
-/// Whether the word is that of an operation.
-pub(crate) fn is_operation(word: &[u8]) -> bool {
-    for op in &OPERATIONS {
-        if is(word, op_word(*op)) {
-            return true;
-        }
-    }
-    false
 }

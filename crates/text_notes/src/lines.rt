@@ -1,12 +1,12 @@
 //! What is wrong with the words of a line.
 
-use crate::keys::{Key, key_of, type_named};
+use crate::keys::{Key, key_of};
 use crate::notes::LineFlaw;
 use crate::places::word;
 use crate::standing::{Due, Standing};
 use crate::steps::{on_flaw, step_flaw};
 use coll_shape::Version;
-use coll_text::{Words, is, is_name};
+use coll_text::{Words, is, is_name, type_named};
 
 /// One word too many, or something else where there is none.
 pub(crate) fn extra_word(line: &[u8], number: usize) -> (usize, LineFlaw) {

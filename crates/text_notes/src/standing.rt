@@ -1,9 +1,9 @@
 //! Which kind of line is due after the lines before it, all of which are valid.
 
-use crate::keys::{Key, key_of, type_named};
+use crate::keys::{Key, key_of};
 use crate::places::word;
 use coll_shape::{MOST_GIVEN, MOST_RANKS, Version};
-use coll_text::{cut, is, number_between};
+use coll_text::{cut, is, number_between, type_named};
 use ptl_types::ElemType;
 
 /// Which lines may come next.

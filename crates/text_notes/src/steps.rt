@@ -1,6 +1,5 @@
 //! What is wrong with the words of a step.
 
-use crate::keys::is_operation;
 use crate::lines::extra_word;
 use crate::notes::LineFlaw;
 use crate::places::word;
@@ -32,7 +31,7 @@ pub(crate) fn step_flaw(line: &[u8], first: usize, kind: StepKind) -> (usize, Li
         number = number.saturating_add(1);
     }
     if kind.takes_op() {
-        if !is_operation(word(line, number)) {
+        if op_named(word(line, number)).is_none() {
             return (number, LineFlaw::NoOperation);
         }
         number = number.saturating_add(1);
