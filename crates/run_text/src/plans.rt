@@ -11,6 +11,7 @@ ghost use Rattle.run_text.specs.Plans.{plan_line, plan_text};
 ghost use Rattle.run_text.specs.Putting.{Puts, EndsWith};
 
 use crate::pieces::Pieces;
+use crate::rows::{Rows, put_rows};
 use crate::words::{Word, put_line};
 use coll_lang::{op_word, type_word};
 use plan_core::{Cell, Link, LinkKind, Plan};
@@ -170,17 +171,74 @@ pub trait PlanTables {
         ensures { result ≡ done_threshold (drawn self.now) r };
 }
 
+/// The lines of a plan's cells.
+#[derive(Clone, Copy)]
+struct CellRows<'a>(&'a Plan);
+
+impl<'a> Rows for CellRows<'a> {
+    ghost use Rattle.std.specs.Prelude.{◌<◌, length};
+    ghost use Rattle.run_text.specs.Plans.{cell_line_of};
+
+    ghost has = { λ rows number. number < length rows.0.now.cells };
+
+    ghost row = { λ rows. cell_line_of rows.0.now };
+
+    fn put<K: Sink>(&self, out: &mut Pieces, sink: &mut K, number: u32) -> Result<(), Failed> {
+        cell_line(out, sink, number, &self.0.cells()[number as usize])
+    }
+}
+
+/// The lines of a plan's links.
+#[derive(Clone, Copy)]
+struct LinkRows<'a>(&'a Plan);
+
+impl<'a> Rows for LinkRows<'a> {
+    ghost use Rattle.std.specs.Prelude.{◌<◌, length};
+    ghost use Rattle.run_text.specs.Plans.{link_line_of};
+
+    ghost has = { λ rows number. number < length rows.0.now.links };
+
+    ghost row = { λ rows. link_line_of rows.0.now };
+
+    fn put<K: Sink>(&self, out: &mut Pieces, sink: &mut K, number: u32) -> Result<(), Failed> {
+        link_line(out, sink, number, &self.0.links()[number as usize])
+    }
+}
+
+/// The lines of the ranks' counters of what is done.
+struct DoneRows<'a, T>(&'a T);
+
+impl<'a, T> Drop for DoneRows<'a, T> {
+    fn drop(self) {
+        let DoneRows(_) = self;
+    }
+}
+
+impl<'a, T: PlanTables> Rows for DoneRows<'a, T> {
+    ghost use Rattle.std.specs.Prelude.{◌<◌};
+    ghost use Rattle.run_text.specs.Plans.{done_line_of};
+
+    ghost has = { λ rows r. r < (T.drawn rows.0.now).ranks };
+
+    ghost row = { λ rows. done_line_of (T.drawn rows.0.now) };
+
+    fn put<K: Sink>(&self, out: &mut Pieces, sink: &mut K, number: u32) -> Result<(), Failed> {
+        let line = PlanLine::DoneLine {
+            rank: number,
+            threshold: self.0.done(number),
+        };
+        plan_line(out, sink, &line)
+    }
+}
+
 /// Adds the lines of the cells, by their numbers.
 fn put_cells<K: Sink>(out: &mut Pieces, sink: &mut K, plan: &Plan) -> Result<(), Failed>
     requires { length plan.now.cells < 2 ^ 32 }
     ensures { Puts (K.outflow sink.old) (K.outflow sink.new) out.old out.new
         (flat_map (cell_line_of plan.now) (from_to 0 (length plan.now.cells))) result }
 {
-    let cells = plan.cells();
-    for number in 0..cells.len() {
-        cell_line(out, sink, number as u32, &cells[number])?;
-    }
-    Ok(())
+    let count = plan.cells().len() as u32;
+    put_rows(out, sink, &CellRows(plan), count)
 }
 
 /// Adds the lines of the links, by their numbers.
@@ -189,11 +247,8 @@ fn put_links<K: Sink>(out: &mut Pieces, sink: &mut K, plan: &Plan) -> Result<(),
     ensures { Puts (K.outflow sink.old) (K.outflow sink.new) out.old out.new
         (flat_map (link_line_of plan.now) (from_to 0 (length plan.now.links))) result }
 {
-    let links = plan.links();
-    for number in 0..links.len() {
-        link_line(out, sink, number as u32, &links[number])?;
-    }
-    Ok(())
+    let count = plan.links().len() as u32;
+    put_rows(out, sink, &LinkRows(plan), count)
 }
 
 /// Adds the line of each rank's counter of what is done.
@@ -205,11 +260,8 @@ fn put_done<K: Sink, T: PlanTables>(
     ensures { Puts (K.outflow sink.old) (K.outflow sink.new) out.old out.new
         (flat_map (done_line_of (T.drawn tables.now)) (from_to 0 (T.drawn tables.now).ranks)) result }
 {
-    for rank in 0..tables.plan().ranks() {
-        let threshold = tables.done(rank);
-        plan_line(out, sink, &PlanLine::DoneLine { rank, threshold })?;
-    }
-    Ok(())
+    let ranks = tables.plan().ranks();
+    put_rows(out, sink, &DoneRows(tables), ranks)
 }
 
 /// Adds the first line.

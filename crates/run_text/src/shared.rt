@@ -1,6 +1,6 @@
 //! The text of a result, whose lines threads make before it is written.
 
-ghost use Rattle.std.specs.Prelude.{◌≡◌, ◌<◌, ◌≤◌, ◌/◌, ◌%◌, ◌*◌, [], ℕ, length, get_or};
+ghost use Rattle.std.specs.Prelude.{◌≡◌, ◌<◌, ◌≤◌, ◌/◌, ◌%◌, ◌*◌, [], length, get_or};
 ghost use Rattle.run_text.specs.Lines.{text_of};
 ghost use Rattle.run_text.specs.Made.{AreMade, IsMade};
 ghost use Rattle.run_text.specs.Putting.{EndsWith};
@@ -25,45 +25,43 @@ const BESIDE: u64 = 32;
 const WIDEST: u64 = 5;
 
 /// The line of a buffer at a rank as a text, where there is memory for it.
-fn line_text<H: ResultLists>(
-    alloc: Global,
-    shape: &Shape,
-    held: &H,
-    buffer: u32,
-    rank: Rank,
-) -> Option<MemorySink>
-    requires buffer { buffer < length shape.now.buffers }
-    requires gives { H.can_give held.now buffer rank }
-    ensures { IsMade shape.now (H.lists held.now) buffer rank result }
+fn line_text<H: ResultLists>(alloc: Global, held: &H, buffer: u32, rank: Rank) -> Option<MemorySink>
+    requires gives { H.can_give held.now }
+    requires buffer { buffer < length (H.outline held.now).buffers }
+    requires rank { rank < (H.outline held.now).ranks }
+    ensures { IsMade (H.outline held.now) (H.lists held.now) buffer rank result }
 {
     let size = held.list(buffer, rank).len() as u64;
     let room = WIDEST.saturating_mul(size).saturating_add(BESIDE);
     // The piece is taken first, so that its memory serves the next line's piece: the text is kept.
     let mut out = Pieces::open(alloc).ok()?;
     let mut sink = MemorySink::with_room(alloc, IoTurns::new(alloc), room).ok()?;
-    put_line_at(&mut out, &mut sink, shape, held, buffer, rank, None).ok()?;
+    put_line_at(&mut out, &mut sink, held, buffer, rank, None).ok()?;
     out.end(&mut sink).ok()?;
     Some(sink)
 }
 
 /// How many bytes the lists of a buffer have together.
-fn bytes_of<H: ResultLists>(shape: &Shape, held: &H, buffer: u32) -> u64
-    requires gives { (r : ℕ) → r < shape.now.ranks → H.can_give held.now buffer r }
+fn bytes_of<H: ResultLists>(held: &H, buffer: u32) -> u64
+    requires gives { H.can_give held.now }
+    requires buffer { buffer < length (H.outline held.now).buffers }
 {
     let mut bytes = 0u64;
-    for rank in 0..shape.ranks() {
+    for rank in 0..held.shape().ranks() {
         bytes = bytes.saturating_add(held.list(buffer, rank).len() as u64);
     }
     bytes
 }
 
 /// Whether the lists that are printed are too short to be shared among threads.
-fn is_short<H: ResultLists>(shape: &Shape, held: &H) -> bool
-    requires gives { (i r : ℕ) → i < length shape.now.prints → r < shape.now.ranks → H.can_give held.now (get_or shape.now.prints i 0) r }
+fn is_short<H: ResultLists>(held: &H) -> bool
+    requires gives { H.can_give held.now }
 {
+    let shape = held.shape();
+    shape.keeps_form();
     let mut bytes = 0u64;
     for buffer in shape.prints() {
-        bytes = bytes.saturating_add(bytes_of(shape, held, *buffer));
+        bytes = bytes.saturating_add(bytes_of(held, *buffer));
     }
     bytes < FEW
 }
@@ -78,20 +76,17 @@ fn line_count(shape: &Shape) -> usize
 }
 
 /// The text of the line with this number, where there is memory for it.
-fn numbered_text<H: ResultLists>(
-    alloc: Global,
-    shape: &Shape,
-    held: &H,
-    number: usize,
-) -> Option<MemorySink>
-    requires line { number < length shape.now.prints * shape.now.ranks }
-    requires gives { (i r : ℕ) → i < length shape.now.prints → r < shape.now.ranks → H.can_give held.now (get_or shape.now.prints i 0) r }
-    ensures { IsMade shape.now (H.lists held.now) (get_or shape.now.prints (number / shape.now.ranks) 0) (number % shape.now.ranks) result }
+fn numbered_text<H: ResultLists>(alloc: Global, held: &H, number: usize) -> Option<MemorySink>
+    requires line { number < length (H.outline held.now).prints * (H.outline held.now).ranks }
+    requires gives { H.can_give held.now }
+    ensures { IsMade (H.outline held.now) (H.lists held.now) (get_or (H.outline held.now).prints (number / (H.outline held.now).ranks) 0)
+        (number % (H.outline held.now).ranks) result }
 {
+    let shape = held.shape();
     shape.keeps_form();
     let ranks = shape.ranks() as usize;
     let buffer = shape.prints()[number / ranks];
-    line_text(alloc, shape, held, buffer, (number % ranks) as Rank)
+    line_text(alloc, held, buffer, (number % ranks) as Rank)
 }
 
 /// The lines of a result as texts, made by so many threads at most, the caller among them; each takes the next line that none has taken.
@@ -100,27 +95,26 @@ fn line_texts<R: Threads + Sync, H: ResultLists + Sync>(
     rt: &R,
     alloc: Global,
     threads: u32,
-    shape: &Shape,
     held: &H,
 ) -> Vec<Option<MemorySink>>
     requires threads { 0 < threads }
-    requires gives { (i r : ℕ) → i < length shape.now.prints → r < shape.now.ranks → H.can_give held.now (get_or shape.now.prints i 0) r }
-    ensures { AreMade shape.now (H.lists held.now) result.items }
+    requires gives { H.can_give held.now }
+    ensures { AreMade (H.outline held.now) (H.lists held.now) result.items }
 {
-    if threads == 1 || is_short(shape, held) {
+    if threads == 1 || is_short(held) {
         return Vec::new(alloc);
     }
     let made = map_indices(
         rt,
         alloc,
         threads as usize,
-        line_count(shape),
+        line_count(held.shape()),
         &|number: usize|
-            requires { (number < length shape.now.prints * shape.now.ranks)
-                × ((i r : ℕ) → i < length shape.now.prints → r < shape.now.ranks → H.can_give held.now (get_or shape.now.prints i 0) r) }
-            ensures { IsMade shape.entry.now (H.lists held.entry.now) (get_or shape.entry.now.prints (number / shape.entry.now.ranks) 0)
-                (number % shape.entry.now.ranks) result }
-        { numbered_text(alloc, shape, held, number) },
+            requires { (number < length (H.outline held.now).prints * (H.outline held.now).ranks) × H.can_give held.now }
+            ensures { IsMade (H.outline held.entry.now) (H.lists held.entry.now)
+                (get_or (H.outline held.entry.now).prints (number / (H.outline held.entry.now).ranks) 0)
+                (number % (H.outline held.entry.now).ranks) result }
+        { numbered_text(alloc, held, number) },
     );
     match made {
         Ok(texts) => texts,
@@ -140,16 +134,15 @@ pub fn write_result_by<R: Threads + Sync, K: Sink, H: ResultLists + Sync>(
     threads: u32,
     out: &mut Pieces,
     sink: &mut K,
-    shape: &Shape,
     held: &H,
 ) -> Result<(), Failed>
     requires threads { 0 < threads }
     requires empty { out.old ≡ [] }
-    requires gives { (i r : ℕ) → i < length shape.now.prints → r < shape.now.ranks → H.can_give held.now (get_or shape.now.prints i 0) r }
-    ensures ends { EndsWith (K.outflow sink.old) (K.outflow sink.new) (text_of shape.now (H.lists held.now)) result }
+    requires gives { H.can_give held.now }
+    ensures ends { EndsWith (K.outflow sink.old) (K.outflow sink.new) (text_of (H.outline held.now) (H.lists held.now)) result }
 {
-    let texts = line_texts(rt, alloc, threads, shape, held);
-    put_prints(out, sink, shape, held, texts.as_slice())?;
+    let texts = line_texts(rt, alloc, threads, held);
+    put_prints(out, sink, held, texts.as_slice())?;
     rest_line(out, sink)?;
     out.end(sink)
 }

@@ -1,6 +1,6 @@
 //! The summary of a generated run.
 
-ghost use Rattle.std.specs.Prelude.{◌≡◌, ◌<◌, ◌%◌, ◌^◌, [], ℕ, length, get_or, sum};
+ghost use Rattle.std.specs.Prelude.{◌≡◌, ◌<◌, ◌%◌, ◌^◌, [], length, sum};
 ghost use Rattle.std.specs.List.{flat_map};
 ghost use Rattle.coll_text.specs.Elements.{elements};
 ghost use Rattle.run_text.specs.Putting.{Puts, EndsWith};
@@ -9,8 +9,8 @@ ghost use Rattle.run_text.specs.Summary.{buffer_sum, sum_line, sum_line_at, summ
 use crate::lines::rest_line;
 use crate::pieces::Pieces;
 use crate::results::ResultLists;
+use crate::rows::{Rows, put_listed};
 use crate::words::{Word, put_line};
-use coll_shape::Shape;
 use lane_ops::elements::read_pattern;
 use port_io::{Failed, Sink};
 use ptl_types::ElemType;
@@ -69,11 +69,12 @@ fn list_sum(ty: ElemType, bytes: &[u8]) -> u64
 }
 
 /// The values of a buffer at all ranks, added up modulo 2^64.
-fn buffer_sum<H: ResultLists>(shape: &Shape, held: &H, buffer: u32) -> u64
-    requires buffer { buffer < length shape.now.buffers }
-    requires gives { (r : ℕ) → r < shape.now.ranks → H.can_give held.now buffer r }
-    ensures { result ≡ buffer_sum shape.now (H.lists held.now) buffer }
+fn buffer_sum<H: ResultLists>(held: &H, buffer: u32) -> u64
+    requires gives { H.can_give held.now }
+    requires buffer { buffer < length (H.outline held.now).buffers }
+    ensures { result ≡ buffer_sum (H.outline held.now) (H.lists held.now) buffer }
 {
+    let shape = held.shape();
     let ty = shape.buffers()[buffer as usize].ty;
     let mut total = 0u64;
     for rank in 0..shape.ranks() {
@@ -82,39 +83,39 @@ fn buffer_sum<H: ResultLists>(shape: &Shape, held: &H, buffer: u32) -> u64
     total
 }
 
-/// Adds the line of a buffer.
-fn put_sum<K: Sink, H: ResultLists>(
-    out: &mut Pieces,
-    sink: &mut K,
-    shape: &Shape,
-    held: &H,
-    buffer: u32,
-) -> Result<(), Failed>
-    requires buffer { buffer < length shape.now.buffers }
-    requires gives { (r : ℕ) → r < shape.now.ranks → H.can_give held.now buffer r }
-    ensures { Puts (K.outflow sink.old) (K.outflow sink.new) out.old out.new (sum_line_at shape.now (H.lists held.now) buffer) result }
-{
-    let sum = buffer_sum(shape, held, buffer);
-    let about = &shape.buffers()[buffer as usize];
-    sum_line(out, sink, about.name.as_slice(), sum)
+/// The lines of the buffers.
+struct SumRows<'a, H>(&'a H);
+
+impl<'a, H> Drop for SumRows<'a, H> {
+    fn drop(self) {
+        let SumRows(_) = self;
+    }
+}
+
+impl<'a, H: ResultLists> Rows for SumRows<'a, H> {
+    ghost use Rattle.std.specs.Prelude.{◌<◌, length};
+    ghost use Rattle.run_text.specs.Summary.{sum_line_at};
+
+    ghost has = { λ rows buffer. H.can_give rows.0.now × (buffer < length (H.outline rows.0.now).buffers) };
+
+    ghost row = { λ rows. sum_line_at (H.outline rows.0.now) (H.lists rows.0.now) };
+
+    fn put<K: Sink>(&self, out: &mut Pieces, sink: &mut K, number: u32) -> Result<(), Failed> {
+        let sum = buffer_sum(self.0, number);
+        let about = &self.0.shape().buffers()[number as usize];
+        sum_line(out, sink, about.name.as_slice(), sum)
+    }
 }
 
 /// Adds the line of each buffer that is printed, in order.
-fn put_sums<K: Sink, H: ResultLists>(
-    out: &mut Pieces,
-    sink: &mut K,
-    shape: &Shape,
-    held: &H,
-) -> Result<(), Failed>
-    requires gives { (i r : ℕ) → i < length shape.now.prints → r < shape.now.ranks → H.can_give held.now (get_or shape.now.prints i 0) r }
+fn put_sums<K: Sink, H: ResultLists>(out: &mut Pieces, sink: &mut K, held: &H) -> Result<(), Failed>
+    requires gives { H.can_give held.now }
     ensures { Puts (K.outflow sink.old) (K.outflow sink.new) out.old out.new
-        (flat_map (sum_line_at shape.now (H.lists held.now)) shape.now.prints) result }
+        (flat_map (sum_line_at (H.outline held.now) (H.lists held.now)) (H.outline held.now).prints) result }
 {
+    let shape = held.shape();
     shape.keeps_form();
-    for buffer in shape.prints() {
-        put_sum(out, sink, shape, held, *buffer)?;
-    }
-    Ok(())
+    put_listed(out, sink, &SumRows(held), shape.prints())
 }
 
 /// Adds a summary: its first line, the line of each buffer that is printed, in order, and the line `rest`.
@@ -124,15 +125,14 @@ fn put_summary<K: Sink, H: ResultLists>(
     k: u32,
     cells: u64,
     links: u64,
-    shape: &Shape,
     held: &H,
 ) -> Result<(), Failed>
-    requires gives { (i r : ℕ) → i < length shape.now.prints → r < shape.now.ranks → H.can_give held.now (get_or shape.now.prints i 0) r }
-    ensures { Puts (K.outflow sink.old) (K.outflow sink.new) out.old out.new (summary_of k cells links shape.now (H.lists held.now))
-        result }
+    requires gives { H.can_give held.now }
+    ensures { Puts (K.outflow sink.old) (K.outflow sink.new) out.old out.new
+        (summary_of k cells links (H.outline held.now) (H.lists held.now)) result }
 {
     summary_head(out, sink, k, cells, links)?;
-    put_sums(out, sink, shape, held)?;
+    put_sums(out, sink, held)?;
     rest_line(out, sink)
 }
 
@@ -146,13 +146,13 @@ pub fn write_summary<K: Sink, H: ResultLists>(
     k: u32,
     cells: u64,
     links: u64,
-    shape: &Shape,
     held: &H,
 ) -> Result<(), Failed>
     requires empty { out.old ≡ [] }
-    requires gives { (i r : ℕ) → i < length shape.now.prints → r < shape.now.ranks → H.can_give held.now (get_or shape.now.prints i 0) r }
-    ensures ends { EndsWith (K.outflow sink.old) (K.outflow sink.new) (summary_of k cells links shape.now (H.lists held.now)) result }
+    requires gives { H.can_give held.now }
+    ensures ends { EndsWith (K.outflow sink.old) (K.outflow sink.new)
+        (summary_of k cells links (H.outline held.now) (H.lists held.now)) result }
 {
-    put_summary(out, sink, k, cells, links, shape, held)?;
+    put_summary(out, sink, k, cells, links, held)?;
     out.end(sink)
 }

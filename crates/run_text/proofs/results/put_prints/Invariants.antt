@@ -6,10 +6,11 @@ use Rattle.run_text.proofs.results.put_prints.Given as goal
 
 abbrev pub invariant-loop-buffer : goal.invariant-loop-buffer
 invariant-loop-buffer g l =
-    let lines = flat_map (buffer_lines l.shape (g.H.ResultLists.lists l.held)) in
+    let o = g.H.ResultLists.outline l.held in
+    let lines = flat_map (buffer_lines o (g.H.ResultLists.lists l.held)) in
     record {
-      taken : Takes (g.K.Sink.outflow l.fn.sink) (g.K.Sink.outflow l.sink) (l.fn.out ++ lines l.shape.prints)
-          (l.out ++ lines (drop l.buffer-index l.shape.prints));
-      place : l.first ≡ l.buffer-index * l.shape.ranks;
+      taken : Takes (g.K.Sink.outflow l.fn.sink) (g.K.Sink.outflow l.sink) (l.fn.out ++ lines o.prints)
+          (l.out ++ lines (drop l.buffer-index o.prints));
+      place : l.first ≡ l.buffer-index * o.ranks;
       at_most : l.first ≤ l.buffer-index * 256;
     }

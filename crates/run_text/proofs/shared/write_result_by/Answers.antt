@@ -7,7 +7,8 @@ use Rattle.run_text.proofs.shared.write_result_by.Goals as goal
 
 pub returns-in_err-put_prints : goal.returns-in_err-put_prints
 returns-in_err-put_prints g c =
-    let lines = flat_map (buffer_lines c.args.shape.now (g.H.ResultLists.lists c.args.held.now)) c.args.shape.now.prints in
+    let lines = flat_map (buffer_lines (g.H.ResultLists.outline c.args.held.now) (g.H.ResultLists.lists c.args.held.now))
+    (g.H.ResultLists.outline c.args.held.now).prints in
     let old = g.K.Sink.outflow c.args.sink.now in
     let new = g.K.Sink.outflow c.put_prints.new.sink in
     let fails : FailsWithin old new lines = rw c.requires.empty at c.in_err-put_prints.ensures in
@@ -15,7 +16,8 @@ returns-in_err-put_prints g c =
 
 pub returns-in_err-rest_line : goal.returns-in_err-rest_line
 returns-in_err-rest_line g c =
-    let lines = flat_map (buffer_lines c.args.shape.now (g.H.ResultLists.lists c.args.held.now)) c.args.shape.now.prints in
+    let lines = flat_map (buffer_lines (g.H.ResultLists.outline c.args.held.now) (g.H.ResultLists.lists c.args.held.now))
+    (g.H.ResultLists.outline c.args.held.now).prints in
     let old = g.K.Sink.outflow c.args.sink.now in
     let before = g.K.Sink.outflow c.put_prints.new.sink in
     let new = g.K.Sink.outflow c.rest_line.new.sink in
@@ -29,7 +31,8 @@ returns-in_err-rest_line g c =
 
 pub returns : goal.returns
 returns g c =
-    let lines = flat_map (buffer_lines c.args.shape.now (g.H.ResultLists.lists c.args.held.now)) c.args.shape.now.prints in
+    let lines = flat_map (buffer_lines (g.H.ResultLists.outline c.args.held.now) (g.H.ResultLists.lists c.args.held.now))
+    (g.H.ResultLists.outline c.args.held.now).prints in
     let old = g.K.Sink.outflow c.args.sink.now in
     let before = g.K.Sink.outflow c.put_prints.new.sink in
     let after = g.K.Sink.outflow c.rest_line.new.sink in

@@ -10,14 +10,14 @@ use Rattle.run_text.proofs.summary.buffer_sum.Goals as goal
 
 pub loop-rank-preserved : goal.loop-rank-preserved
 loop-rank-preserved g c =
-    let o = c.args.shape.now in
+    let o = g.H.ResultLists.outline c.args.held.now in
     let lists = g.H.ResultLists.lists c.args.held.now in
     let b = c.args.buffer in
     let rank = c.loop-rank.rank in
     let at_rank = rank_sum o lists b in
     let all = sum_from at_rank 0 o.ranks in
-    let ranks : c.ranks-rank-end.result ≡ o.ranks = c.ranks-rank-end.ensures.value in
-    let about = buffer-is o b c.index-buffers-buffer.result c.buffers.result.now c.requires.buffer c.buffers.ensures.value
+    let ranks : c.ranks-rank-end.result ≡ o.ranks = rw c.shape-shape.ensures at c.ranks-rank-end.ensures.value in
+    let about = buffer-is o b c.index-buffers-buffer.result c.buffers.result.now c.requires.buffer (rw c.shape-shape.ensures at c.buffers.ensures.value)
     c.index-buffers-buffer.is in
     let part : c.list_sum-total.result ≡ at_rank rank % 2 ^ 64 =
     (rw (← c.index-buffers-buffer.is, c.list.ensures) at c.list_sum-total.ensures)
@@ -28,9 +28,9 @@ loop-rank-preserved g c =
 
 pub returns : goal.returns
 returns g c =
-    let o = c.args.shape.now in
+    let o = g.H.ResultLists.outline c.args.held.now in
     let at_rank = rank_sum o (g.H.ResultLists.lists c.args.held.now) c.args.buffer in
-    let ranks : c.ranks-rank-end.result ≡ o.ranks = c.ranks-rank-end.ensures.value in
+    let ranks : c.ranks-rank-end.result ≡ o.ranks = rw c.shape-shape.ensures at c.ranks-rank-end.ensures.value in
     let none = sum_from-none at_rank c.loop-rank.rank o.ranks (omega (arith, ranks)) in
     let left = c.loop-rank.invariant in
     omega (arith, none, left)

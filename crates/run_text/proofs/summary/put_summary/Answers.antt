@@ -10,12 +10,14 @@ returns-in_err-summary_head g c =
 
 pub returns-in_err-put_sums : goal.returns-in_err-put_sums
 returns-in_err-put_sums g c =
-    let lines = flat_map (sum_line_at c.args.shape.now (g.H.ResultLists.lists c.args.held.now)) c.args.shape.now.prints in
+    let lines = flat_map (sum_line_at (g.H.ResultLists.outline c.args.held.now) (g.H.ResultLists.lists c.args.held.now))
+    (g.H.ResultLists.outline c.args.held.now).prints in
     Puts-exit-then _ _ _ _ _ _ (summary_head c.args.k c.args.cells c.args.links) lines rest_line _
     c.from_residual-in_err-put_sums.ensures.0 c.in_ok-summary_head.ensures c.in_err-put_sums.ensures
 
 pub returns : goal.returns
 returns g c =
-    let lines = flat_map (sum_line_at c.args.shape.now (g.H.ResultLists.lists c.args.held.now)) c.args.shape.now.prints in
+    let lines = flat_map (sum_line_at (g.H.ResultLists.outline c.args.held.now) (g.H.ResultLists.lists c.args.held.now))
+    (g.H.ResultLists.outline c.args.held.now).prints in
     Puts-then _ _ _ _ _ _ (summary_head c.args.k c.args.cells c.args.links) _ _ c.in_ok-summary_head.ensures
     (Puts-then _ _ _ _ _ _ lines rest_line _ c.in_ok-put_sums.ensures c.rest_line.ensures)
