@@ -2,7 +2,7 @@
 
 use json_lang::lines_of;
 use port_io::{IoTurns, MemorySink, SureSink, SureSource};
-use portals_top::{Ran, portals_main};
+use portals_top::{Host, Ran, portals_main};
 use ptl_types::{Bytes, NoMemory};
 use serde_json::Value;
 use std::alloc::{AllocError, Global};
@@ -68,7 +68,8 @@ fn run_words<R: Threads + Wait + Sync>(
     let mut ran = Ran::new();
     // A sink without room: standard error that fails changes nothing.
     let mut notes = MemorySink::new(alloc, IoTurns::new(alloc));
-    let _status = portals_main(rt, alloc, words, source, sink, &mut notes, &mut ran);
+    let host = Host::new(rt, alloc);
+    let _status = portals_main(&host, words, source, sink, &mut notes, &mut ran);
 }
 
 /// What `once` writes of a description.

@@ -2,7 +2,7 @@
 #![tactic(auto)]
 
 use port_io::{StdSink, StdSource};
-use portals_top::{Ran, Status, portals_main};
+use portals_top::{Host, Ran, Status, portals_main};
 use std::alloc::{AllocError, Global};
 use std::env::{Env, FillError};
 use std::io::ErrorKind;
@@ -51,9 +51,9 @@ fn main(rt: HostRuntime) -> ExitCode {
     let mut sink = StdSink::new(std::io::writer(&rt));
     let mut notes = StdSink::new(rt.stderr());
     let mut ran = Ran::new();
+    let host = Host::new(&rt, rt.alloc());
     let status = portals_main(
-        &rt,
-        rt.alloc(),
+        &host,
         words.as_slice(),
         &mut source,
         &mut sink,

@@ -26,30 +26,39 @@ use Rattle.portals_top.proofs.Answering.{leaves}
 use Rattle.portals_top.proofs.Told.{Told, check-long, same-check, short-text, told-any}
 
 -- ---- a verdict
-written-verdict : (v : Verdict) (status : Status) (sink sink' : Outflow) → status ≡ (due_verdict (Some v)).status
+pub verdict-written : (v : Verdict) (status : Status) (sink sink' : Outflow) → status ≡ (due_verdict (Some v)).status
     → Ends sink sink' (due_verdict (Some v)).text → Written (due_verdict (Some v)) sink sink' status
-written-verdict Holds status sink sink' is ends =
+verdict-written Holds status sink sink' is ends =
     subst (λ s. Written (due_verdict (Some Holds)) sink sink' s) (sym is)
     (record { allowed = refl; no_read = λ e. absurd (cc); text = ends })
-written-verdict (Fails r place cause) status sink sink' is ends =
+verdict-written (Fails r place cause) status sink sink' is ends =
     subst (λ s. Written (due_verdict (Some (Fails r place cause))) sink sink' s) (sym is)
     (record { allowed = refl; no_read = λ e. absurd (cc); text = ends })
 
-found-verdict : (finds : Option Verdict → Type 0) (v : Verdict) (status : Status) → status ≡ (due_verdict (Some v)).status → finds (Some v)
-    → Found status finds (Some v)
-found-verdict finds Holds status is on = subst (λ s. Found s finds (Some Holds)) (sym is) on
-found-verdict finds (Fails r place cause) status is on = subst (λ s. Found s finds (Some (Fails r place cause))) (sym is) on
+pub verdict-failed : (v : Verdict) (sink sink' : Outflow) → FailsWithin sink sink' (due_verdict (Some v)).text
+    → Written (due_verdict (Some v)) sink sink' WriteFault
+verdict-failed v sink sink' fails = record { allowed = tt; no_read = λ e. absurd (cc); text = fails }
 
-pub judged-written : (o : Outline) (inputs : Lists) (orders : List (List LocalStep)) (v : Verdict) (status : Status) (sink sink' : Outflow)
-    → IsVerdictOn o inputs orders v → status ≡ (due_verdict (Some v)).status → Ends sink sink' (due_verdict (Some v)).text
+-- no usage line is owed
+verdict-owed : (found : Option Verdict) → (due_verdict found).status ≢ Usage
+verdict-owed None = λ is. absurd (cc)
+verdict-owed (Some Holds) = λ is. absurd (cc)
+verdict-owed (Some (Fails r place cause)) = λ is. absurd (cc)
+
+pub verdict-no_memory : (v : Verdict) (sink : Outflow) → Written (due_verdict (Some v)) sink sink NoMemory
+verdict-no_memory v sink = record { allowed = verdict-owed (Some v); no_read = λ e. absurd (cc); text = refl }
+
+-- the verdict was found, where it or a beginning of its text was written
+pub judged-verdict : (o : Outline) (inputs : Lists) (orders : List (List LocalStep)) (v : Verdict) (sink sink' : Outflow) (status : Status)
+    → IsVerdictOn o inputs orders v → Written (due_verdict (Some v)) sink sink' status
     → Judges (λ found. due_verdict found) (λ found. FindsFor o inputs orders None found) sink sink' status
-judged-written o inputs orders v status sink sink' on is ends =
-    (Some v, written-verdict v status sink sink' is ends, found-verdict (λ found. FindsFor o inputs orders None found) v status is on)
-
-pub judged-failed : (o : Outline) (inputs : Lists) (orders : List (List LocalStep)) (v : Verdict) (sink sink' : Outflow)
-    → IsVerdictOn o inputs orders v → FailsWithin sink sink' (due_verdict (Some v)).text
-    → Judges (λ found. due_verdict found) (λ found. FindsFor o inputs orders None found) sink sink' WriteFault
-judged-failed o inputs orders v sink sink' on fails = (Some v, record { allowed = tt; no_read = λ e. absurd (cc); text = fails }, on)
+judged-verdict o inputs orders v sink sink' Done on written = (Some v, written, on)
+judged-verdict o inputs orders v sink sink' Usage on written = absurd (verdict-owed (Some v) written.allowed)
+judged-verdict o inputs orders v sink sink' Refused on written = (Some v, written, on)
+judged-verdict o inputs orders v sink sink' ReadFault on written = absurd (written.no_read refl)
+judged-verdict o inputs orders v sink sink' WriteFault on written = (Some v, written, on)
+judged-verdict o inputs orders v sink sink' NoMemory on written =
+    (None, record { allowed = λ e. absurd (cc); no_read = λ e. absurd (cc); text = written.text }, refl)
 
 pub judged-no_memory : (o : Outline) (inputs : Lists) (orders : List (List LocalStep)) (sink : Outflow)
     → Judges (λ found. due_verdict found) (λ found. FindsFor o inputs orders None found) sink sink NoMemory
@@ -100,12 +109,6 @@ pub refused-text : (text : List ℕ) (refusal : ℕ × Refusal) (sink sink' : Ou
 refused-text text refusal sink sink' status is written =
     subst (λ r. Judges (λ found. due_checked found r) (λ found. FindsIn r found) sink sink' status) (sym is)
     (None, written, found-none (λ found. FindsIn (Err refusal) found) status refl)
-
--- no usage line is owed
-verdict-owed : (found : Option Verdict) → (due_verdict found).status ≢ Usage
-verdict-owed None = λ is. absurd (cc)
-verdict-owed (Some Holds) = λ is. absurd (cc)
-verdict-owed (Some (Fails r place cause)) = λ is. absurd (cc)
 
 judged-owed : (o : Outline) (found : Option Verdict) (r : Option Excessive) → (due_judged o found r).status ≢ Usage
 judged-owed o found None = verdict-owed found

@@ -9,6 +9,7 @@ ghost use Rattle.shape_plans.specs.Footprint.{refusal};
 ghost use Rattle.schedule_compiler.specs.Schedules.{schedule_of};
 ghost use Rattle.portals_top.specs.Explained.{NotesVerdict, Tells};
 ghost use Rattle.portals_top.specs.Checked.{FindsFor, FindsIn, IsVerdictOn, Judges, due_checked, due_judged, due_verdict};
+ghost use Rattle.portals_top.specs.Written.{Written};
 
 use crate::refusing::{refuse_plan, refuse_with};
 use crate::status::Status;
@@ -92,28 +93,18 @@ fn note_of(text: &[u8], verdict: Verdict) -> Option<Note>
     }
 }
 
-/// Finds the verdict on orders of the ranks of a shape's plan, and writes it.
-fn judge<K: Sink>(
+/// Writes the verdict on the orders of a text, and keeps the note of what fails.
+fn answer_verdict<K: Sink>(
     alloc: Global,
-    shape: &Shape,
-    schedule: Schedule,
-    inputs: Inputs,
-    orders: &Orders,
     text: &[u8],
+    verdict: Verdict,
     sink: &mut K,
     told: &mut Option<Note>,
 ) -> Status
-    requires schedule { schedule ≡ schedule_of shape.now }
-    requires given { AreInputs shape.now inputs }
-    requires lists { length orders.now ≡ shape.now.ranks }
-    ensures judged { Judges (λ found. due_verdict found) (λ found. FindsFor shape.now inputs orders.now None found)
-        (K.outflow sink.old) (K.outflow sink.new) result }
+    ensures written { Written (due_verdict (Some verdict)) (K.outflow sink.old) (K.outflow sink.new) result }
     ensures told { Tells result (K.outflow sink.old) (K.outflow sink.new) told.new }
 {
     let Ok(mut out) = Pieces::open(alloc) else {
-        return Status::NoMemory;
-    };
-    let Ok(verdict) = verdict_on(alloc, shape, schedule, inputs, orders) else {
         return Status::NoMemory;
     };
     *told = note_of(text, verdict);
@@ -139,7 +130,10 @@ fn compiled<K: Sink>(
 {
     let (shape, inputs) = d.into_parts();
     match compile(alloc, &shape) {
-        Ok(schedule) => judge(alloc, &shape, schedule, inputs, orders, text, sink, told),
+        Ok(schedule) => match verdict_on(alloc, &shape, schedule, inputs, orders) {
+            Ok(verdict) => answer_verdict(alloc, text, verdict, sink, told),
+            Err(_) => Status::NoMemory,
+        },
         Err(fault) => refuse_plan(alloc, sink, &shape, fault, told),
     }
 }

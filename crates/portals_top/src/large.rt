@@ -8,11 +8,12 @@ ghost use Rattle.portals_top.specs.Large.{summary_text};
 ghost use Rattle.portals_top.specs.Left.{nothing_ran};
 ghost use Rattle.portals_top.specs.Written.{Written};
 
+use crate::host::Host;
 use crate::ran::Ran;
 use crate::running::run_by_workers;
 use crate::status::Status;
 use crate::words::{Command, Mode};
-use crate::writing::{Rested, status_of, write_sums};
+use crate::writing::{Results, status_of, write_sums};
 use coll_lang::generated;
 use port_io::Sink;
 use ptl_types::NoMemory;
@@ -41,9 +42,7 @@ pub(crate) fn generated_job(alloc: Global, number: u32) -> Result<ShapeJob, NoMe
 
 /// Runs the job of the description that a number chooses by workers on threads, writes its summary, and hands back the world.
 pub(crate) fn large<R: Threads + Wait + Sync, G: Gate, K: Sink>(
-    rt: &R,
-    alloc: Global,
-    gate: &G,
+    host: &Host<R, G>,
     number: u32,
     workers: u32,
     job: &ShapeJob,
@@ -58,15 +57,17 @@ pub(crate) fn large<R: Threads + Wait + Sync, G: Gate, K: Sink>(
     ensures world { HandsBack result Status.Done
         (LeavesWorld (Command.Execute (Mode.Run workers)) (generated number).shape (generated number).inputs) ran.new }
 {
-    let Ok(mut out) = Pieces::open(alloc) else {
+    let Ok(mut out) = Pieces::open(host.alloc) else {
         return Status::NoMemory;
     };
-    let Ok((world, spent)) = run_by_workers(rt, alloc, gate, workers, job) else {
+    let Ok((world, spent)) = run_by_workers(host, workers, job) else {
         return Status::NoMemory;
     };
-    let rested = Rested(world, job.shape());
-    let written = write_sums(&mut out, sink, number, &rested);
-    let Rested(world, _) = rested;
+    let results = Results {
+        world: &world,
+        shape: job.shape(),
+    };
+    let written = write_sums(&mut out, sink, number, results);
     ran.world = Some(world);
     ran.spent = Some(spent);
     status_of(written)

@@ -6,6 +6,7 @@ mod checking;
 mod choosing;
 mod drawing;
 mod headline;
+mod host;
 mod large;
 mod laws;
 mod of_shapes;
@@ -24,6 +25,7 @@ mod writing;
 
 pub use begun::{Begun, Crew};
 pub use headline::every_interleaving_is_meant;
+pub use host::Host;
 pub use laws::{sim_owes_one_choice_text, sim_owes_one_text, sim_owes_one_text_of_any_bytes};
 pub use of_shapes::worlds_of_shapes;
 pub use ran::Ran;

@@ -1,11 +1,15 @@
 //! Running a job, and writing what the world then holds.
 
 ghost use Rattle.std.specs.Prelude.{◌≡◌, ◌<◌, ◌^◌, All, IfOk, None, Some, length};
+ghost use Rattle.coll_shape.specs.Meaning.{AreInputs};
+ghost use Rattle.coll_shape.specs.WellFormed.{IsWellFormed};
 ghost use Rattle.cuts.specs.orders.Chosen.{first_scene};
 ghost use Rattle.rest_probe.specs.Waves.{IsFor};
 ghost use Rattle.schedule_compiler.specs.Schedules.{schedule_of};
+ghost use Rattle.shape_plans.specs.Footprint.{refusal};
 ghost use Rattle.turn_table.specs.Hands.{IsFree, parts_of};
 ghost use Rattle.worlds.specs.Later.{IsLater};
+ghost use Rattle.worlds.specs.Standing.{IsStanding};
 ghost use Rattle.worlds.specs.World.{scene_in};
 ghost use Rattle.portals_top.specs.Answered.{HandsBack, LeavesRun, LeavesWorld};
 ghost use Rattle.portals_top.specs.Begun.{Begins, IsLeft, mode_of};
@@ -17,20 +21,37 @@ ghost use Rattle.portals_top.specs.Written.{Written};
 
 use crate::begun::{Begun, Crew};
 use crate::drawing::Words;
+use crate::host::Host;
 use crate::ran::Ran;
 use crate::status::Status;
 use crate::words::{Command, Mode};
-use crate::writing::{Rested, status_of, write_ordered, write_results, write_run};
+use crate::writing::{Results, status_of, write_ordered, write_run};
 use port_io::Sink;
 use ptl_types::NoMemory;
 use rank_threads::{Fabric, Gate, Hand, SpentWires, run_keeping, run_steady};
 use rest_probe::Wave;
-use run_text::Pieces;
+use run_text::{Pieces, write_result};
 use schedule_compiler::ShapeJob;
 use std::alloc::Global;
 use std::sync::Wait;
 use std::thread::Threads;
 use worlds::{World, runs_by_words};
+
+/// What holds of a world whatever was done with it.
+fn recall_standing(world: &World)
+    ensures { IsStanding world.now }
+{
+    let _ = world.enabled();
+}
+
+/// What holds of every job of a shape.
+fn recall_job(job: &ShapeJob)
+    ensures formed { IsWellFormed job.now.shape }
+    ensures accepted { refusal job.now.shape ≡ None }
+    ensures inputs { AreInputs job.now.shape job.now.inputs }
+{
+    let _ = job.job();
+}
 
 /// Makes all that is left of a world of a job.
 fn finished(world: World, job: &ShapeJob) -> World
@@ -42,9 +63,9 @@ fn finished(world: World, job: &ShapeJob) -> World
     ensures later { IsLater world result }
 {
     let mut world = world;
-    let _ = job.job();
+    recall_job(job);
     world.run_to_rest();
-    let _ = world.enabled();
+    recall_standing(&world);
     world
 }
 
@@ -64,24 +85,22 @@ fn run_chosen(alloc: Global, job: &ShapeJob, seed: u64) -> Result<World, NoMemor
     let mut words = Words::of(seed);
     world.run_chosen(&mut words);
     runs_by_words::<Words>();
-    let _ = world.enabled();
+    recall_standing(&world);
     Ok(world)
 }
 
 /// Runs a job by workers on threads; what they leave is made at the end. Where no thread can be started, the call does a worker's
 /// part itself. The wires that they used are handed over beside the world.
 pub(crate) fn run_by_workers<R: Threads + Wait + Sync, G: Gate>(
-    rt: &R,
-    alloc: Global,
-    gate: &G,
+    host: &Host<R, G>,
     workers: u32,
     job: &ShapeJob,
 ) -> Result<(World, SpentWires), NoMemory>
     requires { 0 < workers }
     ensures { IfOk result (λ left. IsRun job.now.shape job.now.inputs left.0 × IsOfWorkers workers left.0) }
 {
-    let (fabric, hands) = Fabric::open(rt, alloc, job.job(), workers, gate)?;
-    let (world, spent) = run_keeping(rt, fabric, hands);
+    let (fabric, hands) = Fabric::open(host.rt, host.alloc, job.job(), workers, &host.gate)?;
+    let (world, spent) = run_keeping(host.rt, fabric, hands);
     let world = finished(world, job);
     Ok((world, spent))
 }
@@ -112,9 +131,7 @@ fn close_steady<R: Threads + Wait + Sync, G: Gate + Drop>(
 /// Runs a job by workers on threads that leave nothing. Where no thread can be started, the call does a worker's part itself. The wires
 /// that they used are handed over beside the world.
 fn run_steadily<R: Threads + Wait + Sync, G: Gate>(
-    rt: &R,
-    alloc: Global,
-    gate: &G,
+    host: &Host<R, G>,
     workers: u32,
     job: &ShapeJob,
 ) -> Result<(World, SpentWires), NoMemory>
@@ -122,9 +139,9 @@ fn run_steadily<R: Threads + Wait + Sync, G: Gate>(
     ensures { IfOk result (λ left. IsRun job.now.shape job.now.inputs left.0 × IsOfSteady workers left.0) }
 {
     let own = job.job();
-    let wave = Wave::open(alloc, own.schedule())?;
-    let (fabric, hands) = Fabric::open(rt, alloc, own, workers, gate)?;
-    let (world, spent) = close_steady(rt, fabric, hands, wave);
+    let wave = Wave::open(host.alloc, own.schedule())?;
+    let (fabric, hands) = Fabric::open(host.rt, host.alloc, own, workers, &host.gate)?;
+    let (world, spent) = close_steady(host.rt, fabric, hands, wave);
     Ok((finished(world, job), spent))
 }
 
@@ -141,9 +158,11 @@ fn once<K: Sink>(alloc: Global, job: &ShapeJob, sink: &mut K, ran: &mut Ran) -> 
     let Ok(world) = run_once(alloc, job) else {
         return Status::NoMemory;
     };
-    let rested = Rested(world, job.shape());
-    let written = write_results(&mut out, sink, &rested);
-    let Rested(world, _) = rested;
+    let results = Results {
+        world: &world,
+        shape: job.shape(),
+    };
+    let written = write_result(&mut out, sink, &results);
     ran.world = Some(world);
     status_of(written)
 }
@@ -161,9 +180,11 @@ fn sim<K: Sink>(alloc: Global, job: &ShapeJob, seed: u64, sink: &mut K, ran: &mu
     let Ok(world) = run_chosen(alloc, job, seed) else {
         return Status::NoMemory;
     };
-    let rested = Rested(world, job.shape());
-    let written = write_ordered(&mut out, sink, &rested);
-    let Rested(world, _) = rested;
+    let results = Results {
+        world: &world,
+        shape: job.shape(),
+    };
+    let written = write_ordered(&mut out, sink, results);
     ran.world = Some(world);
     status_of(written)
 }
@@ -203,9 +224,7 @@ pub(crate) fn run_alone<K: Sink>(
 
 /// Lets workers run a job. Beside the world it hands over the wires that they used.
 fn run_by<R: Threads + Wait + Sync, G: Gate>(
-    rt: &R,
-    alloc: Global,
-    gate: &G,
+    host: &Host<R, G>,
     crew: Crew,
     job: &ShapeJob,
 ) -> Result<(World, SpentWires), NoMemory>
@@ -214,11 +233,11 @@ fn run_by<R: Threads + Wait + Sync, G: Gate>(
 {
     match crew {
         Crew::Run { workers } | Crew::Trace { workers } => {
-            let (world, spent) = run_by_workers(rt, alloc, gate, workers, job)?;
+            let (world, spent) = run_by_workers(host, workers, job)?;
             Ok((world, spent))
         }
         Crew::Steady { workers } => {
-            let (world, spent) = run_steadily(rt, alloc, gate, workers, job)?;
+            let (world, spent) = run_steadily(host, workers, job)?;
             Ok((world, spent))
         }
     }
@@ -226,9 +245,7 @@ fn run_by<R: Threads + Wait + Sync, G: Gate>(
 
 /// Lets workers run a job, writes what is due, and hands back the world.
 pub(crate) fn run<R: Threads + Wait + Sync, G: Gate, K: Sink>(
-    rt: &R,
-    alloc: Global,
-    gate: &G,
+    host: &Host<R, G>,
     crew: Crew,
     job: &ShapeJob,
     sink: &mut K,
@@ -240,15 +257,17 @@ pub(crate) fn run<R: Threads + Wait + Sync, G: Gate, K: Sink>(
         (K.outflow sink.new) result }
     ensures world { HandsBack result Status.Done (LeavesWorld (Command.Execute (mode_of crew)) job.now.shape job.now.inputs) ran.new }
 {
-    let Ok(mut out) = Pieces::open(alloc) else {
+    let Ok(mut out) = Pieces::open(host.alloc) else {
         return Status::NoMemory;
     };
-    let Ok((world, spent)) = run_by(rt, alloc, gate, crew, job) else {
+    let Ok((world, spent)) = run_by(host, crew, job) else {
         return Status::NoMemory;
     };
-    let rested = Rested(world, job.shape());
-    let written = write_run(rt, alloc, &mut out, sink, crew, &rested);
-    let Rested(world, _) = rested;
+    let results = Results {
+        world: &world,
+        shape: job.shape(),
+    };
+    let written = write_run(host, &mut out, sink, crew, results);
     ran.world = Some(world);
     ran.spent = Some(spent);
     status_of(written)

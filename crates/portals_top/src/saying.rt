@@ -1,9 +1,9 @@
 //! What is said on standard error.
 
-ghost use Rattle.std.specs.Prelude.{◌≡◌, ◌++◌, ◌∷◌, [], Option};
+ghost use Rattle.std.specs.Prelude.{◌++◌, ◌∷◌, [], Option};
 ghost use Rattle.run_text.specs.Putting.{EndsWith};
 ghost use Rattle.text_notes.specs.notes.Shown.{IsNote};
-ghost use Rattle.portals_top.specs.Explained.{Begins, Says, SaysAll};
+ghost use Rattle.portals_top.specs.Explained.{Says, SaysAll};
 
 use crate::status::Status;
 use port_io::{Failed, Sink};

@@ -16,7 +16,8 @@ ghost use Rattle.portals_top.specs.Written.{Written};
 
 use crate::begun::Begun;
 use crate::checking::judged_text;
-use crate::choosing::chosen;
+use crate::choosing::{ChoiceText, chosen};
+use crate::host::Host;
 use crate::large::{generated_job, large};
 use crate::parsing::parse_text;
 use crate::planning::plan;
@@ -131,7 +132,13 @@ fn described<K: Sink>(
 {
     match d.choices() {
         Some(choices) => {
-            Begun::Answered(chosen(alloc, command, d.shape(), choices, sink, ran, told))
+            let shape = d.shape();
+            shape.keeps_form();
+            let text = ChoiceText {
+                ranks: shape.ranks(),
+                choices,
+            };
+            Begun::Answered(chosen(alloc, command, text, sink, ran, told))
         }
         None => compiled(alloc, command, d, sink, ran, told),
     }
@@ -152,9 +159,8 @@ fn readers_for(command: Command) -> u32
 }
 
 /// Answers what was read. The text is given back once it is read.
-fn answer<R: Threads + Sync, K: Sink>(
-    rt: &R,
-    alloc: Global,
+fn answer<R: Threads + Sync, G, K: Sink>(
+    host: &Host<R, G>,
     task: Task,
     text: Vec<u8>,
     sink: &mut K,
@@ -169,19 +175,18 @@ fn answer<R: Threads + Sync, K: Sink>(
     ensures told { TellsBegun result (K.outflow sink.old) (K.outflow sink.new) told.new }
 {
     let threads = readers_for(task.command);
-    match parse_text(rt, alloc, threads, task.format, text, told) {
-        Ok(d) => described(alloc, task.command, d, sink, ran, told),
+    match parse_text(host.rt, host.alloc, threads, task.format, text, told) {
+        Ok(d) => described(host.alloc, task.command, d, sink, ran, told),
         Err(ParseFault::Refused { line, name }) => {
-            Begun::Answered(refuse(alloc, sink, line, name))
+            Begun::Answered(refuse(host.alloc, sink, line, name))
         }
         Err(ParseFault::NoMemory) => Begun::Answered(Status::NoMemory),
     }
 }
 
 /// Reads a description and answers it.
-fn read_and_answer<R: Threads + Sync, S: Source, K: Sink>(
-    rt: &R,
-    alloc: Global,
+fn read_and_answer<R: Threads + Sync, G, S: Source, K: Sink>(
+    host: &Host<R, G>,
     task: Task,
     source: &mut S,
     sink: &mut K,
@@ -195,8 +200,8 @@ fn read_and_answer<R: Threads + Sync, S: Source, K: Sink>(
         ran.new result }
     ensures told { TellsBegun result (K.outflow sink.old) (K.outflow sink.new) told.new }
 {
-    match read_text(alloc, LONGEST_TEXT, source) {
-        Ok(text) => answer(rt, alloc, task, text, sink, ran, told),
+    match read_text(host.alloc, LONGEST_TEXT, source) {
+        Ok(text) => answer(host, task, text, sink, ran, told),
         Err(ReadError::Failed) => Begun::Answered(Status::ReadFault),
         Err(ReadError::NoMemory) => Begun::Answered(Status::NoMemory),
     }
@@ -221,9 +226,8 @@ fn read_and_check<S: Source, K: Sink>(
 }
 
 /// What one thread does. The note of a refusal is kept.
-fn started<R: Threads + Sync, S: Source, K: Sink>(
-    rt: &R,
-    alloc: Global,
+fn started<R: Threads + Sync, G, S: Source, K: Sink>(
+    host: &Host<R, G>,
     words: &[String],
     source: &mut S,
     sink: &mut K,
@@ -239,10 +243,10 @@ fn started<R: Threads + Sync, S: Source, K: Sink>(
     ran.choice = None;
     ran.spent = None;
     // The text that is read then grows in memory that the process has already.
-    reach_ahead(alloc);
+    reach_ahead(host.alloc);
     match request_in(words) {
-        Some(Request::Do(task)) => read_and_answer(rt, alloc, task, source, sink, ran, told),
-        Some(Request::Large { number, workers }) => match generated_job(alloc, number) {
+        Some(Request::Do(task)) => read_and_answer(host, task, source, sink, ran, told),
+        Some(Request::Large { number, workers }) => match generated_job(host.alloc, number) {
             Ok(job) => Begun::Large {
                 number,
                 workers,
@@ -250,7 +254,7 @@ fn started<R: Threads + Sync, S: Source, K: Sink>(
             },
             Err(_) => Begun::Answered(Status::NoMemory),
         },
-        Some(Request::Check) => Begun::Answered(read_and_check(alloc, source, sink, told)),
+        Some(Request::Check) => Begun::Answered(read_and_check(host.alloc, source, sink, told)),
         None => Begun::Answered(usage(sink)),
     }
 }
@@ -259,9 +263,8 @@ fn started<R: Threads + Sync, S: Source, K: Sink>(
 /// answered, as `portals_main` says: `once`, `sim X`, `plan`, `check`, and all that get the usage line. For the others the source is
 /// read, the text is refused or compiled, and the run is left to workers: then the sink is untouched, and no world is handed back. `run
 /// W`, `trace W`, `steady W` and `json W` are read by so many threads at most, the caller among them.
-pub fn begin<R: Threads + Sync, S: Source, K: Sink>(
-    rt: &R,
-    alloc: Global,
+pub fn begin<R: Threads + Sync, G, S: Source, K: Sink>(
+    host: &Host<R, G>,
     words: &[String],
     source: &mut S,
     sink: &mut K,
@@ -272,17 +275,15 @@ pub fn begin<R: Threads + Sync, S: Source, K: Sink>(
         (K.outflow sink.new) ran.new result }
 {
     let mut told = None;
-    started(rt, alloc, words, source, sink, ran, &mut told)
+    started(host, words, source, sink, ran, &mut told)
 }
 
 /// The whole program but what is said on standard error. The note of a refusal is kept.
-fn answered<R: Threads + Wait + Sync, S: Source, K: Sink, G: Gate>(
-    rt: &R,
-    alloc: Global,
+fn answered<R: Threads + Wait + Sync, G: Gate, S: Source, K: Sink>(
+    host: &Host<R, G>,
     words: &[String],
     source: &mut S,
     sink: &mut K,
-    gate: &G,
     ran: &mut Ran,
     told: &mut Option<Note>,
 ) -> Status
@@ -291,27 +292,25 @@ fn answered<R: Threads + Wait + Sync, S: Source, K: Sink, G: Gate>(
         (K.outflow sink.new) ran.new result }
     ensures told { Tells result (K.outflow sink.old) (K.outflow sink.new) told.new }
 {
-    match started(rt, alloc, words, source, sink, ran, told) {
+    match started(host, words, source, sink, ran, told) {
         Begun::Answered(status) => status,
-        Begun::Run { crew, job } => run(rt, alloc, gate, crew, &job, sink, ran),
+        Begun::Run { crew, job } => run(host, crew, &job, sink, ran),
         Begun::Large {
             number,
             workers,
             job,
-        } => large(rt, alloc, gate, number, workers, &job, sink, ran),
+        } => large(host, number, workers, &job, sink, ran),
     }
 }
 
-/// The whole program, with a gate that workers pass: each passes it while it has the turn of a rank, before a start and a firing, and
-/// between the pop of a message and its receipt. All else is as `portals_main` says.
-pub fn run_with_gate<R: Threads + Wait + Sync, S: Source, K: Sink, N: Sink, G: Gate>(
-    rt: &R,
-    alloc: Global,
+/// The whole program, with the host's gate, which workers pass: each passes it while it has the turn of a rank, before a start and a
+/// firing, and between the pop of a message and its receipt. All else is as `portals_main` says.
+pub fn run_with_gate<R: Threads + Wait + Sync, G: Gate, S: Source, K: Sink, N: Sink>(
+    host: &Host<R, G>,
     words: &[String],
     source: &mut S,
     sink: &mut K,
     notes: &mut N,
-    gate: &G,
     ran: &mut Ran,
 ) -> Status
     ensures answers { (bytes : List ℕ) × IsTold (S.inflow source.old).left bytes
@@ -320,7 +319,7 @@ pub fn run_with_gate<R: Threads + Wait + Sync, S: Source, K: Sink, N: Sink, G: G
     ensures explained { Explained result (K.outflow sink.old) (K.outflow sink.new) (N.outflow notes.old) (N.outflow notes.new) }
 {
     let mut told = None;
-    let status = answered(rt, alloc, words, source, sink, gate, ran, &mut told);
+    let status = answered(host, words, source, sink, ran, &mut told);
     say_beside(notes, words, status, &told);
     status
 }
@@ -345,8 +344,7 @@ pub fn run_with_gate<R: Threads + Wait + Sync, S: Source, K: Sink, N: Sink, G: G
 /// a note of it, beside the usage line which word is wrong and a line for each form, and beside a fault or want of memory a line. What
 /// fails there changes nothing.
 pub fn portals_main<R: Threads + Wait + Sync, S: Source, K: Sink, N: Sink>(
-    rt: &R,
-    alloc: Global,
+    host: &Host<R, OpenGate>,
     words: &[String],
     source: &mut S,
     sink: &mut K,
@@ -358,5 +356,5 @@ pub fn portals_main<R: Threads + Wait + Sync, S: Source, K: Sink, N: Sink>(
         (K.outflow sink.new) ran.new result }
     ensures explained { Explained result (K.outflow sink.old) (K.outflow sink.new) (N.outflow notes.old) (N.outflow notes.new) }
 {
-    run_with_gate(rt, alloc, words, source, sink, notes, &OpenGate, ran)
+    run_with_gate(host, words, source, sink, notes, ran)
 }

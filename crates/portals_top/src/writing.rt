@@ -1,11 +1,8 @@
 //! Writing what a world at rest holds.
 
-ghost use Rattle.std.specs.Prelude.{ℕ, List, ◌≡◌, ◌<◌, ◌++◌, Some, []};
-ghost use Rattle.ptl_types.specs.declared.steps.LocalStep.{LocalStep};
+ghost use Rattle.std.specs.Prelude.{◌≡◌, ◌++◌, Some, []};
 ghost use Rattle.coll_lang.specs.Generated.{generated};
-ghost use Rattle.coll_shape.specs.WellFormed.{IsWellFormed};
 ghost use Rattle.run_text.specs.Lines.{result_text};
-ghost use Rattle.run_text.specs.Orders.{order_text};
 ghost use Rattle.run_text.specs.Putting.{EndsWith, Puts};
 ghost use Rattle.portals_top.specs.Begun.{mode_of};
 ghost use Rattle.portals_top.specs.Due.{mode_text, orders_of};
@@ -15,182 +12,107 @@ ghost use Rattle.portals_top.specs.Words.{HasWorkers};
 ghost use Rattle.portals_top.specs.Written.{status_of};
 
 use crate::begun::Crew;
+use crate::host::Host;
 use crate::status::Status;
 use coll_shape::Shape;
-use plan_choice::ChoiceWorld;
 use port_io::{Failed, Sink};
-use ptl_types::{LocalStep, Rank};
+use ptl_types::Rank;
 use run_text::{
-    Pieces, ResultLists, order_line, put_result, write_result, write_result_by, write_summary,
+    Pieces, ResultLists, Rows, order_line, put_result, put_rows, write_result_by, write_summary,
 };
-use std::alloc::Global;
 use std::thread::Threads;
 use worlds::World;
 
-/// A world at rest of the plan of a shape, with the shape.
-#[derive(Drop)]
-pub(crate) struct Rested<'a>(pub(crate) World, pub(crate) &'a Shape);
+/// The results of a world at rest of the plan of a shape.
+#[derive(Clone, Copy)]
+pub(crate) struct Results<'a> {
+    /// The world.
+    pub(crate) world: &'a World,
+    /// The shape.
+    pub(crate) shape: &'a Shape,
+}
 
-impl<'a> ResultLists for Rested<'a> {
-    ghost use Rattle.std.specs.Prelude.{◌<◌, length};
+impl<'a> ResultLists for Results<'a> {
     ghost use Rattle.coll_shape.specs.Meaning.{meaning_of};
     ghost use Rattle.portals_top.specs.Resting.{IsResting};
 
-    ghost lists = { λ rested. meaning_of rested.1.now rested.0.inputs };
+    ghost outline = { λ results. results.shape.now };
 
-    ghost can_give = { λ rested b r.
-        IsResting rested.1.now rested.0 × (b < length rested.1.now.buffers) × (r < rested.1.now.ranks) };
+    ghost lists = { λ results. meaning_of results.shape.now results.world.now.inputs };
+
+    ghost can_give = { λ results. IsResting results.shape.now results.world.now };
+
+    fn shape(&self) -> &Shape {
+        self.shape
+    }
 
     fn list(&self, buffer: u32, rank: Rank) -> &[u8] {
-        self.0.result(buffer, rank)
+        self.world.result(buffer, rank)
     }
 }
 
-/// Whose steps are written.
-pub(crate) trait Histories {
-    /// How many ranks there are.
-    ghost count: { Self → ℕ };
+/// The lines of the steps that each rank of a world made, oldest first.
+#[derive(Clone, Copy)]
+struct OrderRows<'a>(&'a World);
 
-    /// The steps of each rank, oldest first.
-    ghost steps: { Self → ℕ → List LocalStep };
-
-    /// How many ranks there are.
-    fn rank_count(&self) -> u32
-        ensures { result ≡ count self.now };
-
-    /// The steps of a rank, oldest first.
-    fn steps_of(&self, r: Rank) -> &[LocalStep]
-        requires { r < count self.now }
-        ensures { result.now ≡ steps self.now r };
-}
-
-impl Histories for World {
-    ghost use Rattle.std.specs.Prelude.{map};
+impl<'a> Rows for OrderRows<'a> {
+    ghost use Rattle.std.specs.Prelude.{◌<◌, map};
     ghost use Rattle.cuts.specs.orders.Taking.{listed};
+    ghost use Rattle.run_text.specs.Orders.{order_line};
     ghost use Rattle.worlds.specs.World.{histories_in};
 
-    ghost count = { λ w. w.schedule.plan.ranks };
+    ghost has = { λ rows r. r < rows.0.now.schedule.plan.ranks };
 
-    ghost steps = { λ w r. map listed (histories_in w r) };
+    ghost row = { λ rows r. order_line r (map listed (histories_in rows.0.now r)) };
 
-    fn rank_count(&self) -> u32 {
-        self.schedule().ranks()
-    }
-
-    fn steps_of(&self, r: Rank) -> &[LocalStep] {
-        self.history(r)
+    fn put<K: Sink>(&self, out: &mut Pieces, sink: &mut K, number: u32) -> Result<(), Failed> {
+        order_line(out, sink, number, self.0.history(number))
     }
 }
 
-impl Histories for ChoiceWorld {
-    ghost use Rattle.portals_top.specs.Choosing.{choice_steps};
-
-    ghost count = { λ w. w.ranks };
-
-    ghost steps = { choice_steps };
-
-    fn rank_count(&self) -> u32 {
-        self.ranks()
-    }
-
-    fn steps_of(&self, r: Rank) -> &[LocalStep] {
-        self.history(r)
-    }
-}
-
-/// Adds a line for each rank with the steps that it made.
-pub(crate) fn put_orders<K: Sink, H: Histories>(
-    out: &mut Pieces,
-    sink: &mut K,
-    held: &H,
-) -> Result<(), Failed>
-    ensures { Puts (K.outflow sink.old) (K.outflow sink.new) out.old out.new (order_text (H.count held.now) (H.steps held.now)) result }
+/// Adds the order of each rank.
+fn put_orders<K: Sink>(out: &mut Pieces, sink: &mut K, world: &World) -> Result<(), Failed>
+    ensures { Puts (K.outflow sink.old) (K.outflow sink.new) out.old out.new (orders_of (Some world.now)) result }
 {
-    for rank in 0..held.rank_count() {
-        order_line(out, sink, rank, held.steps_of(rank))?;
-    }
-    Ok(())
-}
-
-/// The shape that was run.
-fn shape_of<'a>(rested: &Rested<'a>) -> &'a Shape
-    ensures value { result.now ≡ rested.now.1.now }
-    ensures formed { IsWellFormed result.now }
-{
-    let shape = rested.1;
-    shape.keeps_form();
-    shape
-}
-
-/// Writes the results.
-pub(crate) fn write_results<K: Sink>(
-    out: &mut Pieces,
-    sink: &mut K,
-    rested: &Rested,
-) -> Result<(), Failed>
-    requires empty { out.old ≡ [] }
-    requires resting { IsResting rested.now.1.now rested.now.0 }
-    ensures { EndsWith (K.outflow sink.old) (K.outflow sink.new) (result_text rested.now.1.now rested.now.0.inputs) result }
-{
-    let shape = shape_of(rested);
-    write_result(out, sink, shape, rested)
-}
-
-/// Writes the results. So many threads at most make the lines of long ones, the caller among them.
-fn write_results_by<R: Threads + Sync, K: Sink>(
-    rt: &R,
-    alloc: Global,
-    threads: u32,
-    out: &mut Pieces,
-    sink: &mut K,
-    rested: &Rested,
-) -> Result<(), Failed>
-    requires threads { 0 < threads }
-    requires empty { out.old ≡ [] }
-    requires resting { IsResting rested.now.1.now rested.now.0 }
-    ensures { EndsWith (K.outflow sink.old) (K.outflow sink.new) (result_text rested.now.1.now rested.now.0.inputs) result }
-{
-    let shape = shape_of(rested);
-    write_result_by(rt, alloc, threads, out, sink, shape, rested)
+    let ranks = world.schedule().ranks();
+    put_rows(out, sink, &OrderRows(world), ranks)
 }
 
 /// Writes the results and the order.
 pub(crate) fn write_ordered<K: Sink>(
     out: &mut Pieces,
     sink: &mut K,
-    rested: &Rested,
+    results: Results,
 ) -> Result<(), Failed>
     requires empty { out.old ≡ [] }
-    requires resting { IsResting rested.now.1.now rested.now.0 }
+    requires resting { IsResting results.shape.now results.world.now }
     ensures { EndsWith (K.outflow sink.old) (K.outflow sink.new)
-        (result_text rested.now.1.now rested.now.0.inputs ++ orders_of (Some rested.now.0)) result }
+        (result_text results.shape.now results.world.now.inputs ++ orders_of (Some results.world.now)) result }
 {
-    let shape = shape_of(rested);
-    put_result(out, sink, shape, rested)?;
-    put_orders(out, sink, &rested.0)?;
+    put_result(out, sink, &results)?;
+    put_orders(out, sink, results.world)?;
     out.end(sink)
 }
 
-/// Writes what a run by these workers owes. No call in it waits.
-pub(crate) fn write_run<R: Threads + Sync, K: Sink>(
-    rt: &R,
-    alloc: Global,
+/// Writes what a run by these workers owes. No call in it waits. As many threads at most make long lines, the caller among them.
+pub(crate) fn write_run<R: Threads + Sync, G, K: Sink>(
+    host: &Host<R, G>,
     out: &mut Pieces,
     sink: &mut K,
     crew: Crew,
-    rested: &Rested,
+    results: Results,
 ) -> Result<(), Failed>
     requires workers { HasWorkers (mode_of crew) }
     requires empty { out.old ≡ [] }
-    requires resting { IsResting rested.now.1.now rested.now.0 }
+    requires resting { IsResting results.shape.now results.world.now }
     ensures { EndsWith (K.outflow sink.old) (K.outflow sink.new)
-        (mode_text (mode_of crew) rested.now.1.now rested.now.0.inputs (Some rested.now.0)) result }
+        (mode_text (mode_of crew) results.shape.now results.world.now.inputs (Some results.world.now)) result }
 {
     match crew {
         Crew::Run { workers } | Crew::Steady { workers } => {
-            write_results_by(rt, alloc, workers, out, sink, rested)
+            write_result_by(host.rt, host.alloc, workers, out, sink, &results)
         }
-        Crew::Trace { .. } => write_ordered(out, sink, rested),
+        Crew::Trace { .. } => write_ordered(out, sink, results),
     }
 }
 
@@ -199,19 +121,18 @@ pub(crate) fn write_sums<K: Sink>(
     out: &mut Pieces,
     sink: &mut K,
     number: u32,
-    rested: &Rested,
+    results: Results,
 ) -> Result<(), Failed>
     requires empty { out.old ≡ [] }
-    requires shape { rested.now.1.now ≡ (generated number).shape }
-    requires inputs { rested.now.0.inputs ≡ (generated number).inputs }
-    requires resting { IsResting rested.now.1.now rested.now.0 }
+    requires shape { results.shape.now ≡ (generated number).shape }
+    requires inputs { results.world.now.inputs ≡ (generated number).inputs }
+    requires resting { IsResting results.shape.now results.world.now }
     ensures { EndsWith (K.outflow sink.old) (K.outflow sink.new) (summary_text number) result }
 {
-    let shape = shape_of(rested);
-    let plan = rested.0.schedule().plan();
+    let plan = results.world.schedule().plan();
     let cells = plan.cells().len() as u64;
     let links = plan.links().len() as u64;
-    write_summary(out, sink, number, cells, links, shape, rested)
+    write_summary(out, sink, number, cells, links, &results)
 }
 
 /// The status of what was written.

@@ -2,7 +2,7 @@
 
 use crate::runs::words_of;
 use port_io::{IoTurns, MemorySink, Sink, Source, SureSink, SureSource};
-use portals_top::{Ran, Status, run_with_gate};
+use portals_top::{Host, Ran, Status, run_with_gate};
 use ptl_types::Bytes;
 use rank_threads::Gate;
 use std::alloc::Global;
@@ -58,7 +58,8 @@ fn run_words<S: Source, K: Sink, G: Gate>(
     let mut ran = Ran::new();
     // A sink without room: standard error that fails changes nothing.
     let mut notes = MemorySink::new(alloc, IoTurns::new(alloc));
-    let status = run_with_gate(rt, alloc, words, source, sink, &mut notes, gate, &mut ran);
+    let host = Host { rt, alloc, gate };
+    let status = run_with_gate(&host, words, source, sink, &mut notes, &mut ran);
     left_by(status, &ran)
 }
 

@@ -2,7 +2,7 @@
 
 use crate::comparing::{same, same_bytes};
 use port_io::{Failed, IoTurns, MemorySink, Sink, Source, SureSink, SureSource};
-use portals_top::{Ran, Status, portals_main};
+use portals_top::{Host, Ran, Status, portals_main};
 use ptl_types::Bytes;
 use std::alloc::{AllocError, Global};
 use std::fmt::Display;
@@ -58,7 +58,8 @@ fn run_words<S: Source, K: Sink, N: Sink>(
     notes: &mut N,
 ) -> Left {
     let mut ran = Ran::new();
-    let status = portals_main(rt, alloc, words, source, sink, notes, &mut ran);
+    let host = Host::new(rt, alloc);
+    let status = portals_main(&host, words, source, sink, notes, &mut ran);
     left_by(status, &ran)
 }
 

@@ -1,18 +1,27 @@
 use Rattle.std.proofs.Common.{None}
 use Rattle.portals_top.specs.declared.words.Command.TheVariants.{Plan}
-use Rattle.portals_top.proofs.Judging.{judged-compiled, judged-refused}
+use Rattle.portals_top.proofs.Judging.{judged-compiled, judged-no_memory, judged-refused, judged-verdict}
 use Rattle.portals_top.proofs.checking.compiled.Goals as goal
 
-pub returns-in-Ok : goal.returns-in-Ok
-returns-in-Ok g c =
+pub returns-in-Ok-verdict_on : goal.returns-in-Ok-verdict_on
+returns-in-Ok-verdict_on g c =
     record {
       judged = rw (← c.into_parts-shape.ensures.shape, ← c.into_parts-shape.ensures.inputs)
-          (judged-compiled _ _ c.args.orders.now _ _ _ _ c.in-Ok.ensures.0 c.judge.ensures.judged);
-      told = c.judge.ensures.told;
+          (judged-compiled _ _ c.args.orders.now _ _ _ _ c.in-Ok.ensures.0
+          (judged-verdict _ _ c.args.orders.now _ _ _ _ c.in-Ok-verdict_on.ensures c.answer_verdict.ensures.written));
+      told = c.answer_verdict.ensures.told;
     }
 
-pub returns : goal.returns
-returns g c =
+pub returns-in-Err : goal.returns-in-Err
+returns-in-Err g c =
+    record {
+      judged = rw (← c.into_parts-shape.ensures.shape, ← c.into_parts-shape.ensures.inputs)
+          (judged-compiled _ _ c.args.orders.now _ _ _ _ c.in-Ok.ensures.0 (judged-no_memory _ _ c.args.orders.now _));
+      told = tt;
+    }
+
+pub returns-in-Err-compile : goal.returns-in-Err-compile
+returns-in-Err-compile g c =
     record {
       judged = rw (← c.into_parts-shape.ensures.shape, ← c.into_parts-shape.ensures.inputs)
           (judged-refused _ _ c.args.orders.now _ Plan c.args.d.inputs None _ _ _

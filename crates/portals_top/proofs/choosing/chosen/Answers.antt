@@ -2,7 +2,7 @@ use Rattle.portals_top.proofs.Answering.{no-world-refused}
 use Rattle.portals_top.proofs.choosing.chosen.Goals as goal
 
 pub returns-in-Execute : goal.returns-in-Execute
-returns-in-Execute g c = rw (c.in-Execute.is, ← c.ranks.ensures.value) (record {
+returns-in-Execute g c = rw c.in-Execute.is (record {
   written = c.in_mode.ensures.written;
   world = c.in_mode.ensures.world;
   told = c.in_mode.ensures.told;

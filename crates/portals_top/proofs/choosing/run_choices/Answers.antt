@@ -8,7 +8,7 @@ returns c =
     record {
       ranks = later.ranks ∙ opened.ranks;
       kinds = later.kinds ∙ opened.steps;
-      standing = c.enabled.ensures.kept;
+      standing = c.recall_standing.ensures;
       none = c.run_to_rest.ensures.none;
       decided = c.run_to_rest.ensures.decided;
     }

@@ -21,12 +21,12 @@ returns c =
       record {
         ranks = later.ranks ∙ opened.ranks;
         kinds = later.kinds ∙ opened.steps;
-        standing = c.enabled.ensures.kept;
+        standing = c.recall_standing.ensures;
         none = c.run_chosen.ensures.none;
         decided = c.run_chosen.ensures.decided;
       },
       c.choices_by_words.ensures w (word seed) (after_words seed) chosen_number words_left run.0 (scene_in w) c.run_chosen.new.chooser
-          c.enabled.ensures.kept (λ i m. refl) (λ i m. refl)
+          c.recall_standing.ensures (λ i m. refl) (λ i m. refl)
           (subst
           (λ (k : System). chosen_run k top chosen_number words_left run.0 (record { scene = first_scene; chooser = generator seed })
           ≡ last)

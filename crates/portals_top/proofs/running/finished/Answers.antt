@@ -10,9 +10,9 @@ use Rattle.portals_top.proofs.running.finished.Goals as goal
 pub returns-clause-run : goal.returns-clause-run
 returns-clause-run c =
     let later = c.run_to_rest.ensures.later in
-    let job = c.job.ensures in
+    let job = c.recall_job.ensures in
     run-of c.run_to_rest.new.self c.args.job.now.shape c.args.job.now.inputs job.formed job.accepted job.inputs
-    (later.schedule ∙ c.requires.schedule) (later.inputs ∙ c.requires.inputs) c.enabled.ensures.kept
+    (later.schedule ∙ c.requires.schedule) (later.inputs ∙ c.requires.inputs) c.recall_standing.ensures
     (later.spare ∙ c.requires.own) c.run_to_rest.ensures.none c.run_to_rest.ensures.rest c.run_to_rest.ensures.complete
     c.run_to_rest.ensures.values
 

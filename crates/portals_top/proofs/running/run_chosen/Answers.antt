@@ -18,7 +18,7 @@ returns c =
     let opened = c.in_ok-world.ensures in (
       run-of w c.args.job.now.shape c.args.job.now.inputs c.job.ensures.formed c.job.ensures.accepted c.job.ensures.inputs
           (later.schedule ∙ (opened.schedule ∙ ap (λ (j : JobOf). j.schedule) c.job.ensures.value))
-          (later.inputs ∙ (opened.inputs ∙ ap (λ (j : JobOf). j.inputs) c.job.ensures.value)) c.enabled.ensures.kept
+          (later.inputs ∙ (opened.inputs ∙ ap (λ (j : JobOf). j.inputs) c.job.ensures.value)) c.recall_standing.ensures
           (later.spare ∙ opened.spare) c.run_chosen.ensures.none c.run_chosen.ensures.rest c.run_chosen.ensures.complete
           c.run_chosen.ensures.values,
       (
@@ -32,7 +32,7 @@ returns c =
         λ slots agree.
             let run = c.run_chosen.ensures.chosen slots agree in
             c.runs_by_words.ensures w slots (word c.args.seed) (after_words c.args.seed) chosen_number words_left run.0 (scene_in w) _
-            c.enabled.ensures.kept agree (later.window ∙ opened.window) (λ i m. refl) (λ i m. refl)
+            c.recall_standing.ensures agree (later.window ∙ opened.window) (λ i m. refl) (λ i m. refl)
             (moved c.args.seed _ w _ _ slots run.0 later opened.scene c.of-words.ensures run.1) (c.run_chosen.ensures.none slots agree),
       ),
     )

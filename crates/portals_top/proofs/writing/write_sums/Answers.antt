@@ -8,7 +8,6 @@ returns g c =
       c.plan-plan.ensures.value,
       c.schedule.ensures,
       c.requires.resting.of_shape.schedule,
-      c.shape_of-shape.ensures.value,
       c.requires.shape,
       c.requires.inputs,
     ) at c.write_summary.ensures.ends

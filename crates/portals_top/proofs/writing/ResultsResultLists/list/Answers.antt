@@ -4,22 +4,22 @@ use Rattle.cuts.specs.cells.Cells.{result_in}
 use Rattle.schedule_compiler.specs.Schedules.{ScheduleOf}
 use Rattle.shape_plans.proofs.Final.{fine-shape}
 use Rattle.worlds.specs.World.{memory_in}
-use Rattle.portals_top.proofs.writing.RestedResultLists.list.Goals as goal
+use Rattle.portals_top.proofs.writing.ResultsResultLists.list.Goals as goal
 
 pub result-requires : goal.result-requires
 result-requires c =
-    let is = c.requires.0.of_shape in
-    let fine = fine-shape c.args.self.now.1.now is.formed in record {
+    let is = c.requires.gives.of_shape in
+    let fine = fine-shape c.args.self.now.shape.now is.formed in record {
       buffer = subst (λ (s : ScheduleOf). c.args.buffer < s.held.buffers) (sym is.schedule)
-          (subst (λ n. c.args.buffer < n) (sym fine.held_buffers) c.requires.1);
+          (subst (λ n. c.args.buffer < n) (sym fine.held_buffers) c.requires.buffer);
       rank = subst (λ (s : ScheduleOf). c.args.rank < s.plan.ranks) (sym is.schedule)
-          (subst (λ n. c.args.rank < n) (sym fine.ranks) c.requires.2);
+          (subst (λ n. c.args.rank < n) (sym fine.ranks) c.requires.rank);
     }
 
 pub returns : goal.returns
 returns c =
-    let is = c.requires.0 in
-    let w = c.args.self.now.0 in
+    let is = c.requires.gives in
+    let w = c.args.self.now.world.now in
     c.result.ensures
     ∙ ap (λ (s : ScheduleOf). result_in s.plan s.held c.args.buffer c.args.rank (memory_in w c.args.rank)) is.of_shape.schedule
-    ∙ is.meant c.args.buffer c.args.rank c.requires.1 c.requires.2
+    ∙ is.meant c.args.buffer c.args.rank c.requires.buffer c.requires.rank
