@@ -38,7 +38,7 @@ impl<'a> Rows for RankRows<'a> {
     ghost has = { λ rows r. (length rows.world.now.kinds ≡ length rows.choices.now.steps)
         × (rows.step < length rows.choices.now.steps) × (r < rows.world.now.ranks) };
 
-    ghost row = { λ rows r. value_line (chosen_name rows.choices.now rows.step) r (value_in rows.world.now rows.step r) };
+    ghost line = { λ rows r. value_line (chosen_name rows.choices.now rows.step) r (value_in rows.world.now rows.step r) };
 
     fn put<K: Sink>(&self, out: &mut Pieces, sink: &mut K, number: u32) -> Result<(), Failed> {
         let name = name_of(&self.choices.steps()[self.step as usize]);
@@ -60,7 +60,7 @@ impl<'a> Rows for StepRows<'a> {
     ghost has = { λ rows step. (length rows.world.now.kinds ≡ length rows.choices.now.steps)
         × (step < length rows.choices.now.steps) };
 
-    ghost row = { λ rows. step_lines rows.choices.now rows.world.now };
+    ghost line = { λ rows. step_lines rows.choices.now rows.world.now };
 
     fn put<K: Sink>(&self, out: &mut Pieces, sink: &mut K, number: u32) -> Result<(), Failed> {
         let ranks = self.world.ranks();
@@ -84,7 +84,7 @@ impl<'a> Rows for OrderRows<'a> {
 
     ghost has = { λ rows r. r < rows.0.now.ranks };
 
-    ghost row = { λ rows r. order_line r (choice_steps rows.0.now r) };
+    ghost line = { λ rows r. order_line r (choice_steps rows.0.now r) };
 
     fn put<K: Sink>(&self, out: &mut Pieces, sink: &mut K, number: u32) -> Result<(), Failed> {
         order_line(out, sink, number, self.0.history(number))

@@ -63,7 +63,7 @@ impl<'a> Rows for OrderRows<'a> {
 
     ghost has = { λ rows r. r < rows.0.now.schedule.plan.ranks };
 
-    ghost row = { λ rows r. order_line r (map listed (histories_in rows.0.now r)) };
+    ghost line = { λ rows r. order_line r (map listed (histories_in rows.0.now r)) };
 
     fn put<K: Sink>(&self, out: &mut Pieces, sink: &mut K, number: u32) -> Result<(), Failed> {
         order_line(out, sink, number, self.0.history(number))

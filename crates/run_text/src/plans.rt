@@ -181,7 +181,7 @@ impl<'a> Rows for CellRows<'a> {
 
     ghost has = { λ rows number. number < length rows.0.now.cells };
 
-    ghost row = { λ rows. cell_line_of rows.0.now };
+    ghost line = { λ rows. cell_line_of rows.0.now };
 
     fn put<K: Sink>(&self, out: &mut Pieces, sink: &mut K, number: u32) -> Result<(), Failed> {
         cell_line(out, sink, number, &self.0.cells()[number as usize])
@@ -198,7 +198,7 @@ impl<'a> Rows for LinkRows<'a> {
 
     ghost has = { λ rows number. number < length rows.0.now.links };
 
-    ghost row = { λ rows. link_line_of rows.0.now };
+    ghost line = { λ rows. link_line_of rows.0.now };
 
     fn put<K: Sink>(&self, out: &mut Pieces, sink: &mut K, number: u32) -> Result<(), Failed> {
         link_line(out, sink, number, &self.0.links()[number as usize])
@@ -220,14 +220,12 @@ impl<'a, T: PlanTables> Rows for DoneRows<'a, T> {
 
     ghost has = { λ rows r. r < (T.drawn rows.0.now).ranks };
 
-    ghost row = { λ rows. done_line_of (T.drawn rows.0.now) };
+    ghost line = { λ rows. done_line_of (T.drawn rows.0.now) };
 
     fn put<K: Sink>(&self, out: &mut Pieces, sink: &mut K, number: u32) -> Result<(), Failed> {
-        let line = PlanLine::DoneLine {
-            rank: number,
-            threshold: self.0.done(number),
-        };
-        plan_line(out, sink, &line)
+        let rank = number;
+        let threshold = self.0.done(rank);
+        plan_line(out, sink, &PlanLine::DoneLine { rank, threshold })
     }
 }
 

@@ -13,13 +13,13 @@ pub trait Rows {
     /// Whether a number has a row.
     ghost has: { Self → ℕ → Type 0 };
 
-    /// The row of a number.
-    ghost row: { Self → ℕ → List ℕ };
+    /// The line of a number.
+    ghost line: { Self → ℕ → List ℕ };
 
     /// Adds the row of a number. At `Failed` the count of the sink's faults rose, and a beginning of the text stands. It takes no memory.
     fn put<K: Sink>(&self, out: &mut Pieces, sink: &mut K, number: u32) -> Result<(), Failed>
         requires { has self.now number }
-        ensures { Puts (K.outflow sink.old) (K.outflow sink.new) out.old out.new (row self.now number) result };
+        ensures { Puts (K.outflow sink.old) (K.outflow sink.new) out.old out.new (line self.now number) result };
 }
 
 /// Adds the rows of the first n numbers. At `Failed` the count of the sink's faults rose, and a beginning of the text stands. It takes
@@ -31,7 +31,7 @@ pub fn put_rows<K: Sink, R: Rows>(
     n: u32,
 ) -> Result<(), Failed>
     requires { (i : ℕ) → i < n → R.has rows.now i }
-    ensures { Puts (K.outflow sink.old) (K.outflow sink.new) out.old out.new (flat_map (R.row rows.now) (from_to 0 n)) result }
+    ensures { Puts (K.outflow sink.old) (K.outflow sink.new) out.old out.new (flat_map (R.line rows.now) (from_to 0 n)) result }
 {
     for number in 0..n {
         rows.put(out, sink, number)?;
@@ -48,7 +48,7 @@ pub fn put_listed<K: Sink, R: Rows>(
     numbers: &[u32],
 ) -> Result<(), Failed>
     requires { (i : ℕ) → i < length numbers.now → R.has rows.now (get_or numbers.now i 0) }
-    ensures { Puts (K.outflow sink.old) (K.outflow sink.new) out.old out.new (flat_map (R.row rows.now) numbers.now) result }
+    ensures { Puts (K.outflow sink.old) (K.outflow sink.new) out.old out.new (flat_map (R.line rows.now) numbers.now) result }
 {
     for number in numbers {
         rows.put(out, sink, *number)?;

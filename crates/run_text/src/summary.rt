@@ -98,7 +98,7 @@ impl<'a, H: ResultLists> Rows for SumRows<'a, H> {
 
     ghost has = { λ rows buffer. H.can_give rows.0.now × (buffer < length (H.outline rows.0.now).buffers) };
 
-    ghost row = { λ rows. sum_line_at (H.outline rows.0.now) (H.lists rows.0.now) };
+    ghost line = { λ rows. sum_line_at (H.outline rows.0.now) (H.lists rows.0.now) };
 
     fn put<K: Sink>(&self, out: &mut Pieces, sink: &mut K, number: u32) -> Result<(), Failed> {
         let sum = buffer_sum(self.0, number);

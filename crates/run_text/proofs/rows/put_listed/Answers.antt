@@ -6,7 +6,7 @@ use Rattle.run_text.proofs.rows.put_listed.Goals as goal
 
 pub returns-in_err-put : goal.returns-in_err-put
 returns-in_err-put g c =
-    let f = g.R.Rows.row c.args.rows.now in
+    let f = g.R.Rows.line c.args.rows.now in
     let numbers = c.args.numbers.now in
     let i = c.loop-number.number-index in
     let old = g.K.Sink.outflow c.args.sink.now in
@@ -21,7 +21,7 @@ returns-in_err-put g c =
 
 pub loop-number-preserved : goal.loop-number-preserved
 loop-number-preserved g c =
-    let f = g.R.Rows.row c.args.rows.now in
+    let f = g.R.Rows.line c.args.rows.now in
     let numbers = c.args.numbers.now in
     let i = c.loop-number.number-index in
     let old = g.K.Sink.outflow c.args.sink.now in
