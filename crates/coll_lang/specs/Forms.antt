@@ -3,7 +3,6 @@ use Rattle.std.specs.Prelude.{ℕ, List, [], ◌∷◌, Option, Some, None, Bool
 use Rattle.std.specs.Prelude.{option_map}
 use Rattle.std.specs.List.{list_any}
 use Rattle.std.specs.Str.{bytes_eq}
-use Rattle.coll_text.specs.Kinds.{op_named, type_named}
 use Rattle.coll_text.specs.Text.{is_name, is_empty}
 use Rattle.coll_text.specs.Named.{op_named, type_named}
 use Rattle.ptl_types.specs.declared.elements.ElemType.{ElemType}

@@ -1,7 +1,6 @@
 pub mod Text
 pub mod Cuts
 pub mod Elements
-pub mod Kinds
 pub mod Values
 pub mod Answers
 pub mod Named

@@ -3,7 +3,7 @@ use Rattle.std.specs.Prelude.{ℕ, ◌&&◌, List, [], ◌∷◌, Option, Some, 
 use Rattle.std.specs.Prelude.{option_and_then, option_map, if◌then◌else◌, codes}
 use Rattle.std.specs.Str.{bytes_eq}
 use Rattle.ptl_types.specs.declared.elements.AtomicOp.{AtomicOp}
-use Rattle.coll_text.specs.Text.{number_between, number_of}
+use Rattle.coll_text.specs.Text.{number_between}
 use Rattle.coll_text.specs.Named.{op_named, type_named}
 use Rattle.coll_shape.specs.declared.types.Buffer.{Buffer}
 use Rattle.coll_lang.specs.Forms.{◌>>=◌}

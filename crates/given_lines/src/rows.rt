@@ -7,8 +7,8 @@ ghost use Rattle.given_lines.specs.Words.{cell_in, cell_of, cell_with, done_in, 
 
 use crate::fault::{GivenFault, GivenRefusal};
 use crate::lines::Lines;
-use crate::words::{cell_op_of, headed, kind_of, long_of, short_of};
-use coll_text::{Words, type_named};
+use crate::words::{cell_op_of, headed, kind_of, short_of};
+use coll_text::{Words, long_number, type_named};
 use plan_core::{Cell, Link};
 use std::alloc::Global;
 

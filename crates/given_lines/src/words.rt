@@ -1,21 +1,11 @@
 //! The words of a line of a given plan.
 
 ghost use Rattle.std.specs.Prelude.{◌≡◌};
-ghost use Rattle.given_lines.specs.Words.{cell_op_of, headed, kind_of, long_of, remote_of, short_of};
+ghost use Rattle.given_lines.specs.Words.{cell_op_of, headed, kind_of, remote_of, short_of};
 
-use coll_text::{Number, Words, is, number_at, number_between, op_named};
+use coll_text::{Words, is, number_between, op_named};
 use plan_core::LinkKind;
 use ptl_types::AtomicOp;
-
-/// A number below 2^64.
-pub(crate) fn long_of(word: &[u8]) -> Option<u64>
-    ensures { result ≡ long_of word.now }
-{
-    match number_at(word) {
-        Number::Small(n) => Some(n),
-        _ => None,
-    }
-}
 
 /// A number below 2^32.
 pub(crate) fn short_of(word: &[u8]) -> Option<u32>
