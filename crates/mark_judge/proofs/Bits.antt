@@ -1,0 +1,147 @@
+-- Words of bits: which entries lie in a cell, and which lead to it.
+use Rattle.std.proofs.Common.{ℕ, zero, suc, Bool, true, false, not, ◌&&◌, ◌||◌, ◌≡◌, ◌≢◌, ◌+◌, ◌-◌, ◌*◌, ◌/◌, ◌%◌, ◌^◌, ◌<◌, ◌≤◌, ◌==◌, List}
+use Rattle.std.proofs.Common.{◌⊎◌, [], ◌∷◌, ◌++◌, refl, ap, ap₂, ◌∙◌, sym, length, get_or, set, replicate, ltb, max, map, inl, inr, arith}
+use Rattle.std.specs.Int.{bit_at, w64}
+use Rattle.std.specs.Int.RustNames.{bit_or}
+use Rattle.std.specs.List.{list_any}
+use Rattle.std.proofs.lemmas.Bool.{cases_eq, cases_lt, eq-eqb, le-ltb, lt-ltb, ne_eqb, or_left, or_right}
+use Rattle.std.proofs.lemmas.List.{get_or-replicate, get_or-set_other, get_or-set_same, get_or_append_left, get_or_past, get_or_push}
+use Rattle.std.proofs.lemmas.List.{length-replicate}
+use Rattle.std.proofs.lemmas.Nat.Bits.{bit_at-lt, bit_at-zero, bit_at_or, bit_at_set_other, bit_at_set_same}
+use Rattle.mark_judge.specs.declared.entries.Entry.{Entry}
+use Rattle.mark_judge.specs.Leading.{leads}
+use Rattle.mark_judge.specs.Tables.{AreBegun, AreReached, entry_at, has_bit}
+use Rattle.mark_judge.proofs.Chains.{Rising, from_below, leads_step}
+use Rattle.mark_judge.proofs.Tests.{and-false, and-true, any_same, or-false, or_assoc}
+use Rattle.plan_core.specs.Plan.{Plan, in_links, link}
+
+-- ---- bits of a word
+most_one : (x y : ℕ) → x < 2 → y < 2 → (max x y == 1) ≡ ((x == 1) || (y == 1))
+most_one x y h k =
+    elim (cases_eq x 1) [
+      | inl e ↦ eq-eqb (max x y) 1 (omega (arith, h, k, e)) ∙ sym (or_left (x == 1) (y == 1) (eq-eqb x 1 e))
+      | inr ne ↦ ap (λ v. v == 1) (let q : max x y ≡ y = omega (arith, h, k, ne) in q)
+          ∙ sym (ap (λ t. t || (y == 1)) (ne_eqb x 1 ne))
+    ]
+
+pub bits_joined : (a b j : ℕ) → has_bit (bit_or a b) j ≡ (has_bit a j || has_bit b j)
+bits_joined a b j = ap (λ v. v == 1) (bit_at_or a b j) ∙ most_one (bit_at a j) (bit_at b j) (bit_at-lt a j) (bit_at-lt b j)
+
+pub bits_with : (a k j : ℕ) → k < 64 → has_bit (bit_or a (1 * 2 ^ k % 2 ^ 64)) j ≡ (has_bit a j || (j == k))
+bits_with a k j h =
+    elim (cases_eq j k) [
+      | inl e ↦ ap (λ i. has_bit (bit_or a (1 * 2 ^ k % 2 ^ 64)) i) e
+          ∙ ap (λ v. v == 1) (bit_at_set_same w64 a k h)
+          ∙ sym (or_right (has_bit a j) (j == k) (eq-eqb j k e))
+      | inr ne ↦ ap (λ v. v == 1) (bit_at_set_other w64 a k h j ne)
+          ∙ sym (ap (λ t. has_bit a j || t) (ne_eqb j k ne) ∙ or-false (has_bit a j))
+    ]
+
+pub no_bit : (n c j : ℕ) → has_bit (get_or (replicate n 0) c 0) j ≡ false
+no_bit n c j =
+    ap (λ v. has_bit v j) zero_there ∙ ap (λ v. v == 1) (bit_at-zero j)
+  where
+    zero_there : get_or (replicate n 0) c 0 ≡ 0
+    zero_there =
+        elim (cases_lt c n) [
+          | inl h ↦ get_or-replicate n c 0 0 h
+          | inr h ↦ get_or_past (replicate n 0) c 0 (let e = length-replicate n 0 in omega (arith, e, h))
+        ]
+
+-- ---- which entries lie in a cell
+-- entry k is noted at its cell
+pub bits_begun : (words : List ℕ) (cell k v : ℕ) → cell < length words
+    → ((j : ℕ) → has_bit v j ≡ (has_bit (get_or words cell 0) j || (j == k))) → (c j : ℕ)
+    → has_bit (get_or (set words cell v) c 0) j ≡ (has_bit (get_or words c 0) j || ((j == k) && (cell == c)))
+bits_begun words cell k v h is c j =
+    elim (cases_eq c cell) [
+      | inl e ↦ ap (λ i. has_bit (get_or (set words cell v) i 0) j) e
+          ∙ ap (λ w. has_bit w j) (get_or-set_same words cell v 0 h)
+          ∙ is j
+          ∙ ap (λ i. has_bit (get_or words i 0) j || (j == k)) (sym e)
+          ∙ ap (λ t. has_bit (get_or words c 0) j || t) (sym (ap (λ t. (j == k) && t) (eq-eqb cell c (sym e)) ∙ and-true (j == k)))
+      | inr ne ↦ ap (λ w. has_bit w j) (get_or-set_other words cell c v 0 ne)
+          ∙ sym (ap (λ t. has_bit (get_or words c 0) j || t)
+          (ap (λ t. (j == k) && t) (ne_eqb cell c (λ q. ne (sym q))) ∙ and-false (j == k)) ∙ or-false (has_bit (get_or words c 0) j))
+    ]
+
+-- no cell has its number
+pub bits_kept : (words : List ℕ) (cell k : ℕ) → length words ≤ cell → (c j : ℕ) → c < length words
+    → has_bit (get_or words c 0) j ≡ (has_bit (get_or words c 0) j || ((j == k) && (cell == c)))
+bits_kept words cell k h c j low =
+    sym (ap (λ t. has_bit (get_or words c 0) j || t)
+    (ap (λ t. (j == k) && t) (ne_eqb cell c (λ q. absurd (omega (arith, h, low, q)))) ∙ and-false (j == k))
+    ∙ or-false (has_bit (get_or words c 0) j))
+
+-- the entries before place k are noted
+abbrev pub AreBegunTo : List Entry → ℕ → ℕ → List ℕ → Type 0
+AreBegunTo es cells k words =
+    (c j : ℕ) → c < cells → has_bit (get_or words c 0) j ≡ (ltb j k && ((entry_at es j).cell == c))
+
+begun_test : (es : List Entry) (c j k : ℕ)
+    → ((ltb j k && ((entry_at es j).cell == c)) || ((j == k) && ((entry_at es k).cell == c)))
+    ≡ (ltb j (k + 1) && ((entry_at es j).cell == c))
+begun_test es c j k =
+    elim (cases_eq j k) [
+      | inl e ↦ ap₂ (λ a b. (a && ((entry_at es j).cell == c)) || (b && ((entry_at es k).cell == c)))
+          (le-ltb j k (omega (arith, e))) (eq-eqb j k e)
+          ∙ ap (λ i. (entry_at es i).cell == c) (sym e)
+          ∙ sym (ap (λ a. a && ((entry_at es j).cell == c)) (lt-ltb j (k + 1) (omega (arith, e))))
+      | inr ne ↦ ap (λ b. (ltb j k && ((entry_at es j).cell == c)) || (b && ((entry_at es k).cell == c))) (ne_eqb j k ne)
+          ∙ or-false (ltb j k && ((entry_at es j).cell == c))
+          ∙ ap (λ a. a && ((entry_at es j).cell == c)) (same_order ne)
+    ]
+  where
+    same_order : (j ≡ k → ⊥) → ltb j k ≡ ltb j (k + 1)
+    same_order ne =
+        elim (cases_lt j k) [
+          | inl h ↦ lt-ltb j k h ∙ sym (lt-ltb j (k + 1) (omega (arith, h)))
+          | inr h ↦ le-ltb j k h ∙ sym (le-ltb j (k + 1) (omega (arith, h, ne)))
+        ]
+
+pub begun_more : (es : List Entry) (cells k : ℕ) (old new : List ℕ) → length old ≡ cells → AreBegunTo es cells k old
+    → ((c j : ℕ) → c < length old → has_bit (get_or new c 0) j ≡ (has_bit (get_or old c 0) j || ((j == k) && ((entry_at es k).cell == c))))
+    → AreBegunTo es cells (k + 1) new
+begun_more es cells k old new many before noted c j h =
+    noted c j (omega (arith, many, h))
+    ∙ ap (λ t. t || ((j == k) && ((entry_at es k).cell == c))) (before c j h)
+    ∙ begun_test es c j k
+
+-- all are
+pub begun_all : (es : List Entry) (cells k : ℕ) (words : List ℕ) → length es ≤ k → AreBegunTo es cells k words → AreBegun es cells words
+begun_all es cells k words all noted c j h low =
+    noted c j h ∙ ap (λ a. a && ((entry_at es j).cell == c)) (lt-ltb j k (omega (arith, all, low)))
+
+-- ---- which entries lead to a cell
+-- one link more
+pub gathered_more : (own : Bool) (before one : Bool) (word : Bool) (all : Bool) → word ≡ (own || before) → all ≡ (before || one)
+    → (word || one) ≡ (own || all)
+gathered_more own before one word all e f = ap (λ t. t || one) e ∙ or_assoc own before one ∙ ap (λ t. own || t) (sym f)
+
+-- the words of the cells below c tell which entries lead there
+abbrev pub AreReachedTo : Plan → List Entry → ℕ → List ℕ → Type 0
+AreReachedTo p es c words = (d k : ℕ) → d < c → k < length es → has_bit (get_or words d 0) k ≡ leads p (entry_at es k).cell d
+
+pub next_reached : (p : Plan) → Rising p → (es : List Entry) (c : ℕ) (words links : List ℕ) (own word : ℕ) → links ≡ in_links p c
+    → AreReachedTo p es c words → (k : ℕ) → k < length es → has_bit own k ≡ ((entry_at es k).cell == c)
+    → has_bit word k ≡ (has_bit own k || list_any (λ l. has_bit (get_or words (link p l).source 0) k) links)
+    → has_bit word k ≡ leads p (entry_at es k).cell c
+next_reached p up es c words links own word are before k h begun gathered =
+    gathered
+    ∙ ap₂ (λ a b. a || b) begun
+    (ap (λ ls. list_any (λ l. has_bit (get_or words (link p l).source 0) k) ls) are
+    ∙ any_same (λ l. has_bit (get_or words (link p l).source 0) k) (λ l. leads p (entry_at es k).cell (link p l).source) (in_links p c)
+    (λ l i. before (link p l).source k (from_below p up c l i) h))
+    ∙ sym (leads_step p up (entry_at es k).cell c)
+
+pub reached_more : (p : Plan) (es : List Entry) (c word : ℕ) (words : List ℕ) → length words ≡ c → AreReachedTo p es c words
+    → ((k : ℕ) → k < length es → has_bit word k ≡ leads p (entry_at es k).cell c) → AreReachedTo p es (c + 1) (words ++ word ∷ [])
+reached_more p es c word words many before here d k h low =
+    elim (cases_eq d c) [
+      | inl e ↦ ap (λ i. has_bit (get_or (words ++ word ∷ []) i 0) k) e
+          ∙ ap (λ w. has_bit w k) (get_or_push words word 0 c many)
+          ∙ here k low
+          ∙ ap (leads p (entry_at es k).cell) (sym e)
+      | inr ne ↦ ap (λ w. has_bit w k) (get_or_append_left words (word ∷ []) 0 d (omega (arith, many, h, ne)))
+          ∙ before d k (omega (arith, h, ne)) low
+    ]

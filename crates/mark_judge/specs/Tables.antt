@@ -1,0 +1,83 @@
+-- Tables of what was found so far.
+use Rattle.std.specs.Prelude.{ℕ, Bool, false, not, ◌≡◌, ◌<◌, ◌==◌, ◌&&◌, ◌+◌, ◌*◌, nat_lt, List, Option, Some, None, length, get_or}
+use Rattle.std.specs.Int.{bit_at}
+use Rattle.std.specs.List.{filter_map, list_any}
+use Rattle.number_lists.specs.Numbers.{from_to}
+use Rattle.coll_shape.specs.declared.limits.TheConstants.{MOST_BUFFERS, MOST_RANKS, MOST_STEPS}
+use Rattle.given_lines.specs.declared.given.Mark.{Mark}
+use Rattle.given_lines.specs.declared.given.Mark.TheVariants as marks
+use Rattle.mark_judge.specs.declared.flaw.Due.{Due}
+use Rattle.mark_judge.specs.declared.flaw.Due.TheVariants.{Result, Enter, Leave}
+use Rattle.mark_judge.specs.declared.entries.Entry.{Entry}
+use Rattle.mark_judge.specs.Due.{is_named}
+use Rattle.mark_judge.specs.Leading.{leads}
+use Rattle.plan_core.specs.Plan.{Plan}
+
+-- ---- what has a line
+-- within the limits of descriptions
+abbrev pub is_small : Due → Bool
+is_small (Result b r) = nat_lt b MOST_BUFFERS && nat_lt r MOST_RANKS
+is_small (Enter s r) = nat_lt s MOST_STEPS && nat_lt r MOST_RANKS
+is_small (Leave s r) = nat_lt s MOST_STEPS && nat_lt r MOST_RANKS
+
+-- a place for each: of results, of where barriers are entered, and of where they are left
+abbrev pub place_of : Due → ℕ
+place_of (Result b r) = b * MOST_RANKS + r
+place_of (Enter s r) = (MOST_BUFFERS + s) * MOST_RANKS + r
+place_of (Leave s r) = (MOST_BUFFERS + MOST_STEPS + s) * MOST_RANKS + r
+
+abbrev pub places : ℕ
+places = (MOST_BUFFERS + MOST_STEPS + MOST_STEPS) * MOST_RANKS
+
+abbrev pub has : List Bool → Due → Bool
+has named d = is_small d && get_or named (place_of d) false
+
+-- the table tells which of them these lines are for
+abbrev pub AreNamed : List Mark → List Bool → Type 0
+AreNamed ms named = (d : Due) → has named d ≡ is_named ms d
+
+-- ---- where barriers are entered
+abbrev pub no_entry : Entry
+no_entry = record { step = 0; cell = 0 }
+
+abbrev pub entry_at : List Entry → ℕ → Entry
+entry_at es k = get_or es k no_entry
+
+-- that of a line
+abbrev pub entry_of : Mark → Option Entry
+entry_of (marks.Enter s r c) = Some (record { step = s; cell = c })
+entry_of _ = None
+
+-- of these lines, in order
+abbrev pub entries_in : List Mark → List Entry
+entries_in ms = filter_map entry_of ms
+
+-- ---- a bit for each of up to 64 entries
+abbrev pub has_bit : ℕ → ℕ → Bool
+has_bit word k = bit_at word k == 1
+
+-- which of these entries lead to each cell
+abbrev pub AreReached : Plan → List Entry → List ℕ → Type 0
+AreReached p es words = (c k : ℕ) → c < length p.cells → k < length es → has_bit (get_or words c 0) k ≡ leads p (entry_at es k).cell c
+
+-- which of them lie in each cell
+abbrev pub AreBegun : List Entry → ℕ → List ℕ → Type 0
+AreBegun es cells words = (c k : ℕ) → c < cells → k < length es → has_bit (get_or words c 0) k ≡ ((entry_at es k).cell == c)
+
+-- entry k is one into step s and has no bit in this word
+abbrev pub does_lack : ℕ → List Entry → ℕ → ℕ → Bool
+does_lack word es s k = ((entry_at es k).step == s) && not (has_bit word k)
+
+-- one of them is
+abbrev pub lacks_one : ℕ → List Entry → ℕ → Bool
+lacks_one word es s = list_any (does_lack word es s) (from_to 0 (length es))
+
+-- the line names where a rank leaves a step, and one of these entries into it doesn't lead there
+abbrev pub is_unmet : List ℕ → List Entry → Mark → Bool
+is_unmet words es (marks.Leave s r c) = lacks_one (get_or words c 0) es s
+is_unmet words es _ = false
+
+-- it names where a rank leaves a step, and this entry is one into it and doesn't lead there
+abbrev pub does_miss : Plan → Mark → Entry → Bool
+does_miss p (marks.Leave s r c) e = (e.step == s) && not (leads p e.cell c)
+does_miss p _ e = false

@@ -1,0 +1,31 @@
+//! Whether the lines after the links of a given plan are those that a description asks for: where done counters stand, the cells of
+//! results, and the cells where barriers are entered and left, which must hold them back; else the first line at fault.
+#![tactic(auto)]
+
+ghost use Rattle.std.specs.Prelude.{ℕ, List, ◌≡◌, ◌↔◌, None};
+ghost use Rattle.coll_shape.specs.Outline.{Outline};
+ghost use Rattle.given_lines.specs.declared.given.Mark.{Mark};
+ghost use Rattle.mark_judge.specs.Judged.{marks_judged};
+ghost use Rattle.mark_judge.specs.Marked.{AreMarked};
+ghost use Rattle.plan_core.specs.Plan.{Plan};
+ghost use Rattle.plan_core.specs.Sound.{SoundPlan};
+
+mod asked;
+mod barriers;
+mod done;
+mod entries;
+mod flaw;
+mod judging;
+mod lines;
+mod missing;
+mod named;
+mod reaching;
+
+pub use flaw::{Due, MarkFlaw, line_of};
+pub use judging::judge_marks;
+
+/// The lines after the links of a sound plan have no flaw exactly where they are those that the description asks for.
+pub fn no_mark_flaw()
+    ensures { (p : Plan) (o : Outline) (done : List ℕ) (marks : List Mark) → SoundPlan p o.inputs →
+        (marks_judged p o done marks ≡ None ↔ AreMarked p o done marks) }
+{}
