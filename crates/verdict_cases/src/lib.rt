@@ -1,0 +1,5 @@
+//! Logs with their verdicts, by hand.
+#![tactic(auto)]
+
+#[cfg(test)]
+mod verdicts;

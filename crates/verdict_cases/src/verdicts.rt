@@ -1,0 +1,139 @@
+//! Verdicts on small logs, worked out by hand from the grammar and the profile.
+
+use coll_text::cut;
+use log_verdict::{Judge, Verdict};
+use log_words::Flaw;
+use std::alloc::Global;
+use std::process::Abort;
+
+/// The verdict on a text.
+fn verdict(rt: &impl Abort, alloc: Global, text: &[u8]) -> Verdict {
+    let mut judge = Judge::new(alloc, false);
+    let mut rest = text;
+    loop {
+        let (line, Some(after)) = cut(rest, b'\n') else {
+            return judge.end(rest);
+        };
+        if let Some(verdict) = judge.take(line).expect(rt, "memory") {
+            return verdict;
+        }
+        rest = after;
+    }
+}
+
+/// The body behind the first two lines, with one open interface of four bytes.
+fn body(rt: &impl Abort, alloc: Global, lines: &[u8]) -> Verdict {
+    let mut text =
+        b"ni 1\nranks 2\n0 open entries=2 mds=1 cts=1 eqs=1 pts=1 triggered=1 msg=8 region=01020304 -> ok\n"
+            .to_vec(alloc)
+            .expect(rt, "memory");
+    text.extend_from_slice(lines).expect(rt, "memory");
+    verdict(rt, alloc, text.as_slice())
+}
+
+#[test]
+fn texts_that_are_no_logs(rt: HostRuntime) {
+    let cases: [(&[u8], u64, usize, Flaw); 9] = [
+        (b"", 1, 1, Flaw::Unended),
+        (b"ni 1", 1, 1, Flaw::Unended),
+        (b"ni 2\n", 1, 1, Flaw::BadHeader),
+        (b"ni 1\nranks 0\n", 2, 1, Flaw::BadHeader),
+        (b"ni 1\nranks 1\n", 3, 1, Flaw::Unended),
+        (b"ni 1\nranks 1\nend", 3, 1, Flaw::Unended),
+        (b"ni 1\nranks 1\nend\nend\n", 4, 1, Flaw::AfterEnd),
+        (b"ni 1\nranks 1\nend\n ", 4, 1, Flaw::AfterEnd),
+        (b"ni 1\nranks 1\n0 ct_alloc -> c0\n", 3, 1, Flaw::NotOpen),
+    ];
+    for (text, line, column, flaw) in cases {
+        match verdict(&rt, rt.alloc(), text) {
+            Verdict::Refused {
+                line: l,
+                column: c,
+                flaw: f,
+            } => {
+                assert_eq!(rt; (l, c), (line, column));
+                assert_eq!(rt; f, flaw);
+            }
+            _ => assert!(rt; false, "refused"),
+        }
+    }
+}
+
+#[test]
+fn lines_that_are_none(rt: HostRuntime) {
+    let cases: [(&[u8], usize, Flaw); 22] = [
+        (b"\n", 1, Flaw::BadSpace),
+        (b"0  ct_alloc -> c0\n", 3, Flaw::BadSpace),
+        (b"0 ct_alloc -> c0 \n", 18, Flaw::BadSpace),
+        (b"0 ct_\x07alloc  -> c0\n", 6, Flaw::BadByte),
+        (b"x ct_alloc -> c0\n", 1, Flaw::BadLine),
+        (b"0\n", 3, Flaw::BadLine),
+        (b"0 ct_make -> c0\n", 3, Flaw::BadCall),
+        (b"0 ct_get -> 0 0\n", 10, Flaw::BadLine),
+        (b"0 ct_get c0 c1 -> 0 0\n", 13, Flaw::BadLine),
+        (b"0 ct_get ? -> 0 0\n", 10, Flaw::BadWord),
+        (b"0 ct_get c=0 -> 0 0\n", 10, Flaw::BadWord),
+        (b"0 ct_set c0 01 0 -> ok\n", 13, Flaw::BadNumber),
+        (b"0 ct_set c0 0xG 0 -> ok\n", 13, Flaw::BadNumber),
+        (
+            b"0 ct_set c0 18446744073709551616 0 -> ok\n",
+            13,
+            Flaw::BadNumber,
+        ),
+        (b"0 md_bind length=4 length=4 -> d0\n", 20, Flaw::WordTwice),
+        (b"0 md_bind width=4 -> d0\n", 11, Flaw::BadWord),
+        (b"0 md_bind send=1 -> d0\n", 11, Flaw::BadWord),
+        (b"0 write 0 abc -> ok\n", 11, Flaw::BadHex),
+        (b"0 ct_alloc\n", 12, Flaw::NoAnswer),
+        (b"0 deliver w0 -> matched\n", 11, Flaw::UnknownMessage),
+        (b"lose w0\n", 6, Flaw::UnknownMessage),
+        (b"settle now\n", 8, Flaw::BadLine),
+    ];
+    for (text, column, flaw) in cases {
+        match body(&rt, rt.alloc(), text) {
+            Verdict::Refused {
+                line: l,
+                column: c,
+                flaw: f,
+            } => {
+                assert_eq!(rt; (l, c), (4, column));
+                assert_eq!(rt; f, flaw);
+            }
+            _ => assert!(rt; false, "refused"),
+        }
+    }
+}
+
+#[test]
+fn answers_that_differ(rt: HostRuntime) {
+    let cases: [(&[u8], usize, &[u8], &[u8]); 8] = [
+        (b"0 ct_get c0 -> 0 0\n", 16, b" 0 0", b" Stale"),
+        (b"0 pending -> 1\n", 14, b" 1", b" 0"),
+        (b"0 pending -> 0 0\n", 16, b" 0 0", b" 0"),
+        (b"0 pending -> x=0\n", 14, b" x=0", b" 0"),
+        (b"0 read 1 2 -> 0204\n", 15, b" 0204", b" 0203"),
+        (b"0 ct_alloc -> none\n", 15, b" none", b" HANDLE"),
+        (
+            b"0 me_append 0 priority -> linked m0\n",
+            27,
+            b" linked m0",
+            b" Stale",
+        ),
+        (b"0 fire t0 -> none\n", 14, b" none", b" NotReady"),
+    ];
+    for (text, column, said, owed) in cases {
+        match body(&rt, rt.alloc(), text) {
+            Verdict::Differs {
+                line: l,
+                column: c,
+                said: s,
+                owed: o,
+            } => {
+                assert_eq!(rt; (l, c), (4, column));
+                assert_eq!(rt; s.as_slice(), said);
+                assert_eq!(rt; o.as_slice(), owed);
+            }
+            _ => assert!(rt; false, "differs"),
+        }
+    }
+}
