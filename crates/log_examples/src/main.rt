@@ -1,4 +1,5 @@
-//! The directed logs, one for each rule of the profile, judged: each is named with its verdict.
+//! The directed logs, each of which turns on one rule of the profile, judged: each is named with its verdict. Those of wrong/ are of devices
+//! that break one rule.
 #![tactic(auto)]
 
 use log_top::log_main;
@@ -11,10 +12,10 @@ use std::{fs, io};
 /// How many bytes of a verdict are kept: more than any of these has.
 const ROOM: u64 = 65_536;
 
-/// The names of the files of the folder in which the program runs, sorted.
-fn names<R: Files + AllocGlobal + Clone + Drop>(rt: &R) -> io::Result<Vec<String>> {
+/// The names of the files of a folder, sorted.
+fn names<R: Files + AllocGlobal + Clone + Drop>(rt: &R, folder: &str) -> io::Result<Vec<String>> {
     let mut names = Vec::new(rt.alloc());
-    for entry in fs::read_dir(rt, ".")? {
+    for entry in fs::read_dir(rt, folder)? {
         let entry = entry?;
         names.push(String::from_str(rt.alloc(), entry.file_name())?)?;
     }
@@ -50,11 +51,26 @@ fn print_verdict(rt: &HostRuntime, name: &str) -> io::Result<()> {
     print!(rt; "{name}: {written}")
 }
 
-fn main(rt: HostRuntime) -> io::Result<()> {
-    for name in names(&rt)?.iter() {
+/// Judges the logs of the folder in which the program runs.
+fn judge_directed(rt: &HostRuntime) -> io::Result<()> {
+    for name in names(rt, ".")?.iter() {
         if name.as_str().ends_with(".log") {
-            print_verdict(&rt, name.as_str())?;
+            print_verdict(rt, name.as_str())?;
         }
     }
     Ok(())
+}
+
+/// Judges the logs of wrong devices.
+fn judge_wrong(rt: &HostRuntime) -> io::Result<()> {
+    for name in names(rt, "wrong")?.iter() {
+        let path = format!(in rt.alloc(); "wrong/{name}")?;
+        print_verdict(rt, path.as_str())?;
+    }
+    Ok(())
+}
+
+fn main(rt: HostRuntime) -> io::Result<()> {
+    judge_directed(&rt)?;
+    judge_wrong(&rt)
 }
