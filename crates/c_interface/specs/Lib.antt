@@ -1,0 +1,5 @@
+pub mod Calls
+pub mod Forms
+pub mod Messages
+pub mod Over
+pub mod Statuses
