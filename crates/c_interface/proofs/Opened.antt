@@ -1,6 +1,7 @@
 -- A call over an interface that was taken out of its handle and put back, from what the interface answered.
-use Rattle.std.proofs.Common.{ℕ, ◌≡◌, Option, Some, None, Result, subst, sym}
+use Rattle.std.proofs.Common.{ℕ, ◌≡◌, ◌∙◌, Bool, false, Option, Some, None, Result, ap, nat_lt, subst, sym}
 use Rattle.ni_model.specs.State.{State}
+use Rattle.c_interface.specs.Calls.{Roomy}
 use Rattle.c_interface.specs.Over.{Called, Named, Over, Tells, writes}
 use Rattle.c_interface.specs.Statuses.{status_by}
 
@@ -33,3 +34,17 @@ module _ {A Out : Type 0} (made : A → Type 0) (old new : Out) (before after : 
   -- where they name nothing
   pub is_nameless : o ≡ None → status ≡ 35 → new ≡ old → after ≡ before → Named made old new before after status o
   is_nameless e n w f = subst (λ (p : Option A). Named made old new before after status p) (sym e) (n, (w, f))
+
+-- an answer that is written out, of a call that wants room for the longest message
+pub roomy_called : {A E Out : Type 0} (long : ℕ) (made : State → State → Result A E → Type 0) (number : E → ℕ) (told : A → Out → Out)
+    (old new : Out) (before after : Option State) (status : ℕ) (s r t : State) (answer : Result A E) → s ≡ r → Some r ≡ before
+    → false ≡ nat_lt long r.limits.msg → after ≡ Some t → made s t answer → status ≡ status_by number answer
+    → new ≡ writes told answer old
+    → Over (λ x y. Roomy (nat_lt long x.limits.msg) old new x y status (Tells (made x y) number told old new status)) old new before after
+    status
+roomy_called long made number told old new before after status s r t answer e b room f m n w =
+    opened (λ (x y : State). Roomy (nat_lt long x.limits.msg) old new x y status (Tells (made x y) number told old new status))
+    old new before after status s t (ap Some e ∙ b) f
+    (subst (λ (d : Bool). Roomy d old new s t status (Tells (made s t) number told old new status))
+    (room ∙ ap (λ (x : State). nat_lt long x.limits.msg) (sym e))
+    (record { answer = answer; made_so = m; numbered = n; written = w }))

@@ -1,9 +1,10 @@
 //! The starts of operations (Portals 4.3, data movement operations). The message that a start makes is handed to the caller, to be
 //! carried to its target.
 
-ghost use Rattle.std.specs.Prelude.{◌≡◌, ◌<◌, nat_lt};
+ghost use Rattle.std.specs.Prelude.{List, ℕ, ◌≡◌, ◌<◌, nat_lt};
 ghost use Rattle.ptl_types.specs.declared.calls.TriggeredOp.TheVariants.{Put, Get, Atomic, FetchAtomic, Swap};
 ghost use Rattle.nic_handles.specs.Holding.{held};
+ghost use Rattle.c_interface.specs.declared.messages.CMessage.{CMessage as Head};
 ghost use Rattle.c_interface.specs.Calls.{Sends, fetches, get_args, put_args, sent_with, swaps};
 ghost use Rattle.c_interface.specs.Forms.{both_of, handle_of};
 ghost use Rattle.c_interface.specs.Messages.{ack_of, handed, operation_of, swap_of, three_of, type_of};
@@ -125,7 +126,7 @@ pub extern "C" fn PtlPut(
     head: &mut CMessage,
     out: &mut [u8],
 ) -> u32
-    ensures { Named (λ a. Sends (Put (put_args (handle_of md) local_offset length a target pt_index match_bits remote_offset hdr_data))
+    ensures { Named {Out = Head × List ℕ} (λ a. Sends (Put (put_args (handle_of md) local_offset length a target pt_index match_bits remote_offset hdr_data))
         (head.old, out.old) (head.new, out.new) (held ni.old) (held ni.new) result)
         (head.old, out.old) (head.new, out.new) (held ni.old) (held ni.new) result (ack_of ack_req) }
 {
@@ -237,7 +238,7 @@ pub extern "C" fn PtlAtomic(
     head: &mut CMessage,
     out: &mut [u8],
 ) -> u32
-    ensures { Named (λ x. Sends (Atomic (put_args (handle_of md) local_offset length x.0 target pt_index match_bits remote_offset
+    ensures { Named {Out = Head × List ℕ} (λ x. Sends (Atomic (put_args (handle_of md) local_offset length x.0 target pt_index match_bits remote_offset
         hdr_data) x.1 x.2)
         (head.old, out.old) (head.new, out.new) (held ni.old) (held ni.new) result)
         (head.old, out.old) (head.new, out.new) (held ni.old) (held ni.new) result
@@ -318,7 +319,7 @@ pub extern "C" fn PtlFetchAtomic(
     head: &mut CMessage,
     out: &mut [u8],
 ) -> u32
-    ensures { Named (λ x. Sends (fetches (get_args (handle_of get_md) local_get_offset length target pt_index match_bits remote_offset)
+    ensures { Named {Out = Head × List ℕ} (λ x. Sends (fetches (get_args (handle_of get_md) local_get_offset length target pt_index match_bits remote_offset)
         (handle_of put_md) local_put_offset hdr_data x.0 x.1) (head.old, out.old) (head.new, out.new) (held ni.old) (held ni.new) result)
         (head.old, out.old) (head.new, out.new) (held ni.old) (held ni.new) result (both_of (operation_of operation) (type_of datatype)) }
 {
@@ -401,7 +402,7 @@ pub extern "C" fn PtlSwap(
     head: &mut CMessage,
     out: &mut [u8],
 ) -> u32
-    ensures { Named (λ x. Sends (swaps (get_args (handle_of get_md) local_get_offset length target pt_index match_bits remote_offset)
+    ensures { Named {Out = Head × List ℕ} (λ x. Sends (swaps (get_args (handle_of get_md) local_get_offset length target pt_index match_bits remote_offset)
         (handle_of put_md) local_put_offset hdr_data x.0 x.1 operand) (head.old, out.old) (head.new, out.new) (held ni.old) (held ni.new)
         result)
         (head.old, out.old) (head.new, out.new) (held ni.old) (held ni.new) result (both_of (swap_of operation) (type_of datatype)) }
