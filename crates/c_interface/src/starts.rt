@@ -126,7 +126,8 @@ pub extern "C" fn PtlPut(
     head: &mut CMessage,
     out: &mut [u8],
 ) -> u32
-    ensures { Named {Out = Head × List ℕ} (λ a. Sends (Put (put_args (handle_of md) local_offset length a target pt_index match_bits remote_offset hdr_data))
+    ensures { Named {Out = Head × List ℕ} (λ a. Sends (Put (put_args (handle_of md) local_offset length a target pt_index match_bits
+        remote_offset hdr_data))
         (head.old, out.old) (head.new, out.new) (held ni.old) (held ni.new) result)
         (head.old, out.old) (head.new, out.new) (held ni.old) (held ni.new) result (ack_of ack_req) }
 {
@@ -238,7 +239,8 @@ pub extern "C" fn PtlAtomic(
     head: &mut CMessage,
     out: &mut [u8],
 ) -> u32
-    ensures { Named {Out = Head × List ℕ} (λ x. Sends (Atomic (put_args (handle_of md) local_offset length x.0 target pt_index match_bits remote_offset
+    ensures { Named {Out = Head × List ℕ} (λ x. Sends (Atomic (put_args (handle_of md) local_offset length x.0 target pt_index match_bits
+        remote_offset
         hdr_data) x.1 x.2)
         (head.old, out.old) (head.new, out.new) (held ni.old) (held ni.new) result)
         (head.old, out.old) (head.new, out.new) (held ni.old) (held ni.new) result
@@ -319,7 +321,8 @@ pub extern "C" fn PtlFetchAtomic(
     head: &mut CMessage,
     out: &mut [u8],
 ) -> u32
-    ensures { Named {Out = Head × List ℕ} (λ x. Sends (fetches (get_args (handle_of get_md) local_get_offset length target pt_index match_bits remote_offset)
+    ensures { Named {Out = Head × List ℕ} (λ x. Sends (fetches
+        (get_args (handle_of get_md) local_get_offset length target pt_index match_bits remote_offset)
         (handle_of put_md) local_put_offset hdr_data x.0 x.1) (head.old, out.old) (head.new, out.new) (held ni.old) (held ni.new) result)
         (head.old, out.old) (head.new, out.new) (held ni.old) (held ni.new) result (both_of (operation_of operation) (type_of datatype)) }
 {
@@ -402,7 +405,8 @@ pub extern "C" fn PtlSwap(
     head: &mut CMessage,
     out: &mut [u8],
 ) -> u32
-    ensures { Named {Out = Head × List ℕ} (λ x. Sends (swaps (get_args (handle_of get_md) local_get_offset length target pt_index match_bits remote_offset)
+    ensures { Named {Out = Head × List ℕ} (λ x. Sends (swaps
+        (get_args (handle_of get_md) local_get_offset length target pt_index match_bits remote_offset)
         (handle_of put_md) local_put_offset hdr_data x.0 x.1 operand) (head.old, out.old) (head.new, out.new) (held ni.old) (held ni.new)
         result)
         (head.old, out.old) (head.new, out.new) (held ni.old) (held ni.new) result (both_of (swap_of operation) (type_of datatype)) }

@@ -1,5 +1,5 @@
-//! The directed logs, each of which turns on one rule of the profile, judged: each is named with its verdict. Those of wrong/ are of devices
-//! that break one rule.
+//! The directed logs, each of which turns on one rule of the profile, judged: each is named with its verdict. Those of wrong/ are of
+//! devices that break one rule.
 #![tactic(auto)]
 
 use log_top::log_main;

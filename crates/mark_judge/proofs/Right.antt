@@ -1,5 +1,6 @@
 -- No line is at fault exactly where the lines are those that the description asks for.
-use Rattle.std.proofs.Common.{ℕ, zero, suc, Bool, true, false, cond, not, ◌&&◌, ◌≡◌, ◌+◌, ◌<◌, ◌≤◌, ◌==◌, List, Option, Some, None, refl, ap, ◌∙◌}
+use Rattle.std.proofs.Common.{ℕ, zero, suc, Bool, true, false, cond, not, ◌&&◌, ◌≡◌, ◌+◌, ◌<◌, ◌≤◌, ◌==◌, List, Option, Some, None, refl}
+use Rattle.std.proofs.Common.{ap, ◌∙◌}
 use Rattle.std.proofs.Common.{sym, subst, length, get_or, take, inl, inr, arith}
 use Rattle.std.specs.List.{list_any}
 use Rattle.std.specs.Option.{option_or}
@@ -19,7 +20,8 @@ use Rattle.mark_judge.specs.declared.flaw.Due.TheVariants.{Result, Enter, Leave}
 use Rattle.mark_judge.specs.declared.flaw.MarkFlaw.{MarkFlaw}
 use Rattle.mark_judge.specs.declared.flaw.MarkFlaw.TheVariants.{BadDone, BadResult, NoResult, BarrierOpen}
 use Rattle.mark_judge.specs.Due.{cell_of, does_fit, due_of, is_barrier_at, is_due, is_good, is_named, is_same, mark_at, no_mark}
-use Rattle.mark_judge.specs.Judged.{done_flaw, is_apart, is_open, line_flaw, marks_flaw, marks_judged, missing, missing_at, missing_barriers}
+use Rattle.mark_judge.specs.Judged.{done_flaw, is_apart, is_open, line_flaw, marks_flaw, marks_judged, missing, missing_at}
+use Rattle.mark_judge.specs.Judged.{missing_barriers}
 use Rattle.mark_judge.specs.Judged.{missing_member, missing_results, open_flaw}
 use Rattle.mark_judge.specs.Leading.{leads}
 use Rattle.mark_judge.specs.Marked.{AreMarked, DoesFit, IsDue, IsMember}
@@ -222,7 +224,8 @@ pub judged_right : (p : Plan) (o : Outline) (done : List ℕ) (ms : List Mark) �
 judged_right p o done ms up e =
     let k = from_judged p o done ms e in
     record {
-      done = λ r h. eqb-true (get_or done r 0) (done_threshold p r) (passed (get_or done r 0 == done_threshold p r) (BadDone r) (k.done r h));
+      done = λ r h. eqb-true (get_or done r 0) (done_threshold p r)
+          (passed (get_or done r 0 == done_threshold p r) (BadDone r) (k.done r h));
       due = λ i h. good_due p o (mark_at ms i) (line_good p o ms i (k.lines i h));
       fit = λ i h. good_fit p o (mark_at ms i) (line_good p o ms i (k.lines i h));
       once = λ i j lt h q. false≢true (sym (line_new p o ms j (k.lines j h)) ∙ earlier ms i j lt h q);

@@ -1,6 +1,7 @@
 //! Whether from each cell where a barrier is entered links lead to each where it is left.
 
-ghost use Rattle.std.specs.Prelude.{ℕ, ◌≡◌, ◌<◌, ◌≤◌, ◌+◌, ◌-◌, ◌^◌, ◌||◌, false, if◌then◌else◌, None, Some, true, IfOk, get_or, length, map, set};
+ghost use Rattle.std.specs.Prelude.{ℕ, ◌≡◌, ◌<◌, ◌≤◌, ◌+◌, ◌-◌, ◌^◌, ◌||◌, false, if◌then◌else◌, None, Some, true, IfOk, get_or, length};
+ghost use Rattle.std.specs.Prelude.{map, set};
 ghost use Rattle.std.specs.List.{list_any};
 ghost use Rattle.number_lists.specs.Numbers.{from_to};
 ghost use Rattle.mark_judge.specs.declared.flaw.MarkFlaw.TheVariants.{BarrierOpen};

@@ -50,7 +50,8 @@ fn next_word(
     requires cells { length begun.now ≡ length plan.now.cells }
     requires begun { AreBegun entries.now (length plan.now.cells) begun.now }
     requires place { length before.now ≡ c }
-    requires before { (d k : ℕ) → d < c → k < length entries.now → has_bit (get_or before.now d 0) k ≡ leads plan.now (entry_at entries.now k).cell d }
+    requires before { (d k : ℕ) → d < c → k < length entries.now → has_bit (get_or before.now d 0) k ≡ leads plan.now
+        (entry_at entries.now k).cell d }
     ensures { (k : ℕ) → k < length entries.now → has_bit result k ≡ leads plan.now (entry_at entries.now k).cell c }
 {
     gathered(before, plan, links_to(plan, into, c), begun[c as usize])

@@ -68,8 +68,11 @@ pub operation-cts-alone : (ct : Handle) (cts : Table Count) (ws : List (Operatio
 operation-cts-alone ct cts [] own all = All-nil (CtsAlone ct)
 operation-cts-alone ct cts (w ∷ ws) own all =
     let live = All-head (OperationIsLive cts) (posted action_in w) (map (posted action_in) ws) all in
-    All-cons (CtsAlone ct) w ws
-    (named-alone ct (Some w.ct) cts own live.0, named-alone ct (action_counter w.action.action) cts own (counter-live w.action.action cts live.1))
+    All-cons (CtsAlone ct) w ws (
+      named-alone ct (Some w.ct) cts own live.0,
+      named-alone ct (action_counter w.action.action) cts own
+          (counter-live w.action.action cts live.1),
+    )
     (operation-cts-alone ct cts ws own (All-tail (OperationIsLive cts) (posted action_in w) (map (posted action_in) ws) all))
 
 holds-live : (o : Option Bound) (at n : ℕ) → holds_part o at n ≡ true → is_some o ≡ true

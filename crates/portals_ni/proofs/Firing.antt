@@ -38,7 +38,8 @@ pub find-posted : (t : ℕ) (ws : List Op) → find (model.is_number t) (map (po
     (find (is_number t) ws)
 find-posted t [] = refl
 find-posted t (w ∷ ws) =
-    elim (w.number == t) as (λ b. (if b then Some (posted action_in w) else find (model.is_number t) (map (posted action_in) ws)) ≡ option_map
+    elim (w.number == t) as (λ b. (if b then Some (posted action_in w) else find (model.is_number t) (map (posted action_in) ws))
+    ≡ option_map
     (posted action_in) (if b then Some w else find (is_number t) ws)) [
       | true ↦ refl
       | false ↦ find-posted t ws
@@ -49,7 +50,8 @@ filter-posted : (p : Op → Bool) (q : Posted → Bool) (ws : List Op) → ((w :
 filter-posted p q [] same = refl
 filter-posted p q (w ∷ ws) same =
     rw (same w)
-    (elim (p w) as (λ b. (if b then posted action_in w ∷ filter q (map (posted action_in) ws) else filter q (map (posted action_in) ws)) ≡ map
+    (elim (p w) as (λ b. (if b then posted action_in w ∷ filter q (map (posted action_in) ws) else filter q (map (posted action_in) ws))
+    ≡ map
     (posted action_in) (if b then w ∷ filter p ws else filter p ws)) [
       | true ↦ ap (λ xs. posted action_in w ∷ xs) (filter-posted p q ws same)
       | false ↦ filter-posted p q ws same
@@ -120,13 +122,15 @@ taken t None a e = cc
 taken t (Some w) a e = let same : w.action ≡ a = cc in (w, refl, same)
 
 pub taken-armed : (t : ℕ) (ops : Ops) (a : PostedOp) (mds : Table Bound) (ranks : ℕ) (limits : Limits) →
-    option_map action_of (operation_at t ops) ≡ Some a → All (λ w. IsArmed mds ranks limits w.action) ops.waiting → IsArmed mds ranks limits a
+    option_map action_of (operation_at t ops) ≡ Some a → All (λ w. IsArmed mds ranks limits w.action) ops.waiting →
+    IsArmed mds ranks limits a
 taken-armed t ops a mds ranks limits e all =
     let w = taken t (operation_at t ops) a e in
     subst (IsArmed mds ranks limits) w.2 (find_has (λ (x : Op). IsArmed mds ranks limits x.action) (is_number t) ops.waiting w.0 all w.1)
 
 fired-at : (s : State) (t : ℕ) (ops : Ops) (a : PostedOp) (w : Op) → s.pending ≡ posted_all action_in ops → operation_at t ops ≡ Some w →
-    w.action ≡ a → fired_op s (model.posted_at t s.pending) ≡ done (record s { pending = posted_all action_in (without_number t ops) }) a.action
+    w.action ≡ a → fired_op s (model.posted_at t s.pending) ≡ done (record s { pending = posted_all action_in (without_number t ops) })
+    a.action
 fired-at s t ops a w is at same =
     let found : model.posted_at t s.pending ≡ Some (posted action_in w) = rw (is, find-posted t ops.waiting, at) refl in
     let number : w.number ≡ t = find-number t ops.waiting w at in
@@ -135,7 +139,8 @@ fired-at s t ops a w is at same =
     rw (found, rest, same) refl
 
 pub fired-is : (s : State) (t : ℕ) (ops : Ops) (a : PostedOp) → s.pending ≡ posted_all action_in ops →
-    option_map action_of (operation_at t ops) ≡ Some a → fired s t ≡ done (record s { pending = posted_all action_in (without_number t ops) })
+    option_map action_of (operation_at t ops) ≡ Some a → fired s t ≡ done
+    (record s { pending = posted_all action_in (without_number t ops) })
     a.action
 unfolding fired
 fired-is s t ops a is e =

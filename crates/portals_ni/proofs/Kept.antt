@@ -49,7 +49,8 @@ use Rattle.portals_ni.proofs.Firing.{post-told}
 pub still-armed : (old new : Table Bound) (ranks : ℕ) (limits : Limits) (ws : List (Operation PostedOp)) → HoldsOn skips_none old new →
     All (λ w. IsArmed old ranks limits w.action) ws → All (λ w. IsArmed new ranks limits w.action) ws
 still-armed old new ranks limits ws holds all =
-    All-weaker (λ (w : Operation PostedOp). IsArmed old ranks limits w.action) (λ (w : Operation PostedOp). IsArmed new ranks limits w.action)
+    All-weaker (λ (w : Operation PostedOp). IsArmed old ranks limits w.action)
+    (λ (w : Operation PostedOp). IsArmed new ranks limits w.action)
     (λ w is. record {
       fits = fits-on skips_none old new w.action.action holds (skips-none w.action.action) is.fits;
       may = is.may;

@@ -141,7 +141,8 @@ taken-op (Some w) b a h th e f =
     (w, refl, ap (λ (s : PostedOp × Handle × ℕ). s.1) same, action)
 
 pub used-gone : (ops : Operations PostedOp) (t : ℕ) (b a : PostedOp) (h : Handle) (th : ℕ) (cts mds : List ℕ) → AreUsed ops cts mds →
-    AllPairs Rises ops.waiting → option_map shown (operation_at t ops) ≡ Some (b, h, th) → option_map action_of (operation_at t ops) ≡ Some a
+    AllPairs Rises ops.waiting → option_map shown (operation_at t ops) ≡ Some (b, h, th) →
+    option_map action_of (operation_at t ops) ≡ Some a
     → AreUsed (without_number t ops) (cts_without h a.action cts) (mds_without a.action mds)
 used-gone ops t b a h th cts mds u all e f =
     let w = taken-op (operation_at t ops) b a h th e f in
@@ -295,7 +296,8 @@ ops-name-ct ct (w ∷ ws) all =
     omega (arith, sum_by-cons (ct_uses ct.slot) w ws) in
     ap (λ b. (same_handle w.ct ct || b) || rest) (counter-named ct w.action.action)
     ∙ or-both (same_handle w.ct ct) (names (action_counter w.action.action) ct) rest
-    ∙ names-step ct (Some w.ct) (names (action_counter w.action.action) ct || rest) (one_at (action_counter w.action.action) ct.slot + n) alone.0
+    ∙ names-step ct (Some w.ct) (names (action_counter w.action.action) ct || rest) (one_at (action_counter w.action.action) ct.slot + n)
+    alone.0
     (names-step ct (action_counter w.action.action) rest n alone.1 (ops-name-ct ct ws (All-tail (CtsAlone ct) w ws all)))
     ∙ ap (λ m. nat_lt 0 m) whole
 
@@ -306,11 +308,13 @@ ops-name-md md (w ∷ ws) all =
     let alone = All-head (MdsAlone md) w ws all in
     let rest : Bool = operation_names_md md (map (posted action_in) ws) in
     let n : ℕ = sum_by (md_uses md.slot) ws in
-    let whole : one_at (get_md w.action.action) md.slot + (one_at (put_md w.action.action) md.slot + n) ≡ sum_by (md_uses md.slot) (w ∷ ws) =
+    let whole : one_at (get_md w.action.action) md.slot + (one_at (put_md w.action.action) md.slot + n) ≡ sum_by (md_uses md.slot)
+    (w ∷ ws) =
     omega (arith, sum_by-cons (md_uses md.slot) w ws) in
     ap (λ b. b || rest) (mds-named md w.action.action)
     ∙ or-both (names (get_md w.action.action) md) (names (put_md w.action.action) md) rest
-    ∙ names-step md (get_md w.action.action) (names (put_md w.action.action) md || rest) (one_at (put_md w.action.action) md.slot + n) alone.0
+    ∙ names-step md (get_md w.action.action) (names (put_md w.action.action) md || rest) (one_at (put_md w.action.action) md.slot + n)
+    alone.0
     (names-step md (put_md w.action.action) rest n alone.1 (ops-name-md md ws (All-tail (MdsAlone md) w ws all)))
     ∙ ap (λ m. nat_lt 0 m) whole
 

@@ -133,7 +133,8 @@ armed-without md mds ranks limits (w ∷ ws) none all =
     (armed-without md mds ranks limits ws apart.1 (All-tail (λ (v : Operation PostedOp). IsArmed mds ranks limits v.action) w ws all))
 
 pub released-sound : (t : Side) (r : List ℕ) (c : Table Count) (i : Initiating) (ops : Operations PostedOp) (md : Handle) →
-    IsSound t r c i ops → operation_names_md md (posted_all action_in ops).waiting ≡ false → IsSound t r c (with_mds (without md i.mds) i) ops
+    IsSound t r c i ops → operation_names_md md (posted_all action_in ops).waiting ≡ false →
+    IsSound t r c (with_mds (without md i.mds) i) ops
 released-sound t r c i ops md is none = record {
   rank = is.rank;
   limit = is.limit;
@@ -147,7 +148,8 @@ told-without : (ct : Handle) (cts : Table Count) (ws : List (Operation PostedOp)
     operation_names_ct ct (map (posted action_in) ws) ≡ false → All (IsTold cts) ws → All (IsTold (without ct cts)) ws
 told-without ct cts [] none all = All-nil (IsTold (without ct cts))
 told-without ct cts (w ∷ ws) none all =
-    let apart = neither (same_handle w.ct ct || action_names_ct ct w.action.action) (operation_names_ct ct (map (posted action_in) ws)) none in
+    let apart = neither (same_handle w.ct ct || action_names_ct ct w.action.action) (operation_names_ct ct (map (posted action_in) ws))
+    none in
     let other = neither (same_handle w.ct ct) (action_names_ct ct w.action.action) apart.0 in
     All-cons (IsTold (without ct cts)) w ws
     (ap (option_map (reaches w)) (lookup-without w.ct ct cts.live other.0) ∙ All-head (IsTold cts) w ws all)

@@ -212,7 +212,8 @@ made-entry cells c start n bits ignored ct s t hs left new is all =
 -- ---- a triggered operation
 pub made-operation : (cells : List ℕ) (c threshold : ℕ) (act : PlannedOp) (action : TriggeredOp) (ct : Handle) (s t : State) (hs : Handles)
     → t ≡ with_operation action ct threshold s
-    → ((k : Slots) → Agrees k hs → ct ≡ counter_at k cells c) → ((k : Slots) → Agrees k hs → action ≡ action_at k cells act) → AreAllOf s hs →
+    → ((k : Slots) → Agrees k hs → ct ≡ counter_at k cells c) → ((k : Slots) → Agrees k hs → action ≡ action_at k cells act) →
+    AreAllOf s hs →
     AreMade cells (Trigger c threshold act ∷ []) s t hs hs
 unfolding call_made
 made-operation cells c threshold act action ct s t hs e is does all =

@@ -148,7 +148,14 @@ module _ (job : JobOf) (sound : IsSound job) (slots : List TurnRank) (wires : Li
       let held = l.held x.slot y.slot (ap (get_elem? slots) es ∙ x.there) (ap (get_elem? slots) ed ∙ y.there) in record {
         has = subst (λ (z : (JobOf × NodeState) × ((ℕ × Lane) × List Sent)). HasSent z.0.0.schedule.plan z.0.0.inputs z.0.1 z.1.0.0 z.1.0.1
             z.1.1)
-            (λ i. ((q.job_is i, sym x.node_is i), ((ed i, el i), got (sym y.node_is i).diary.locals (es i) (el i) ++ (lane_same i).messages)))
+            (λ i. (
+              (q.job_is i, sym x.node_is i),
+              (
+                (ed i, el i),
+                got (sym y.node_is i).diary.locals (es i) (el i) ++
+                    (lane_same i).messages,
+              ),
+            ))
             held;
         at_most = subst (λ (z : Plain). length z.messages ≤ 4) lane_same l.at_most;
         room = ap (λ (z : Plain). z.capacity) (sym lane_same) ∙ (l.room ∙ ap (min 4) all);

@@ -139,7 +139,8 @@ module _ (p : Plan) (n : ℕ) (ranks : p.ranks ≡ n) (all : List WireState) (ar
       done = λ k v k-low e. ⊎_elim
           (λ (same : k ≡ m).
           let one : w ≡ v = same_some all m w v there (ap (get_elem? all) (sym same) ∙ e) in
-          subst (λ (z : WireState). IsLifted z.bounds slots (at_place n (set ls own_place l) z.bounds.source z.bounds.target z.bounds.lane)) one
+          subst (λ (z : WireState). IsLifted z.bounds slots (at_place n (set ls own_place l) z.bounds.source z.bounds.target
+          z.bounds.lane)) one
           (subst (IsLifted w.bounds slots) (sym (get_or-set_same ls own_place l (plain [] 0) low)) is))
           (λ (other : k ≡ m → ⊥).
           let place = lane_place n v.bounds.source v.bounds.target v.bounds.lane in

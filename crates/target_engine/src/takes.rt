@@ -70,7 +70,8 @@ pub fn take_found(
     ensures given { records.new.by_entry.given ≡ records.old.by_entry.given }
     ensures limit { records.new.by_entry.limit ≡ records.old.by_entry.limit }
     ensures left { headers.new ≡ unexpected_list (left_in args.now.pt args.now.entry headers.old.unexpected) headers.old.limit }
-    ensures counts { cts.new ≡ each_counted (overflow_counter args.now.entry) (found_in args.now.pt args.now.entry headers.old.unexpected) cts.old }
+    ensures counts { cts.new ≡ each_counted (overflow_counter args.now.entry) (found_in args.now.pt args.now.entry headers.old.unexpected)
+        cts.old }
     ensures events { eqs.new ≡ each_gone (side 0 0 (seen_in indices.now) 0 (unexpected_list [] 0))
         (left_in args.now.pt args.now.entry headers.old.unexpected) (found_in args.now.pt args.now.entry headers.old.unexpected) eqs.old }
     ensures counted { result ≡ counted_by args.now.entry (found_in args.now.pt args.now.entry headers.old.unexpected) }

@@ -152,7 +152,8 @@ module _ {D : Type 0} where
   first-from [] n q before le e = cc
   first-from (s ∷ ss) n zero before le e = take-from n s s.action (operations_in ss) le e
   first-from (s ∷ ss) n (suc q) before le e =
-      skip-from n s s.action (operations_in ss) (before 0 (omega arith)) ∙ first-from ss n q (λ k lt. before (suc k) (omega (arith, lt))) le e
+      skip-from n s s.action (operations_in ss) (before 0 (omega arith)) ∙ first-from ss n q (λ k lt. before (suc k) (omega (arith, lt)))
+      le e
 
   pub none-from : (ss : List (Spot D)) (n : ℕ) → ((k : ℕ) → k < length (numbers_of ss) →
       (get_or (numbers_of ss) k 0 < n) ⊎ (wait_at ss k ≡ None)) → find (is_from n) (operations_in ss) ≡ None

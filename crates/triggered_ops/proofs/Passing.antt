@@ -94,7 +94,8 @@ module _ {D : Type 0} where
       option_map shown (op_at ss q) ≡ Some (action, ct, threshold) → IsShown ss q action ct threshold
   shown-at ss q action ct threshold e = go (op_at ss q) refl e
     where
-      go : (o : Option (Operation D)) → op_at ss q ≡ o → option_map shown o ≡ Some (action, ct, threshold) → IsShown ss q action ct threshold
+      go : (o : Option (Operation D)) → op_at ss q ≡ o → option_map shown o ≡ Some (action, ct, threshold) →
+          IsShown ss q action ct threshold
       go None is e = cc
       go (Some o) is e =
           let number = op-number ss q o is in

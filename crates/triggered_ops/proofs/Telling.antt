@@ -41,7 +41,8 @@ module _ {D : Type 0} where
   noted-told [] p v ct sum x e is = cc
   noted-told (s ∷ ss) zero v ct sum x e is =
       tell_first (waits_on ct) sum (op_with (record s { due = v }) s.action) (operations_in ss)
-      ∙ ap (λ o. before_all o (map (told_if (waits_on ct) sum) (operations_in ss))) (same_told s v s.action ct sum (on_it s s.action ct x e is))
+      ∙ ap (λ o. before_all o (map (told_if (waits_on ct) sum) (operations_in ss)))
+      (same_told s v s.action ct sum (on_it s s.action ct x e is))
       ∙ sym (tell_first (waits_on ct) sum (op_of s) (operations_in ss))
   noted-told (s ∷ ss) (suc p) v ct sum x e is =
       tell_first (waits_on ct) sum (op_of s) (operations_in (noted_due p v ss))

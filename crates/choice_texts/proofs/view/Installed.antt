@@ -20,7 +20,8 @@ use Rattle.choice_texts.specs.machine.Machine.Phase.{Idle}
 use Rattle.choice_texts.proofs.machine.Places.{count_none}
 use Rattle.choice_texts.proofs.machine.Words.{length-from_to}
 use Rattle.choice_texts.specs.view.Install.{Counter, Part, Slots, RankOp, awaits_of, awaits_result, before, count_of, counters, counters_in}
-use Rattle.choice_texts.specs.view.Install.{counters_of, ct_of, ct_stamp, action_of, descriptor_of, entries_of, entry_of, has_first, last_in}
+use Rattle.choice_texts.specs.view.Install.{counters_of, ct_of, ct_stamp, action_of, descriptor_of, entries_of, entry_of, has_first}
+use Rattle.choice_texts.specs.view.Install.{last_in}
 use Rattle.choice_texts.specs.view.Install.{live_counter, live_part, md_of, md_stamp, none_or_one, number_of, operation, parts, parts_of}
 use Rattle.choice_texts.specs.view.Install.{steps}
 use Rattle.choice_texts.specs.view.Install.{things_in, view, was_fired, word_entry, work_counter, rank_ops, works_of}
@@ -165,7 +166,8 @@ after_operations k ks (w ∷ ws) s h =
     (one_more_of s.pending.waiting
     (record { number = s.pending.given; action = action_of k ks w; ct = ct_of k ks (work_counter ks w); threshold = 1 })
     (map (operation k ks) ws)
-    ∙ ap (λ n. s.pending.waiting ++ record { number = n; action = action_of k ks w; ct = ct_of k ks (work_counter ks w); threshold = 1 } ∷ map
+    ∙ ap (λ n. s.pending.waiting ++ record { number = n; action = action_of k ks w; ct = ct_of k ks (work_counter ks w); threshold = 1 }
+    ∷ map
     (operation k ks) ws) (sym h.0))
     (sum_step s.pending.given (length ws))
 

@@ -11,7 +11,8 @@ use Rattle.ptl_types.specs.declared.calls.TriggeredOp.{TriggeredOp}
 use Rattle.ptl_types.specs.declared.elements.AtomicOp.{AtomicOp}
 use Rattle.ptl_types.specs.Kinds.{is_answer, is_no_ack, is_put_or_atomic}
 use Rattle.cuts.specs.histories.History.{Beginning, Legal, Local, after, and_then, got, is_lane, made, made_by, same_lane}
-use Rattle.ptl_types.specs.declared.calls.TriggeredOp.TheVariants.{Atomic as AtomicAction, FetchAtomic as FetchAtomicAction, Get as GetAction}
+use Rattle.ptl_types.specs.declared.calls.TriggeredOp.TheVariants.{Atomic as AtomicAction, FetchAtomic as FetchAtomicAction}
+use Rattle.ptl_types.specs.declared.calls.TriggeredOp.TheVariants.{Get as GetAction}
 use Rattle.ptl_types.specs.declared.calls.TriggeredOp.TheVariants.{Inc as IncAction, Put as PutAction, Set as SetAction, Swap as SwapAction}
 use Rattle.ptl_types.specs.declared.headers.Lane.TheVariants.{Answer, Request}
 use Rattle.plan_core.specs.Members.{In, Within}

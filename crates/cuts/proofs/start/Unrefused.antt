@@ -13,7 +13,8 @@ use Rattle.ni_model.specs.Tables.{Live, lookup, is_live_or_none}
 use Rattle.ni_model.specs.Counts.{successes}
 use Rattle.ni_model.specs.Lists.{entries_in}
 use Rattle.ni_model.specs.Append.{append_fault, need, is_within}
-use Rattle.ni_model.specs.Refusals.{put_fits, holds_part, alloc_fault, bind_fault, triggered_fault, action_fits, action_is_live, counts_on_live}
+use Rattle.ni_model.specs.Refusals.{put_fits, holds_part, alloc_fault, bind_fault, triggered_fault, action_fits, action_is_live}
+use Rattle.ni_model.specs.Refusals.{counts_on_live}
 use Rattle.ni_model.specs.Refusals.{action_passes}
 use Rattle.ni_model.specs.State.{State, parts_of}
 use Rattle.ni_model.specs.Calls.{with_counter, with_bound, bound, with_index}

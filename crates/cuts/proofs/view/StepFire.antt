@@ -203,7 +203,8 @@ module _ (annex : Annex) where
   left_view p inputs s r g w h = ap (with_waiting (view annex p inputs s r g)) (left_pending p s r g.fired w h (rank_ops p r) (λ v i. i))
 
   fire_tell : (p : Plan) (inputs : Inputs) (s : Slots) (r : ℕ) (g : Seen) (c : ℕ) → In (ForDone c) (rank_ops p r)
-      → done (left (number_of p r (ForDone c)) (view annex p inputs s r g)) (action_of p s (ForDone c)) ≡ fires_to p inputs s r g (ForDone c)
+      → done (left (number_of p r (ForDone c)) (view annex p inputs s r g)) (action_of p s (ForDone c)) ≡ fires_to p inputs s r g
+      (ForDone c)
   fire_tell p inputs s r g c h =
       ap (λ v. done v (action_of p s (ForDone c))) (left_view p inputs s r g (ForDone c) h)
       ∙ fired_pair _ _ None None
@@ -217,7 +218,8 @@ module _ (annex : Annex) where
 
   fire_bump : (p : Plan) (inputs : Inputs) → SoundPlan p (length inputs) → (s : Slots) (r : ℕ) (g : Seen) (l : ℕ) →
       In (ForLink l) (rank_ops p r) → is_bump (link p l).kind ≡ true
-      → done (left (number_of p r (ForLink l)) (view annex p inputs s r g)) (action_of p s (ForLink l)) ≡ fires_to p inputs s r g (ForLink l)
+      → done (left (number_of p r (ForLink l)) (view annex p inputs s r g)) (action_of p s (ForLink l)) ≡ fires_to p inputs s r g
+      (ForLink l)
   fire_bump p inputs sound s r g l h b =
       let q = out_links-In p r l (rank_ops-along p r l h) in
       let w = sound.links_sound l q.0 in
@@ -310,7 +312,8 @@ module _ (annex : Annex) where
 
   fire_send : (p : Plan) (inputs : Inputs) → SoundPlan p (length inputs) → (s : Slots) (r : ℕ) (g : Seen) (l : ℕ) → Sized p inputs g →
       In (ForLink l) (rank_ops p r) → is_bump (link p l).kind ≡ false
-      → done (left (number_of p r (ForLink l)) (view annex p inputs s r g)) (action_of p s (ForLink l)) ≡ fires_to p inputs s r g (ForLink l)
+      → done (left (number_of p r (ForLink l)) (view annex p inputs s r g)) (action_of p s (ForLink l)) ≡ fires_to p inputs s r g
+      (ForLink l)
   fire_send p inputs sound s r g l sized h b =
       let out = rank_ops-along p r l h in
       let q = out_links-In p r l out in

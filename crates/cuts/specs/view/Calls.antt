@@ -103,7 +103,8 @@ sending_action args (Some o) ty = AtomicAction args o ty
 
 -- what a triggered operation does
 abbrev pub action_at : Slots → List ℕ → PlannedOp → TriggeredOp
-action_at k cells (Send local n target bits remote hdr op ty ack) = sending_action (args_at (the_md k) local n target bits remote hdr ack) op ty
+action_at k cells (Send local n target bits remote hdr op ty ack) = sending_action (args_at (the_md k) local n target bits remote hdr ack)
+    op ty
 action_at k cells (BumpCell c) = IncAction (counter_at k cells c) (successes 1)
 action_at k cells BumpDone = IncAction (done_ct k) (successes 1)
 

@@ -9,6 +9,8 @@ use Rattle.c_interface.proofs.Opened.{roomy_called}
 use Rattle.c_interface.proofs.starts.atomic.Goals as goal
 
 pub returns-else-is_short : goal.returns-else-is_short
-returns-else-is_short c = roomy_called (length c.args.out.now) (Starts (Atomic c.args.args c.args.op c.args.ty)) fault_number handed _ _ _ _ _
+returns-else-is_short c = roomy_called (length c.args.out.now) (Starts (Atomic c.args.args c.args.op c.args.ty)) fault_number handed _ _ _
+    _ _
     c.as_mut.result.now c.in-Some.nic.value c.atomic-made.new.nic c.atomic-made.result c.as_mut.ensures.value c.in-Some.ensures.value
-    (c.if-is_short.ensures ∙ ap (λ (x : State). nat_lt (length c.args.out.now) x.limits.msg) c.as_ref.ensures) c.of-in-Some.ensures c.atomic-made.ensures c.message_out.ensures.numbered c.message_out.ensures.written
+    (c.if-is_short.ensures ∙ ap (λ (x : State). nat_lt (length c.args.out.now) x.limits.msg) c.as_ref.ensures) c.of-in-Some.ensures
+    c.atomic-made.ensures c.message_out.ensures.numbered c.message_out.ensures.written

@@ -15,7 +15,9 @@ returns-else-is_short c =
     let made = λ (a : PutArgs). Starts (FetchAtomic c.args.back a c.args.op c.args.ty) in
     roomy_called (length c.args.out.now) (made (sent_with c.args.back (handle_of c.args.md) c.args.local_offset c.args.hdr_data))
     fault_number handed _ _ _ _ _
-    c.as_mut.result.now c.in-Some.nic.value c.fetch_atomic-made.new.nic c.fetch_atomic-made.result c.as_mut.ensures.value c.in-Some.ensures.value
+    c.as_mut.result.now c.in-Some.nic.value c.fetch_atomic-made.new.nic c.fetch_atomic-made.result c.as_mut.ensures.value
+    c.in-Some.ensures.value
     (c.if-is_short.ensures ∙ ap (λ (x : State). nat_lt (length c.args.out.now) x.limits.msg) c.as_ref.ensures) c.of-in-Some.ensures
-    (subst (λ (a : PutArgs). made a c.as_mut.result.now c.fetch_atomic-made.new.nic c.fetch_atomic-made.result) c.sent_with-args.ensures c.fetch_atomic-made.ensures)
+    (subst (λ (a : PutArgs). made a c.as_mut.result.now c.fetch_atomic-made.new.nic c.fetch_atomic-made.result) c.sent_with-args.ensures
+    c.fetch_atomic-made.ensures)
     c.message_out.ensures.numbered c.message_out.ensures.written

@@ -17,5 +17,6 @@ returns-else-is_short c =
     fault_number handed _ _ _ _ _
     c.as_mut.result.now c.in-Some.nic.value c.swap-made.new.nic c.swap-made.result c.as_mut.ensures.value c.in-Some.ensures.value
     (c.if-is_short.ensures ∙ ap (λ (x : State). nat_lt (length c.args.out.now) x.limits.msg) c.as_ref.ensures) c.of-in-Some.ensures
-    (subst (λ (a : PutArgs). made a c.as_mut.result.now c.swap-made.new.nic c.swap-made.result) c.sent_with-args.ensures c.swap-made.ensures)
+    (subst (λ (a : PutArgs). made a c.as_mut.result.now c.swap-made.new.nic c.swap-made.result) c.sent_with-args.ensures
+    c.swap-made.ensures)
     c.message_out.ensures.numbered c.message_out.ensures.written

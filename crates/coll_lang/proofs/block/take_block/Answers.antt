@@ -26,6 +26,7 @@ loop-i-preserved c =
           (c.loop-i.invariant.stage within) c.in_default.ensures;
       read = λ bytes. c.loop-i.invariant.read bytes
           ∙ goes_on_next (past r) (past new) c.args.number i c.args.lines.now _ bytes within going c.in_default.ensures;
-      said = said_but_one c.args.run.ty c.args.run.count c.args.lines.now c.loop-i.places i _ c.take-place.ensures.after c.loop-i.invariant.said;
+      said = said_but_one c.args.run.ty c.args.run.count c.args.lines.now c.loop-i.places i _ c.take-place.ensures.after
+          c.loop-i.invariant.said;
       count = length-set c.loop-i.places i c.take-place.new.self ∙ c.loop-i.invariant.count;
     }

@@ -9,7 +9,8 @@ use Rattle.mark_judge.proofs.lines.first_line_flaw.Goals as goal
 pub returns-then-is_some-clause-flaw : goal.returns-then-is_some-clause-flaw
 returns-then-is_some-clause-flaw c =
     let t = c.loop-i-test.true in
-    found_at (line_flaw c.args.plan.now c.args.shape.now c.args.marks.now) (length c.args.marks.now) c.loop-i.i _ c.line_flaw-flaw.ensures.flaw
+    found_at (line_flaw c.args.plan.now c.args.shape.now c.args.marks.now) (length c.args.marks.now) c.loop-i.i _
+    c.line_flaw-flaw.ensures.flaw
     (sym c.is_some.ensures ∙ c.if-is_some.true)
     (omega (arith, t)) c.loop-i.invariant.none
 

@@ -6,4 +6,5 @@ use Rattle.mark_judge.proofs.reaching.gathered.Given as goal
 
 abbrev pub invariant-loop-l : goal.invariant-loop-l
 invariant-loop-l l =
-    (k : ℕ) → has_bit l.word k ≡ (has_bit l.own k || list_any (λ m. has_bit (get_or l.words (link l.plan m).source 0) k) (take l.l-index l.links))
+    (k : ℕ) → has_bit l.word k ≡ (has_bit l.own k || list_any (λ m. has_bit (get_or l.words (link l.plan m).source 0) k)
+    (take l.l-index l.links))

@@ -14,7 +14,8 @@ pub returns : goal.returns
 returns g c =
     let left = c.in-Ok-run_once.ensures in
     rw c.status_of.ensures (record {
-      written = written-of _ _ _ _ (same-mode Once _ _ _ _ _ _ _ None c.shape.ensures.value left.0.inputs c.write_result-written.ensures.ends);
+      written = written-of _ _ _ _ (same-mode Once _ _ _ _ _ _ _ None c.shape.ensures.value left.0.inputs
+          c.write_result-written.ensures.ends);
       world = handed-of (LeavesWorld (Execute Once) c.args.job.now.shape c.args.job.now.inputs) _ _
           (left, ap (λ (r : Ran). r.choice) c.requires.none);
     })

@@ -12,7 +12,8 @@ put_buffer-requires-clause-made g c =
     let o = g.H.ResultLists.outline c.args.held.now in
     let lists = g.H.ResultLists.lists c.args.held.now in
     let n = c.loop-buffer.buffer-index in
-    subst (λ xs. AreMadeFrom o lists (get_or xs n 0) c.loop-buffer.first c.args.texts.now) (sym (rw c.shape-shape.ensures at c.prints-buffer-items.ensures.value))
+    subst (λ xs. AreMadeFrom o lists (get_or xs n 0) c.loop-buffer.first c.args.texts.now)
+    (sym (rw c.shape-shape.ensures at c.prints-buffer-items.ensures.value))
     (subst (λ f. AreMadeFrom o lists (get_or o.prints n 0) f c.args.texts.now) (sym c.loop-buffer.invariant.place)
     (by-print o lists c.args.texts.now c.requires.made n))
 

@@ -17,7 +17,8 @@ loop-rank-preserved g c =
     let at_rank = rank_sum o lists b in
     let all = sum_from at_rank 0 o.ranks in
     let ranks : c.ranks-rank-end.result ≡ o.ranks = rw c.shape-shape.ensures at c.ranks-rank-end.ensures.value in
-    let about = buffer-is o b c.index-buffers-buffer.result c.buffers.result.now c.requires.buffer (rw c.shape-shape.ensures at c.buffers.ensures.value)
+    let about = buffer-is o b c.index-buffers-buffer.result c.buffers.result.now c.requires.buffer
+    (rw c.shape-shape.ensures at c.buffers.ensures.value)
     c.index-buffers-buffer.is in
     let part : c.list_sum-total.result ≡ at_rank rank % 2 ^ 64 =
     (rw (← c.index-buffers-buffer.is, c.list.ensures) at c.list_sum-total.ensures)

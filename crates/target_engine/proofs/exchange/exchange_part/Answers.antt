@@ -8,7 +8,8 @@ exchange_at-requires-clause-part c =
     let len : length c.first_bytes-items.result.items ≡ delivered c.args.linked.now c.args.header.now =
     rw (c.first_bytes-items.ensures, c.delivered-count.ensures)
     (delivered-bytes c.args.linked.now c.args.header.now c.args.bytes c.requires.elements c.requires.kept) in
-    rw (c.first_byte-at.ensures, c.deref_mut.ensures.value, len) (place-within (length c.args.region.now) c.args.linked.now c.args.header.now
+    rw (c.first_byte-at.ensures, c.deref_mut.ensures.value, len)
+    (place-within (length c.args.region.now) c.args.linked.now c.args.header.now
     c.requires.part)
 
 pub exchange_at-requires-clause-whole : goal.exchange_at-requires-clause-whole

@@ -4,7 +4,8 @@ use Rattle.target_engine.proofs.Views.{set-seen_by, set-portal_entry}
 use Rattle.target_engine.proofs.index.update_entry_at.Goals as goal
 
 pub returns-then-at-indices-clause-after : goal.returns-then-at-indices-clause-after
-returns-then-at-indices-clause-after c = set-seen_by c.args.indices.now c.args.header.now.pt c.index-indices-at.result c.update_entry.new.self
+returns-then-at-indices-clause-after c = set-seen_by c.args.indices.now c.args.header.now.pt c.index-indices-at.result
+    c.update_entry.new.self
     (updated_in c.args.found.now c.args.header.now) c.if-at-indices.true c.update_entry.ensures.after
 
 pub returns-then-at-indices-clause-kept : goal.returns-then-at-indices-clause-kept

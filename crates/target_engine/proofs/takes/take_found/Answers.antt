@@ -20,9 +20,11 @@ loop-at-init c =
       counts = refl;
       rose = refl;
       recorded = recorded-unexpected (seen_in c.args.indices.now) xs
-          (left_in c.args.args.now.pt c.args.args.now.entry xs ++ found_in c.args.args.now.pt c.args.args.now.entry xs) c.args.records.now.by_entry
+          (left_in c.args.args.now.pt c.args.args.now.entry xs ++ found_in c.args.args.now.pt c.args.args.now.entry xs)
+          c.args.records.now.by_entry
           c.requires.recorded (λ p. unexpected-parts (lies_in p) c.args.args.now.pt c.args.args.now.entry xs);
-      users = counted-same xs (left_in c.args.args.now.pt c.args.args.now.entry xs ++ found_in c.args.args.now.pt c.args.args.now.entry xs) c.args.records.now
+      users = counted-same xs (left_in c.args.args.now.pt c.args.args.now.entry xs ++ found_in c.args.args.now.pt c.args.args.now.entry
+          xs) c.args.records.now
           c.requires.counted (λ p. unexpected-parts p c.args.args.now.pt c.args.args.now.entry xs);
       long = refl;
       given = refl;

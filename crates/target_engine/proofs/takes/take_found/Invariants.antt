@@ -16,12 +16,14 @@ invariant-loop-at l =
       events :
           each_gone (side 0 0 (seen_in l.indices) 0 (unexpected_list [] 0)) (left_in l.args.pt l.args.entry xs)
           (found_in l.args.pt l.args.entry (drop l.at xs)) l.eqs
-          ≡ each_gone (side 0 0 (seen_in l.indices) 0 (unexpected_list [] 0)) (left_in l.args.pt l.args.entry xs) (found_in l.args.pt l.args.entry xs) l.fn.eqs;
+          ≡ each_gone (side 0 0 (seen_in l.indices) 0 (unexpected_list [] 0)) (left_in l.args.pt l.args.entry xs)
+          (found_in l.args.pt l.args.entry xs) l.fn.eqs;
       counts :
           each_counted (overflow_counter l.args.entry) (found_in l.args.pt l.args.entry (drop l.at xs)) l.cts
           ≡ each_counted (overflow_counter l.args.entry) (found_in l.args.pt l.args.entry xs) l.fn.cts;
       rose : l.counted ≡ counted_by l.args.entry (found_in l.args.pt l.args.entry (take l.at xs));
-      recorded : AreRecorded (seen_in l.indices) (left_in l.args.pt l.args.entry xs ++ found_in l.args.pt l.args.entry (drop l.at xs)) l.records.by_entry;
+      recorded : AreRecorded (seen_in l.indices) (left_in l.args.pt l.args.entry xs ++ found_in l.args.pt l.args.entry (drop l.at xs))
+          l.records.by_entry;
       users : AreCounted (left_in l.args.pt l.args.entry xs ++ found_in l.args.pt l.args.entry (drop l.at xs)) l.records;
       long : length l.records.waiting ≡ length l.fn.records.waiting;
       given : l.records.by_entry.given ≡ l.fn.records.by_entry.given;

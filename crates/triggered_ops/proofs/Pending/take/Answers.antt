@@ -57,7 +57,8 @@ returns-in-Some-clause-rest g c =
     ) refl
 
 -- what waits has an action
-some-taken : {D : Type 0} (o : Option (Operation D)) (r : Option D) (P : Type 0) → r ≡ option_map action_of o → is_some o ≡ true → IfNone r P
+some-taken : {D : Type 0} (o : Option (Operation D)) (r : Option D) (P : Type 0) → r ≡ option_map action_of o → is_some o ≡ true →
+    IfNone r P
 some-taken None r P e some = cc
 some-taken (Some o) None P e some = cc
 some-taken (Some o) (Some d) P e some = tt

@@ -31,7 +31,8 @@ pub invariant_of-self-then-not-is_start : goal.invariant_of-self-then-not-is_sta
 invariant_of-self-then-not-is_start c =
     let n = c.self.inside in
     let changes : ChangesAt c.count_action-counted.result n.cts c.count_action-counted.new.cts =
-    rw (c.count_action-counted.ensures.counter, c.count_action-counted.ensures.counts) (changes-action c.in_ok-action.field-0.action n.cts) in
+    rw (c.count_action-counted.ensures.counter, c.count_action-counted.ensures.counts)
+    (changes-action c.in_ok-action.field-0.action n.cts) in
     let sound : IsSound n.target n.region n.cts n.initiator c.take.new.self =
     rw c.take.ensures.rest (taken-sound n.target n.region n.cts n.initiator n.pending c.args.number c.self.invariant.sound) in
     let counts : is_start c.in_ok-action.field-0.action ≡ false = sym c.is_start.ensures ∙ c.if-not-is_start.true in
@@ -53,7 +54,8 @@ returns-then-not-is_start c =
     let counts : is_start c.in_ok-action.field-0.action ≡ false = sym c.is_start.ensures ∙ c.if-not-is_start.true in
     record {
       does = rw (← c.self.view_is) (fire-counts n.target n.region n.cts n.eqs n.initiator n.pending n.drops n.violations
-          c.args.number c.in_ok-action.field-0 c.count_action-counted.new.cts c.take.new.self c.tell.new.pending c.count_action-counted.result
+          c.args.number c.in_ok-action.field-0 c.count_action-counted.new.cts c.take.new.self c.tell.new.pending
+          c.count_action-counted.result
           (sym c.take.ensures.value ∙ c.in_ok-action.was) counts c.take.ensures.rest c.count_action-counted.ensures.counts c.tell.ensures);
     }
 

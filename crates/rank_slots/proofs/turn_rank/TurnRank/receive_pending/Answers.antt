@@ -9,7 +9,8 @@ pub receive_of-requires-clause-sound : goal.receive_of-requires-clause-sound
 receive_of-requires-clause-sound g c = λ _ _. onward-sound c.args.self.now c.loop.self c.loop.invariant c.requires.sound
 
 pub receive_of-requires-clause-wired : goal.receive_of-requires-clause-wired
-receive_of-requires-clause-wired g c = λ _ _. onward-wired c.args.network.wires.now c.args.self.now c.loop.self c.loop.invariant c.requires.wired
+receive_of-requires-clause-wired g c = λ _ _. onward-wired c.args.network.wires.now c.args.self.now c.loop.self c.loop.invariant
+    c.requires.wired
 
 pub loop-preserved : goal.loop-preserved
 loop-preserved g c = onward-after None c.args.self.now c.loop.self c.receive_of.new.self c.loop.invariant c.in_default-receive_of.ensures

@@ -17,7 +17,8 @@ deliver-moved-requires-clause-sound g c = λ _ _. subst IsSound (sym c.take-slot
 pub deliver-moved-requires-clause-end : goal.deliver-moved-requires-clause-end
 deliver-moved-requires-clause-end g c = λ _ _. let t = c.take-slot in let fabric = c.args.self.now in
     let f = subst (λ (f : FabricState). IsFabric f.job f.turns.start f.wires) c.self.view_is c.self.invariant.fabric in
-    in-at fabric.job t.ensures.sound fabric.wires f.lanes c.args.target t.result.value t.ensures.named c.args.source c.args.lane c.requires.lane
+    in-at fabric.job t.ensures.sound fabric.wires f.lanes c.args.target t.result.value t.ensures.named c.args.source c.args.lane
+    c.requires.lane
 
 pub give-requires-clause-sound : goal.give-requires-clause-sound
 give-requires-clause-sound g c = λ _ _. subst IsSound (sym (ap (λ (p : Plate). p.job) c.deliver-moved.ensures.name
@@ -36,7 +37,8 @@ give-requires-clause-taken g c = λ _ _. let t = c.take-slot in let m = c.delive
     (longer-came m.result c.args.source c.args.lane (mark x) (mark y) told) m.ensures.handles
 
 pub returns-clause-delivered : goal.returns-clause-delivered
-returns-clause-delivered g c = let t = c.take-slot in let m = c.deliver-moved in let x = t.result.value in let y = m.new.self in let fabric =
+returns-clause-delivered g c = let t = c.take-slot in let m = c.deliver-moved in let x = t.result.value in let y = m.new.self in
+    let fabric =
     c.args.self.now in
     let f = subst (λ (f : FabricState). IsFabric f.job f.turns.start f.wires) c.self.view_is c.self.invariant.fabric in
     let took = subst (λ k. Took chronicle plate c.args.hand.now.knows k x t.new.hand.knows) (sym t.ensures.slot) t.ensures.took in

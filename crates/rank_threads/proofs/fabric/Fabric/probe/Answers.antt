@@ -22,11 +22,13 @@ note_in-requires-clause-rank g c = let n = c.requires.lanes.count in let r = c.r
 
 pub note_in-requires-clause-outs : goal.note_in-requires-clause-outs
 note_in-requires-clause-outs g c = let t = c.take-slot in let fabric = c.args.self.now in
-    has-out fabric.job t.ensures.sound fabric.wires t.ensures.lanes c.args.rank t.result.value t.ensures.named c.args.wave.now c.requires.lanes
+    has-out fabric.job t.ensures.sound fabric.wires t.ensures.lanes c.args.rank t.result.value t.ensures.named c.args.wave.now
+    c.requires.lanes
 
 pub note_in-requires-clause-ins : goal.note_in-requires-clause-ins
 note_in-requires-clause-ins g c = let t = c.take-slot in let fabric = c.args.self.now in
-    has-in fabric.job t.ensures.sound fabric.wires t.ensures.lanes c.args.rank t.result.value t.ensures.named c.args.wave.now c.requires.lanes
+    has-in fabric.job t.ensures.sound fabric.wires t.ensures.lanes c.args.rank t.result.value t.ensures.named c.args.wave.now
+    c.requires.lanes
 
 pub give-requires-clause-sound : goal.give-requires-clause-sound
 give-requires-clause-sound g c = λ _ _. subst IsSound (sym c.take-slot.ensures.named.job_is) c.take-slot.ensures.sound
@@ -50,7 +52,8 @@ returns-clause-noted g c = let t = c.take-slot in let x = t.result.value in let 
           ∙ at) in (
             sym (ap (λ (v : RankNote). v.there) same) ∙ e.2.there,
             subst (λ (v : RankNote). Says fabric.job r (history x) x.node.value.kept v.note) same
-                (says fabric.job t.ensures.sound fabric.wires t.ensures.lanes r x t.ensures.named w c.requires.lanes y.0 e.0 t.ensures.kept e.2),
+                (says fabric.job t.ensures.sound fabric.wires t.ensures.lanes r x t.ensures.named w c.requires.lanes y.0 e.0
+                t.ensures.kept e.2),
           )),
     )
 

@@ -17,7 +17,8 @@ by-once slot pt e p u = rw u refl
 
 pub invariant_of-self-2 : goal.invariant_of-self-2
 invariant_of-self-2 c =
-    let o : oldest c.args.args.pt c.args.args.entry c.self.inside.headers.unexpected ≡ Some c.in-Some.unexpected = sym c.take_oldest.ensures.oldest
+    let o : oldest c.args.args.pt c.args.args.entry c.self.inside.headers.unexpected ≡ Some c.in-Some.unexpected =
+    sym c.take_oldest.ensures.oldest
     ∙ c.in-Some.is in
     let i = c.self.inside in
     let hs = i.headers.unexpected in
@@ -42,7 +43,8 @@ unfolding append
 returns-clause-appends c =
     λ region.
     let s = free_slot c.args.self.now.indices in
-    let o : oldest c.args.args.pt c.args.args.entry c.self.inside.headers.unexpected ≡ Some c.in-Some.unexpected = sym c.take_oldest.ensures.oldest
+    let o : oldest c.args.args.pt c.args.args.entry c.self.inside.headers.unexpected ≡ Some c.in-Some.unexpected =
+    sym c.take_oldest.ensures.oldest
     ∙ c.in-Some.is in
     let freed = kept-frees c.self.inside.limit c.self.inside.linked c.args.args.pt c.args.args.entry c.in-Some.unexpected
     c.self.inside.indices.items c.self.inside.records.by_entry c.self.inside.headers c.self.invariant.kept o in

@@ -14,7 +14,8 @@ invariant_of-self c =
     let taken = c.take_found.ensures in
     record {
       kept =
-          kept-left i.limit i.linked c.args.args.now.pt c.args.args.now.entry i.indices.items i.records.by_entry c.take_found.new.records.by_entry
+          kept-left i.limit i.linked c.args.args.now.pt c.args.args.now.entry i.indices.items i.records.by_entry
+          c.take_found.new.records.by_entry
           i.headers c.take_found.new.headers c.self.invariant.kept (rw c.deref.ensures.value at taken.recorded) taken.limit
           taken.given taken.left;
       counted = rw taken.left taken.users;

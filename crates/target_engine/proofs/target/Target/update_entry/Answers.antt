@@ -39,7 +39,8 @@ invariant_of-self c =
 
 pub returns : goal.returns
 returns c =
-    let whole = with_items_is c.self.inside.indices c.update_entry_at.new.indices (c.update_entry_at.auto.indices ∙ c.deref_mut.ensures.len) in
+    let whole = with_items_is c.self.inside.indices c.update_entry_at.new.indices (c.update_entry_at.auto.indices
+    ∙ c.deref_mut.ensures.len) in
     let e = seen-updated c.self.inside.limit c.self.inside.linked c.args.found.now c.args.header.now c.self.inside.indices.items
     c.deref_mut.result.now c.update_entry_at.new.indices c.self.inside.records.by_entry c.self.inside.headers c.args.self.now.indices
     c.self.invariant.kept c.deref_mut.ensures.value c.update_entry_at.ensures.after (ap (λ s. s.indices) c.self.view_is) c.requires.there in
