@@ -15,8 +15,8 @@ ghost use Rattle.choice_texts.specs.view.Install.{before, counters_in, limits_of
 ghost use Rattle.plan_choice.specs.ranks.Given.{AreMade, HasRoom, IsWide};
 ghost use Rattle.plan_choice.specs.ranks.Seats.{IsInstalled};
 
-use crate::ranks::region::{NOBODY, region};
 use crate::ranks::choice_rank::ChoiceRank;
+use crate::ranks::region::{NOBODY, region};
 use coll_lang::ChoiceKind;
 use portals_ni::Nic;
 use ptl_types::{

@@ -1,7 +1,7 @@
 -- The step, and then its counts.
-use Rattle.std.proofs.Common.{◌∙◌, ap, sym}
+use Rattle.std.proofs.Common.{◌∙◌, ap, subst, sym}
 use Rattle.worlds.specs.declared.parts.traffic.Traffic.{Traffic}
-use Rattle.plan_choice.specs.Acts.{marked, with_lanes}
+use Rattle.plan_choice.specs.Acts.{IsMade, marked, with_lanes}
 use Rattle.plan_choice.proofs.acts.make.Goals as goal
 
 pub act-s-requires : goal.act-s-requires
@@ -34,7 +34,8 @@ returns c =
       d = c.act-s.result.1;
       source = c.act-s.ensures.source;
       destination = c.act-s.ensures.destination;
-      made = c.act-s.ensures.made;
+      made = subst (λ ls. IsMade c.args.traffic.now.setting.ranks c.args.seats.now c.args.traffic.now.lanes c.args.step c.act-s.new.seats
+          ls c.act-s.result.0 c.act-s.result.1) (sym lanes) c.act-s.ensures.made;
       marks = c.refresh.ensures ∙ ap (λ ls. marked c.act-s.new.seats c.act-s.result.0 c.act-s.result.1
           (with_lanes c.args.traffic.now ls)) (sym lanes);
     }
