@@ -60,13 +60,13 @@ pub few-linked : (list : EntryList) (n : ℕ) (x : Linked) (b c : Both) → c �
     → HadFew (n + 1) c
 few-linked list n x b c e at few = rw e (few-next list n x b at few)
 
-pub limit-linked : (list : EntryList) (x : Linked) (b c : Both) → c ≡ with_next list x b → c.limit ≡ b.limit
-limit-linked Priority x b c e = ap (λ d. d.limit) e
-limit-linked Overflow x b c e = ap (λ d. d.limit) e
+pub limit-linked : (list : EntryList) (n : ℕ) (x : Linked) (b c : Both) → c ≡ with_next list x b → HadFew n b → c.limit ≡ b.limit
+limit-linked Priority n x b c e few = ap (λ d. d.limit) e
+limit-linked Overflow n x b c e few = ap (λ d. d.limit) e
 
-pub slots-linked : (list : EntryList) (x : Linked) (b c : Both) → c ≡ with_next list x b → c.slots ≡ b.slots
-slots-linked Priority x b c e = ap (λ d. d.slots) e
-slots-linked Overflow x b c e = ap (λ d. d.slots) e
+pub slots-linked : (list : EntryList) (n : ℕ) (x : Linked) (b c : Both) → c ≡ with_next list x b → HadFew n b → c.slots ≡ b.slots
+slots-linked Priority n x b c e few = ap (λ d. d.slots) e
+slots-linked Overflow n x b c e few = ap (λ d. d.slots) e
 
 fewer : (me : Handle) (xs : List Linked) → length (unlinked me xs) ≤ length xs
 fewer me xs =

@@ -15,7 +15,7 @@ pub returns-clause-few : goal.returns-clause-few
 returns-clause-few g c = few-linked _ _ _ _ _ c.append.ensures.lists refl c.requires.few
 
 pub returns-clause-limit : goal.returns-clause-limit
-returns-clause-limit g c = limit-linked _ _ _ _ c.append.ensures.lists
+returns-clause-limit g c = limit-linked _ _ _ _ _ c.append.ensures.lists c.requires.few
 
 pub returns-clause-slots : goal.returns-clause-slots
-returns-clause-slots g c = slots-linked _ _ _ _ c.append.ensures.lists
+returns-clause-slots g c = slots-linked _ _ _ _ _ c.append.ensures.lists c.requires.few
