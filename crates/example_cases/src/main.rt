@@ -1,12 +1,14 @@
 //! The examples, run: what each description of data/ gives under `once` is what the file beside it says, and what each in JSON
-//! stands for is the description of the same name.
+//! stands for is the description of the same name. The logs of logs/ are judged.
 #![tactic(auto)]
 
 mod comparing;
 mod folder;
+mod logs;
 
 use comparing::{Found, lines_of_json, once_gives};
 use folder::names;
+use logs::judge_logs;
 use std::{fs, io};
 
 /// The text of a file, and the file beside it that says what is wanted.
@@ -42,7 +44,7 @@ fn print_json(rt: &HostRuntime, name: &str, stem: &str) -> io::Result<()> {
 }
 
 fn main(rt: HostRuntime) -> io::Result<()> {
-    for name in names(&rt)?.iter() {
+    for name in names(&rt, ".")?.iter() {
         let name = name.as_str();
         if let Some(stem) = name.strip_suffix(".coll") {
             let pair = read_pair(&rt, name, stem, "out")?;
@@ -53,5 +55,6 @@ fn main(rt: HostRuntime) -> io::Result<()> {
             print_json(&rt, name, stem)?;
         }
     }
-    Ok(())
+    judge_logs(&rt, "logs")?;
+    judge_logs(&rt, "logs/wrong")
 }

@@ -114,6 +114,13 @@ impl Flights {
         }
     }
 
+    /// How many were sent.
+    pub fn sent(&self) -> u64
+        ensures { result ≡ self.now.sent }
+    {
+        self.sent
+    }
+
     /// The number of the message of a word: how many were sent before it.
     pub fn age(&self, word: &[u8]) -> Option<u64>
         ensures { result ≡ age_of word.now self.now }

@@ -2,7 +2,10 @@
 #![tactic(auto)]
 
 mod reading;
+mod sessions;
+mod status;
 mod top;
 mod writing;
 
-pub use top::{Status, log_main};
+pub use status::Status;
+pub use top::log_main;

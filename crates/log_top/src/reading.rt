@@ -1,85 +1,95 @@
 //! A log, line by line, from a source.
 
+use crate::sessions::Session;
+use crate::status::Status;
 use coll_text::cut;
 use log_lines::LONGEST_LINE;
-use log_verdict::{Judge, Verdict};
-use port_io::Source;
-use ptl_types::NoMemory;
+use port_io::{Sink, Source};
 use run_text::PIECE;
 use std::alloc::Global;
 
-/// How judging ended.
-#[derive(Drop)]
-pub(crate) enum Judged {
-    /// With this verdict.
-    Verdict(Verdict),
-    /// The source failed.
-    ReadFault,
-    /// There was no memory.
-    NoMemory,
-}
-
 /// Takes a line that may have begun in `begun`, where nothing stands afterwards.
-fn take_line(
-    judge: &mut Judge,
+fn take_line<K: Sink, N: Sink>(
+    session: &mut Session,
     begun: &mut Vec<u8>,
     line: &[u8],
-) -> Result<Option<Verdict>, NoMemory> {
+    sink: &mut K,
+    notes: &mut N,
+) -> Option<Status> {
     if begun.is_empty() {
-        return judge.take(line);
+        return session.take(line, sink, notes);
     }
-    begun.extend_from_slice(line)?;
-    let verdict = judge.take(begun.as_slice())?;
+    if begun.extend_from_slice(line).is_err() {
+        return Some(Status::NoMemory);
+    }
+    let status = session.take(begun.as_slice(), sink, notes);
     begun.clear();
-    Ok(verdict)
+    status
 }
 
 /// Keeps the beginning of a line. One that is too long is refused before its end is seen.
-fn keep(judge: &mut Judge, begun: &mut Vec<u8>, rest: &[u8]) -> Result<Option<Verdict>, NoMemory> {
-    begun.extend_from_slice(rest)?;
-    if begun.len() > LONGEST_LINE {
-        return judge.take(begun.as_slice());
+fn keep<K: Sink, N: Sink>(
+    session: &mut Session,
+    begun: &mut Vec<u8>,
+    rest: &[u8],
+    sink: &mut K,
+    notes: &mut N,
+) -> Option<Status> {
+    if begun.extend_from_slice(rest).is_err() {
+        return Some(Status::NoMemory);
     }
-    Ok(None)
+    if begun.len() <= LONGEST_LINE {
+        return None;
+    }
+    match session.take(begun.as_slice(), sink, notes) {
+        Some(status) => Some(status),
+        None => Some(Status::Refused),
+    }
 }
 
 /// Takes the whole lines of a piece, the first of which may have begun in `begun`. What follows the last LF is kept there.
-fn take_lines(
-    judge: &mut Judge,
+fn take_lines<K: Sink, N: Sink>(
+    session: &mut Session,
     begun: &mut Vec<u8>,
     piece: &[u8],
-) -> Result<Option<Verdict>, NoMemory> {
+    sink: &mut K,
+    notes: &mut N,
+) -> Option<Status> {
     let mut rest = piece;
     loop {
         let (line, Some(after)) = cut(rest, b'\n') else {
-            return keep(judge, begun, rest);
+            return keep(session, begun, rest, sink, notes);
         };
-        let verdict = take_line(judge, begun, line)?;
-        if verdict.is_some() {
-            return Ok(verdict);
+        let status = take_line(session, begun, line, sink, notes);
+        if status.is_some() {
+            return status;
         }
         rest = after;
     }
 }
 
-/// Judges the log that a source has.
-pub(crate) fn judge<S: Source>(alloc: Global, any_order: bool, source: &mut S) -> Judged {
+/// Takes what a source has, line by line.
+pub(crate) fn take_all<S: Source, K: Sink, N: Sink>(
+    alloc: Global,
+    session: &mut Session,
+    source: &mut S,
+    sink: &mut K,
+    notes: &mut N,
+) -> Status {
     let Ok(mut piece) = vec![in alloc; 0u8; PIECE] else {
-        return Judged::NoMemory;
+        return Status::NoMemory;
     };
     let mut begun = Vec::new(alloc);
-    let mut judge = Judge::new(alloc, any_order);
     for _ in 0..u64::MAX {
         let count = match source.read(&mut piece) {
-            Ok(0) => return Judged::Verdict(judge.end(begun.as_slice())),
+            Ok(0) => return session.end(begun.as_slice(), sink, notes),
             Ok(count) => count,
-            Err(_) => return Judged::ReadFault,
+            Err(_) => return Status::ReadFault,
         };
-        match take_lines(&mut judge, &mut begun, &piece[..count]) {
-            Ok(None) => {}
-            Ok(Some(verdict)) => return Judged::Verdict(verdict),
-            Err(_) => return Judged::NoMemory,
+        let status = take_lines(session, &mut begun, &piece[..count], sink, notes);
+        if let Some(status) = status {
+            return status;
         }
     }
-    Judged::ReadFault
+    Status::ReadFault
 }

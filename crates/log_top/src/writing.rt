@@ -1,7 +1,7 @@
 //! A verdict as text.
 
 use itoa::Buffer;
-use log_verdict::Verdict;
+use log_verdict::{Taken, Verdict};
 use log_words::Flaw;
 use ptl_types::NoMemory;
 use std::alloc::Global;
@@ -64,6 +64,45 @@ pub(crate) fn verdict_text(alloc: Global, verdict: &Verdict) -> Result<Vec<u8>, 
         }
     }
     out.push(b'\n')?;
+    Ok(out)
+}
+
+/// A line of a log with an answer behind it, where one is owed.
+pub(crate) fn filled_line(alloc: Global, line: &[u8], owed: &[u8]) -> Result<Vec<u8>, NoMemory> {
+    let mut out = line.to_vec(alloc)?;
+    if !owed.is_empty() {
+        if !line.ends_with(b" ->") {
+            out.extend_from_slice(b" ->")?;
+        }
+        out.extend_from_slice(owed)?;
+    }
+    out.push(b'\n')?;
+    Ok(out)
+}
+
+/// The line that answers a line.
+pub(crate) fn served_text(alloc: Global, taken: &Taken) -> Result<Vec<u8>, NoMemory> {
+    let mut out = match taken {
+        Taken::Goes => b"ok".to_vec(alloc)?,
+        Taken::Owes(owed) => match owed.as_slice().split_first() {
+            Some((_, words)) => words.to_vec(alloc)?,
+            None => Vec::new(alloc),
+        },
+        Taken::Ends(verdict) => verdict_line(alloc, verdict)?,
+    };
+    out.push(b'\n')?;
+    Ok(out)
+}
+
+/// A verdict on one line, without its end.
+fn verdict_line(alloc: Global, verdict: &Verdict) -> Result<Vec<u8>, NoMemory> {
+    let mut out = verdict_text(alloc, verdict)?;
+    let _ = out.pop();
+    for byte in out.as_mut_slice() {
+        if *byte == b'\n' {
+            *byte = b' ';
+        }
+    }
     Ok(out)
 }
 

@@ -1,8 +1,9 @@
 //! The verdict, line by line.
 
+use crate::answering::Step;
 use crate::scenes::Scene;
-use crate::steps::{Step, line_step};
-use coll_text::{is, number_between};
+use crate::steps::line_step;
+use coll_text::{cut, is, number_between};
 use log_lines::{LONGEST_LINE, Line, read_line};
 use log_words::Flaw;
 use ptl_types::NoMemory;
@@ -35,6 +36,17 @@ pub enum Verdict {
     },
 }
 
+/// What became of a line.
+#[derive(Drop)]
+pub enum Taken {
+    /// The log goes on.
+    Goes,
+    /// The log goes on, and this is owed as the answer of the call, each word behind a space. It comes only where answers are filled in.
+    Owes(Vec<u8>),
+    /// The verdict, whatever follows.
+    Ends(Verdict),
+}
+
 /// Which line is due.
 #[derive(Clone, Copy, PartialEq, Eq)]
 enum Stage {
@@ -44,10 +56,24 @@ enum Stage {
     Ended,
 }
 
-/// Judges a log, a line at a time. It holds what the log's interfaces hold, and nothing of the lines before.
+/// How many ranks a line `ranks N` says.
+fn ranks_in(line: &[u8]) -> Option<u32> {
+    let (key, number) = cut(line, b' ');
+    if !is(key, b"ranks") {
+        return None;
+    }
+    match number {
+        Some(number) => number_between(1, u32::MAX, number),
+        None => None,
+    }
+}
+
+/// Judges a log, a line at a time, or fills in the answers of its calls. It holds what the log's interfaces hold, and nothing of the lines
+/// before.
 #[derive(Drop)]
 pub struct Judge {
     alloc: Global,
+    fills: bool,
     stage: Stage,
     line: u64,
     calls: u64,
@@ -59,11 +85,20 @@ impl Judge {
     pub fn new(alloc: Global, any_order: bool) -> Judge {
         Judge {
             alloc,
+            fills: false,
             stage: Stage::Header,
             line: 0,
             calls: 0,
             scene: Scene::new(alloc, 0, any_order),
         }
+    }
+
+    /// The same for a log whose calls have no answers: they are filled in. A new thing is called by its sort (`c`, `q`, `d`, `m`) and how
+    /// many of them its interface made before, a message `w` and how many were sent before.
+    pub fn filling(alloc: Global, any_order: bool) -> Judge {
+        let mut judge = Judge::new(alloc, any_order);
+        judge.fills = true;
+        judge
     }
 
     /// The refusal of the line that was taken last.
@@ -75,77 +110,91 @@ impl Judge {
         }
     }
 
-    /// `ni 1`, and `ranks N`.
-    fn head(&mut self, line: &[u8]) -> Option<Verdict> {
-        if self.stage == Stage::Header {
+    /// The same as what became of it.
+    fn refused(&self, column: usize, flaw: Flaw) -> Taken {
+        Taken::Ends(self.refusal(column, flaw))
+    }
+
+    /// `ni 1`.
+    fn header(&mut self, line: &[u8]) -> Taken {
+        if is(line, b"ni 1") {
             self.stage = Stage::Ranks;
-            return if is(line, b"ni 1") {
-                None
-            } else {
-                Some(self.refusal(1, Flaw::BadHeader))
-            };
-        }
-        self.stage = Stage::Body;
-        let (key, ranks) = coll_text::cut(line, b' ');
-        match ranks.and_then(|ranks| number_between(1, u32::MAX, ranks)) {
-            Some(ranks) if is(key, b"ranks") => {
-                self.scene.ranks = ranks;
-                None
-            }
-            _ => Some(self.refusal(1, Flaw::BadHeader)),
+            Taken::Goes
+        } else {
+            self.refused(1, Flaw::BadHeader)
         }
     }
 
-    /// A line of the body.
-    fn body(&mut self, line: &[u8]) -> Result<Option<Verdict>, NoMemory> {
-        let read = match read_line(line) {
-            Ok(read) => read,
-            Err(fault) => return Ok(Some(self.refusal(fault.column, fault.flaw))),
+    /// `ranks N`.
+    fn ranks(&mut self, line: &[u8]) -> Taken {
+        let Some(ranks) = ranks_in(line) else {
+            return self.refused(1, Flaw::BadHeader);
         };
-        match line_step(self.alloc, &mut self.scene, &read)? {
+        self.scene.ranks = ranks;
+        self.stage = Stage::Body;
+        Taken::Goes
+    }
+
+    /// One call more, where the line is one.
+    fn count(&mut self, line: &Line) {
+        if matches!(line, Line::Calls(_, _, _)) {
+            self.calls = self.calls.saturating_add(1);
+        }
+    }
+
+    /// What became of a line.
+    fn became(&mut self, line: &Line, step: Step) -> Taken {
+        match step {
             Step::Goes => {
-                if matches!(read, Line::Calls(_, _, _)) {
-                    self.calls = self.calls.saturating_add(1);
-                }
-                Ok(None)
+                self.count(line);
+                Taken::Goes
             }
-            Step::Refused(fault) => Ok(Some(self.refusal(fault.column, fault.flaw))),
-            Step::Differs(column, said, owed) => Ok(Some(Verdict::Differs {
+            Step::Owes(text) => {
+                self.count(line);
+                Taken::Owes(text)
+            }
+            Step::Refused(fault) => self.refused(fault.column, fault.flaw),
+            Step::Differs(column, said, owed) => Taken::Ends(Verdict::Differs {
                 line: self.line,
                 column,
                 said,
                 owed,
-            })),
+            }),
         }
     }
 
-    /// Takes the next line, without its LF. An answer is the verdict, whatever follows.
+    /// A line of the body.
+    fn body(&mut self, line: &[u8]) -> Result<Taken, NoMemory> {
+        if is(line, b"end") {
+            self.stage = Stage::Ended;
+            return Ok(Taken::Goes);
+        }
+        let read = match read_line(line) {
+            Ok(read) => read,
+            Err(fault) => return Ok(self.refused(fault.column, fault.flaw)),
+        };
+        let step = line_step(self.alloc, &mut self.scene, self.fills, &read)?;
+        Ok(self.became(&read, step))
+    }
+
+    /// Takes the next line, without its LF. A line that is refused changes nothing but the number of lines.
     ///
     /// # Errors
     ///
     /// There was no memory; there is no verdict then.
-    pub fn take(&mut self, line: &[u8]) -> Result<Option<Verdict>, NoMemory> {
+    pub fn take(&mut self, line: &[u8]) -> Result<Taken, NoMemory> {
         self.line = self.line.saturating_add(1);
         if self.stage == Stage::Ended {
-            return Ok(Some(self.refusal(1, Flaw::AfterEnd)));
+            return Ok(self.refused(1, Flaw::AfterEnd));
         }
         if line.len() > LONGEST_LINE {
-            return Ok(Some(self.refusal(LONGEST_LINE + 1, Flaw::TooLong)));
+            return Ok(self.refused(LONGEST_LINE + 1, Flaw::TooLong));
         }
-        if self.stage != Stage::Body {
-            return Ok(self.head(line));
+        match self.stage {
+            Stage::Header => Ok(self.header(line)),
+            Stage::Ranks => Ok(self.ranks(line)),
+            _ => self.body(line),
         }
-        if is(line, b"end") {
-            self.stage = Stage::Ended;
-            return Ok(None);
-        }
-        self.body(line)
-    }
-
-    /// The verdict where the text is too long to be judged whole.
-    pub fn cut(&mut self) -> Verdict {
-        self.line = self.line.saturating_add(1);
-        self.refusal(1, Flaw::TooLong)
     }
 
     /// The verdict at the end of the text, where none was given before. `rest` are the bytes behind the last LF.

@@ -5,9 +5,11 @@
 #![tactic(auto)]
 
 mod after;
+mod answering;
 mod answers;
 mod bytes;
 mod entries;
+mod filling;
 mod judge;
 mod operations;
 mod scenes;
@@ -17,4 +19,4 @@ mod starts;
 mod steps;
 mod tables;
 
-pub use judge::{Judge, Verdict};
+pub use judge::{Judge, Taken, Verdict};

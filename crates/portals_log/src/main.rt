@@ -1,4 +1,4 @@
-//! The program: judges the log of a device that comes by standard input.
+//! The program: judges the log of a device that comes by standard input, or fills in the answers that are owed.
 #![tactic(auto)]
 
 use log_top::{Status, log_main};

@@ -1,7 +1,7 @@
 //! Verdicts on small logs, worked out by hand from the grammar and the profile.
 
 use coll_text::cut;
-use log_verdict::{Judge, Verdict};
+use log_verdict::{Judge, Taken, Verdict};
 use log_words::Flaw;
 use std::alloc::Global;
 use std::process::Abort;
@@ -14,7 +14,7 @@ fn verdict(rt: &impl Abort, alloc: Global, text: &[u8]) -> Verdict {
         let (line, Some(after)) = cut(rest, b'\n') else {
             return judge.end(rest);
         };
-        if let Some(verdict) = judge.take(line).expect(rt, "memory") {
+        if let Taken::Ends(verdict) = judge.take(line).expect(rt, "memory") {
             return verdict;
         }
         rest = after;
