@@ -1,0 +1,5 @@
+pub mod Unlike
+pub mod Lengths
+pub mod Reading
+pub mod Wording
+pub mod Answering
