@@ -5,7 +5,7 @@ use Rattle.std.proofs.lemmas.Bool.{cases_Bool, cases_eq}
 use Rattle.std.proofs.lemmas.List.{set-get_or}
 use Rattle.ptl_types.specs.Messages.{Sent}
 use Rattle.ptl_types.specs.declared.headers.Lane.{Lane}
-use Rattle.ptl_types.specs.declared.headers.Lane.TheVariants.{Request, Answer}
+use Rattle.ptl_types.specs.declared.headers.Lane.TheVariants.{Request}
 use Rattle.ni_model.specs.Conditions.{IsKept}
 use Rattle.pair_wires.specs.Lanes.{Plain, plain}
 use Rattle.plan_calls.specs.Lanes.{is_used_lane}

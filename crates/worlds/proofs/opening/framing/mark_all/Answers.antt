@@ -1,5 +1,5 @@
 -- The counts and the gates, one after the other.
-use Rattle.std.proofs.Common.{◌<◌, ◌≡◌, ◌∙◌, ap, arith, length, refl, subst, sym}
+use Rattle.std.proofs.Common.{◌<◌, ◌∙◌, ap, arith, length, refl, subst, sym}
 use Rattle.std.proofs.lemmas.List.{length-map}
 use Rattle.worlds.specs.parts.Marks.{firing_count, start_count}
 use Rattle.worlds.proofs.opening.Begun.{counted_at}

@@ -1,5 +1,5 @@
 -- The parts are a world of which nothing was done.
-use Rattle.std.proofs.Common.{ℕ, ◌*◌, ◌<◌, ◌≤◌, ◌≡◌, ◌∙◌, List, length, map, replicate, ap, refl, subst, sym, arith}
+use Rattle.std.proofs.Common.{ℕ, ◌*◌, ◌<◌, ◌≤◌, ◌≡◌, ◌∙◌, length, map, replicate, ap, refl, subst, sym, arith}
 use Rattle.schedule_compiler.specs.Schedules.{ScheduleOf}
 use Rattle.ptl_types.specs.declared.headers.Lane.{Lane}
 use Rattle.plan_core.specs.Sound.{SoundPlan, AreInputsOf}
