@@ -7,7 +7,7 @@ ghost use Rattle.engine_cases.specs.Few.{HadFew};
 use crate::answers::gives;
 use chain_list::Steps;
 use match_lists::Lists;
-use ptl_types::{Entry, Handle, Header, List};
+use ptl_types::{Entry, Handle, Header, List, NoMemory};
 use std::alloc::Global;
 use std::marker::Brand;
 use std::process::Abort;
@@ -41,13 +41,25 @@ const THIRD: Handle = Handle { slot: 2, stamp: 2 };
 
 const FOURTH: Handle = Handle { slot: 3, stamp: 3 };
 
+/// Two lists of a test's own.
+struct Own {
+    lists: Lists,
+}
+
+// Written out, so that letting one go is one call: docs/DECISIONS.md, "Large types have a drop of their own".
+impl Drop for Own {
+    fn drop(self) {
+        let Own { lists: _ } = self;
+    }
+}
+
 /// Two empty lists.
-fn opened(alloc: Global, limit: u32, slots: u32) -> Result<Lists, Fail>
-    ensures few { IfOk result (λ l. HadFew 0 l) }
-    ensures limit { IfOk result (λ l. l.limit ≡ limit) }
-    ensures slots { IfOk result (λ l. l.slots ≡ slots) }
+fn opened(alloc: Global, limit: u32, slots: u32) -> Result<Own, NoMemory>
+    ensures empty { IfOk result (λ o. o.lists ≡ both [] [] limit slots 0) }
+    ensures few { IfOk result (λ o. HadFew 0 o.lists) }
 {
-    Ok(Lists::open(alloc, limit, slots)?)
+    let lists = Lists::open(alloc, limit, slots)?;
+    Ok(Own { lists })
 }
 
 /// Links an entry under the slot after those of the earlier ones. All that a test then knows of the lists is how many there were.
@@ -79,8 +91,8 @@ fn found_and_unlinked<L: Ledger>(rt: &impl Abort, lists: &mut Lists, steps: &mut
 
 /// Two lists are empty at first.
 fn begin_empty(rt: &impl Abort, alloc: Global) -> Result<(), Fail> {
-    let lists = Lists::open(alloc, 2, 3)?;
-    gives!(rt; lists.is_empty(), true);
+    let own = opened(alloc, 2, 3)?;
+    gives!(rt; own.lists.is_empty(), true);
     Ok(())
 }
 
@@ -101,8 +113,8 @@ fn in_two_lists<L: Ledger>(
     steps: &mut Steps<L>,
 ) -> Result<(), Fail> {
     begin_empty(rt, alloc)?;
-    let mut lists = opened(alloc, 2, 3)?;
-    one_in_each(rt, &mut lists, steps);
+    let mut own = opened(alloc, 2, 3)?;
+    one_in_each(rt, &mut own.lists, steps);
     Ok(())
 }
 
@@ -187,9 +199,9 @@ fn in_three_lists<L: Ledger>(
     alloc: Global,
     steps: &mut Steps<L>,
 ) -> Result<(), Fail> {
-    let mut lists = opened(alloc, 4, 4)?;
-    link_three(&mut lists, steps);
-    first_of_three(rt, &mut lists, steps);
+    let mut own = opened(alloc, 4, 4)?;
+    link_three(&mut own.lists, steps);
+    first_of_three(rt, &mut own.lists, steps);
     Ok(())
 }
 
@@ -206,9 +218,9 @@ fn in_turned_lists<L: Ledger>(
     alloc: Global,
     steps: &mut Steps<L>,
 ) -> Result<(), Fail> {
-    let mut lists = opened(alloc, 4, 4)?;
-    link_turned(&mut lists, steps);
-    first_of_turned(rt, &mut lists, steps);
+    let mut own = opened(alloc, 4, 4)?;
+    link_turned(&mut own.lists, steps);
+    first_of_turned(rt, &mut own.lists, steps);
     Ok(())
 }
 
@@ -260,9 +272,9 @@ fn taken_in_turn<L: Ledger>(
     header: &Header,
     steps: &mut Steps<L>,
 ) -> Result<(), Fail> {
-    let mut lists = opened(alloc, 4, 4)?;
-    link_four(&mut lists, entries, steps);
-    take_in_turn(rt, &mut lists, header, steps);
+    let mut own = opened(alloc, 4, 4)?;
+    link_four(&mut own.lists, entries, steps);
+    take_in_turn(rt, &mut own.lists, header, steps);
     Ok(())
 }
 
@@ -358,9 +370,9 @@ fn in_one_place<L: Ledger>(rt: &impl Abort, alloc: Global, blank: Blank) -> Resu
     requires parts { blank.parts ≡ L.parts }
     requires one { blank.parts ≡ 1 }
 {
-    let mut lists = Lists::open(alloc, 1, 1)?;
+    let mut own = opened(alloc, 1, 1)?;
     let mut steps = Steps::<L>::start(blank);
-    a_thousand_times(rt, &mut lists, &mut steps);
+    a_thousand_times(rt, &mut own.lists, &mut steps);
     Ok(())
 }
 
