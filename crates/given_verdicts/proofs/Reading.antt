@@ -98,7 +98,8 @@ pub record IsPlanOf (ranks : ℕ) (text : List ℕ) (g : Given) : Type 0 where
   pub few : length g.marks ≤ length text + 1
 
 of_parts : (ranks : ℕ) (text : List ℕ) (remote : Bool) (cells : List Cell) (links : List Link) (done : List ℕ) (marks : List Mark)
-    (g : Given) → Ok {E = ℕ × GivenRefusal} (given ranks remote cells links done marks) ≡ Ok g → length marks ≤ length text + 1 → IsPlanOf ranks text g
+    (g : Given) → Ok {E = ℕ × GivenRefusal} (given ranks remote cells links done marks) ≡ Ok g → length marks ≤ length text + 1
+    → IsPlanOf ranks text g
 of_parts ranks text remote cells links done marks g e few =
     let f : given ranks remote cells links done marks ≡ g = cc in
     let m = ap (λ (v : Given). length v.marks) f in

@@ -29,6 +29,7 @@ pub use host::Host;
 pub use laws::{sim_owes_one_choice_text, sim_owes_one_text, sim_owes_one_text_of_any_bytes};
 pub use of_shapes::worlds_of_shapes;
 pub use ran::Ran;
+pub use reading::{ReadError, read_text};
 pub use status::Status;
 pub use top::{begin, portals_main, run_with_gate};
 pub use words::{Command, Format, Mode, Request, Task};

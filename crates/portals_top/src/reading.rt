@@ -11,7 +11,7 @@ use std::alloc::Global;
 
 /// Why a text wasn't read.
 #[derive(Clone, Copy, Debug, PartialEq, Eq)]
-pub(crate) enum ReadError {
+pub enum ReadError {
     /// The source failed.
     Failed,
     /// There was no memory for the text.
@@ -46,7 +46,7 @@ fn read_piece<S: Source>(
 }
 
 /// Reads until the source's end, or until it gave one byte more than the longest text has.
-pub(crate) fn read_text<S: Source>(
+pub fn read_text<S: Source>(
     alloc: Global,
     longest: usize,
     source: &mut S,

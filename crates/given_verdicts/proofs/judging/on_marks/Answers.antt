@@ -13,7 +13,8 @@ judge_marks-requires-clause-sound c =
     let p = c.args.given.now.plan in
     let inputs = c.shape-shape.ensures.readable.given in
     let g : IsGiven p d.inputs =
-    c.judged_plans.ensures p d.inputs (lengths_of d.shape) c.requires.flawless (input_lists d.shape d.inputs p.ranks c.requires.ranks inputs) in
+    c.judged_plans.ensures p d.inputs (lengths_of d.shape) c.requires.flawless
+    (input_lists d.shape d.inputs p.ranks c.requires.ranks inputs) in
     rw (c.plan-plan.ensures, c.shape-shape.ensures.shape) (subst (λ n. SoundPlan p n) inputs.many g.sound)
 
 pub judge_marks-requires-clause-few_marks : goal.judge_marks-requires-clause-few_marks
