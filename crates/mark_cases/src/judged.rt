@@ -1,11 +1,8 @@
 //! From a text to what is at fault in its lines.
 
-ghost use Rattle.std.specs.Prelude.{◌≡◌, ◌<◌, ◌+◌, ◌-◌, ◌^◌, IfOk, length};
-
 use coll_lang::Description;
 use given_lines::{GivenFault, GivenPlan, read_given};
 use mark_judge::{MarkFlaw, judge_marks, line_of};
-use plan_core::{Cell, Link, Plan};
 use plan_judge::{judge, no_flaw};
 use ptl_types::NoMemory;
 use std::alloc::Global;
@@ -24,53 +21,30 @@ pub enum Found {
     NoMemory,
 }
 
-/// The plan of these cells, of which the first are the go cells of so many ranks, and of these links.
-fn plan_of(
-    alloc: Global,
-    ranks: u32,
-    remote: bool,
-    cells: &[Cell],
-    links: &[Link],
-) -> Result<Plan, NoMemory> {
-    let mut plan = Plan::open(alloc, ranks, remote, 0, 0)?;
-    for (place, cell) in cells.iter().enumerate() {
-        if place >= ranks as usize && plan.cells().len() < 1000 {
-            plan.add_cell(*cell)?;
-        }
-    }
-    for link in links {
-        if plan.links().len() < 1000 {
-            plan.add_link(*link)?;
-        }
-    }
-    Ok(plan)
-}
-
 /// What is found of a plan whose text begins with line `first`, for a description with one input of one byte.
-fn judged(
+fn judged_lines(
     alloc: Global,
     d: &Description,
     given: &GivenPlan,
     first: u32,
 ) -> Result<Found, NoMemory> {
     let shape = d.shape();
-    let plan = plan_of(
-        alloc,
-        given.ranks(),
-        given.remote(),
-        given.cells(),
-        given.links(),
-    )?;
+    let plan = given.plan();
+    let marks = given.marks();
+    let inputs = shape.input_count();
+    if inputs != 1 || marks.len() >= 1000 {
+        return Ok(Found::Unread);
+    }
+    if plan.cells().len() >= 1000 || plan.links().len() >= 1000 {
+        return Ok(Found::Unread);
+    }
     no_flaw();
-    let few = plan.cells().len() < 1000 && plan.links().len() < 1000 && given.marks().len() < 1000;
-    if !few || shape.input_count() != 1 {
+    let flaw = judge(alloc, plan, &[1])?;
+    if flaw.is_some() {
         return Ok(Found::Unread);
     }
-    if judge(alloc, &plan, &[1])?.is_some() {
-        return Ok(Found::Unread);
-    }
-    match judge_marks(alloc, &plan, shape, given.done(), given.marks())? {
-        Some(flaw) => Ok(Found::Judged(Some((line_of(first, &plan, given.marks(), flaw), flaw)))),
+    match judge_marks(alloc, plan, shape, given.done(), marks)? {
+        Some(flaw) => Ok(Found::Judged(Some((line_of(first, plan, marks, flaw), flaw)))),
         None => Ok(Found::Judged(None)),
     }
 }
@@ -90,7 +64,7 @@ pub fn answer_to(alloc: Global, d: &Description, first: u32, text: &str) -> Foun
         first,
         text.as_bytes(),
     ) {
-        Ok(given) => match judged(alloc, d, &given, first) {
+        Ok(given) => match judged_lines(alloc, d, &given, first) {
             Ok(found) => found,
             Err(_) => Found::NoMemory,
         },

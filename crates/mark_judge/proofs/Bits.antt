@@ -1,17 +1,15 @@
 -- Words of bits: which entries lie in a cell, and which lead to it.
-use Rattle.std.proofs.Common.{ℕ, zero, suc, Bool, true, false, not, ◌&&◌, ◌||◌, ◌≡◌, ◌≢◌, ◌+◌, ◌-◌, ◌*◌, ◌/◌, ◌%◌, ◌^◌, ◌<◌, ◌≤◌, ◌==◌}
-use Rattle.std.proofs.Common.{List}
-use Rattle.std.proofs.Common.{◌⊎◌, [], ◌∷◌, ◌++◌, refl, ap, ap₂, ◌∙◌, sym, length, get_or, set, replicate, ltb, max, map, inl, inr, arith}
+use Rattle.std.proofs.Common.{ℕ, Bool, ◌&&◌, ◌||◌, ◌≡◌, ◌+◌, ◌*◌, ◌%◌, ◌^◌, ◌<◌, ◌≤◌, ◌==◌, List}
+use Rattle.std.proofs.Common.{[], ◌∷◌, ◌++◌, ap, ap₂, ◌∙◌, sym, length, get_or, set, ltb, max, inl, inr, arith}
 use Rattle.std.specs.Int.{bit_at, w64}
 use Rattle.std.specs.Int.RustNames.{bit_or}
 use Rattle.std.specs.List.{list_any}
 use Rattle.std.proofs.lemmas.Bool.{cases_eq, cases_lt, eq-eqb, le-ltb, lt-ltb, ne_eqb, or_left, or_right}
-use Rattle.std.proofs.lemmas.List.{get_or-replicate, get_or-set_other, get_or-set_same, get_or_append_left, get_or_past, get_or_push}
-use Rattle.std.proofs.lemmas.List.{length-replicate}
-use Rattle.std.proofs.lemmas.Nat.Bits.{bit_at-lt, bit_at-zero, bit_at_or, bit_at_set_other, bit_at_set_same}
+use Rattle.std.proofs.lemmas.List.{get_or-set_other, get_or-set_same, get_or_append_left, get_or_push}
+use Rattle.std.proofs.lemmas.Nat.Bits.{bit_at-lt, bit_at_or, bit_at_set_other, bit_at_set_same}
 use Rattle.mark_judge.specs.declared.entries.Entry.{Entry}
 use Rattle.mark_judge.specs.Leading.{leads}
-use Rattle.mark_judge.specs.Tables.{AreBegun, AreReached, entry_at, has_bit}
+use Rattle.mark_judge.specs.Tables.{AreBegun, entry_at, has_bit}
 use Rattle.mark_judge.proofs.Chains.{Rising, from_below, leads_step}
 use Rattle.mark_judge.proofs.Tests.{and-false, and-true, any_same, or-false, or_assoc}
 use Rattle.plan_core.specs.Plan.{Plan, in_links, link}
@@ -37,17 +35,6 @@ bits_with a k j h =
       | inr ne ↦ ap (λ v. v == 1) (bit_at_set_other w64 a k h j ne)
           ∙ sym (ap (λ t. has_bit a j || t) (ne_eqb j k ne) ∙ or-false (has_bit a j))
     ]
-
-pub no_bit : (n c j : ℕ) → has_bit (get_or (replicate n 0) c 0) j ≡ false
-no_bit n c j =
-    ap (λ v. has_bit v j) zero_there ∙ ap (λ v. v == 1) (bit_at-zero j)
-  where
-    zero_there : get_or (replicate n 0) c 0 ≡ 0
-    zero_there =
-        elim (cases_lt c n) [
-          | inl h ↦ get_or-replicate n c 0 0 h
-          | inr h ↦ get_or_past (replicate n 0) c 0 (let e = length-replicate n 0 in omega (arith, e, h))
-        ]
 
 -- ---- which entries lie in a cell
 -- entry k is noted at its cell

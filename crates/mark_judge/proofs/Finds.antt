@@ -1,6 +1,5 @@
 -- What is found first in a list, one member more at a time.
-use Rattle.std.proofs.Common.{ℕ, zero, suc, Bool, true, false, ◌≡◌, ◌+◌, ◌<◌, ◌≤◌, List, [], ◌∷◌, ◌++◌, Option, Some, None, refl, ap, ◌∙◌}
-use Rattle.std.proofs.Common.{sym}
+use Rattle.std.proofs.Common.{ℕ, true, false, ◌≡◌, ◌+◌, ◌<◌, ◌≤◌, List, [], ◌∷◌, ◌++◌, Option, Some, None, refl, ap, ◌∙◌, sym}
 use Rattle.std.proofs.Common.{length, get_or, take, drop, inl, inr, arith}
 use Rattle.std.specs.Option.{is_some, option_or}
 use Rattle.std.proofs.lemmas.List.{drop_more, take-append-drop, take_all, take_more}
@@ -65,3 +64,23 @@ pub found_same_below : {B : Type 0} (f g : ℕ → Option B) (n : ℕ) → ((k :
     → first_found f (from_to 0 n) ≡ first_found g (from_to 0 n)
 found_same_below f g n same =
     found_same f g (from_to 0 n) (λ k i. let r = from_to-In 0 n k i in same k (omega (arith, r.1)))
+
+-- ---- four things one after the other
+module _ {A : Type 0} (one two three four : Option A) where
+  pub at_second : (x : Option A) → one ≡ None → x ≡ two → is_some x ≡ true → x ≡ option_or one (option_or two (option_or three four))
+  at_second x a e some =
+      e ∙ sym (some_or two (option_or three four) (ap is_some (sym e) ∙ some))
+      ∙ sym (clear_or one (option_or two (option_or three four)) a)
+
+  pub at_third : (x : Option A) → one ≡ None → two ≡ None → x ≡ three → is_some x ≡ true
+      → x ≡ option_or one (option_or two (option_or three four))
+  at_third x a b e some =
+      e ∙ sym (some_or three four (ap is_some (sym e) ∙ some))
+      ∙ sym (clear_or two (option_or three four) b)
+      ∙ sym (clear_or one (option_or two (option_or three four)) a)
+
+  pub at_fourth : one ≡ None → two ≡ None → three ≡ None → four ≡ option_or one (option_or two (option_or three four))
+  at_fourth a b c =
+      sym (clear_or three four c)
+      ∙ sym (clear_or two (option_or three four) b)
+      ∙ sym (clear_or one (option_or two (option_or three four)) a)

@@ -1,6 +1,5 @@
 -- What a line is for, and its cell: tests and facts.
-use Rattle.std.proofs.Common.{ℕ, zero, suc, Bool, true, false, ◌&&◌, ◌≡◌, ◌+◌, ◌<◌, ◌≤◌, ◌==◌, List, length, get_or, ltb, refl, ap, ◌∙◌}
-use Rattle.std.proofs.Common.{sym, arith}
+use Rattle.std.proofs.Common.{ℕ, true, ◌&&◌, ◌≡◌, ◌<◌, ◌==◌, length, ltb, refl, ap, ◌∙◌, sym, arith}
 use Rattle.std.proofs.lemmas.Bool.{and_from, and_parts, eqb-true, eq-eqb, false≢true, lt-ltb, ltb-true}
 use Rattle.coll_shape.specs.Collectives.{is_in}
 use Rattle.coll_shape.specs.Outline.{Outline, buffer_at, group_at, list_bytes, step_at}
@@ -12,7 +11,7 @@ use Rattle.given_lines.specs.declared.given.Mark.{Mark}
 use Rattle.given_lines.specs.declared.given.Mark.TheVariants as marks
 use Rattle.mark_judge.specs.declared.flaw.Due.{Due}
 use Rattle.mark_judge.specs.declared.flaw.Due.TheVariants.{Result, Enter, Leave}
-use Rattle.mark_judge.specs.Due.{cell_of, does_fit, due_of, is_barrier, is_barrier_at, is_due, is_good, is_list_of, is_on}
+use Rattle.mark_judge.specs.Due.{does_fit, due_of, is_barrier, is_barrier_at, is_due, is_good, is_list_of, is_on}
 use Rattle.mark_judge.specs.Marked.{DoesFit, IsDue, IsMember, IsOn}
 use Rattle.mark_judge.specs.Tables.{is_small}
 use Rattle.mark_judge.proofs.Tests.{get_or-In}

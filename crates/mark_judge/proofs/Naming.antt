@@ -1,18 +1,14 @@
 -- The table of what has a line.
-use Rattle.std.proofs.Common.{ℕ, zero, suc, Bool, true, false, cond, not, ◌&&◌, ◌||◌, ◌≡◌, ◌+◌, ◌*◌, ◌<◌, ◌≤◌, ◌==◌, List, [], ◌∷◌, Option}
-use Rattle.std.proofs.Common.{Some, None}
+use Rattle.std.proofs.Common.{ℕ, Bool, true, false, cond, not, ◌&&◌, ◌||◌, ◌≡◌, ◌+◌, ◌*◌, ◌<◌, ◌==◌, List, [], Some, None}
 use Rattle.std.proofs.Common.{refl, ap, ap₂, ◌∙◌, sym, length, get_or, set, take, ltb, inl, inr, arith}
-use Rattle.std.specs.List.{list_any}
 use Rattle.std.proofs.lemmas.Bool.{and_from, and_left, and_parts, cases_Bool, cases_eq, eqb-true, eq-eqb, false_from_ne_true, false≢true}
-use Rattle.std.proofs.lemmas.Bool.{ltb-true}
-use Rattle.std.proofs.lemmas.Bool.{and_right, or_right}
+use Rattle.std.proofs.lemmas.Bool.{and_right, ltb-true, or_right}
 use Rattle.std.proofs.lemmas.List.{get_or-set_other, get_or-set_same}
 use Rattle.std.proofs.lemmas.List.Folds.{list_any_more}
 use Rattle.coll_shape.specs.Outline.{Outline}
 use Rattle.given_lines.specs.declared.given.Mark.{Mark}
 use Rattle.mark_judge.specs.declared.flaw.Due.{Due}
 use Rattle.mark_judge.specs.declared.flaw.Due.TheVariants.{Result, Enter, Leave}
-use Rattle.mark_judge.specs.declared.flaw.MarkFlaw.{MarkFlaw}
 use Rattle.mark_judge.specs.declared.flaw.MarkFlaw.TheVariants.{BadResult}
 use Rattle.mark_judge.specs.Due.{due_of, is_good, is_named, is_same, mark_at, no_mark}
 use Rattle.mark_judge.specs.Judged.{line_flaw}

@@ -1,19 +1,17 @@
 -- Which lines are open ones: some entry into their step doesn't lead there.
-use Rattle.std.proofs.Common.{ℕ, zero, suc, Bool, true, false, cond, not, ◌&&◌, ◌||◌, ◌≡◌, ◌+◌, ◌<◌, ◌≤◌, ◌==◌, List, [], ◌∷◌, ◌++◌, refl}
-use Rattle.std.proofs.Common.{ap, ap₂}
+use Rattle.std.proofs.Common.{ℕ, Bool, true, false, cond, not, ◌&&◌, ◌||◌, ◌≡◌, ◌+◌, ◌<◌, ◌≤◌, ◌==◌, List, [], ◌∷◌, refl, ap, ap₂}
 use Rattle.std.proofs.Common.{◌∙◌, sym, length, get_or, set, take, drop, inl, inr, arith}
 use Rattle.std.specs.List.{list_any}
 use Rattle.std.proofs.lemmas.Bool.{cases_eq}
 use Rattle.std.proofs.lemmas.List.{get_or-set_other, get_or-set_same, length-set, take-append-drop}
 use Rattle.std.proofs.lemmas.List.Folds.{list_any-append}
-use Rattle.number_lists.specs.Numbers.{from_to}
 use Rattle.given_lines.specs.declared.given.Mark.{Mark}
 use Rattle.given_lines.specs.declared.given.Mark.TheVariants.{Result, Enter, Leave}
 use Rattle.mark_judge.specs.declared.entries.Entry.{Entry}
 use Rattle.mark_judge.specs.Due.{cell_of, mark_at}
 use Rattle.mark_judge.specs.Judged.{is_apart, is_open}
 use Rattle.mark_judge.specs.Leading.{leads}
-use Rattle.mark_judge.specs.Tables.{AreReached, does_lack, does_miss, entries_in, entry_at, has_bit, is_unmet, no_entry}
+use Rattle.mark_judge.specs.Tables.{AreReached, does_lack, does_miss, entries_in, entry_at, is_unmet, no_entry}
 use Rattle.mark_judge.proofs.Tests.{any_none, any_places, or-false, or_assoc}
 use Rattle.plan_core.specs.Plan.{Plan}
 

@@ -1,11 +1,10 @@
 -- No line is at fault exactly where the lines are those that the description asks for.
-use Rattle.std.proofs.Common.{ℕ, zero, suc, Bool, true, false, cond, not, ◌&&◌, ◌≡◌, ◌+◌, ◌<◌, ◌≤◌, ◌==◌, List, Option, Some, None, refl}
-use Rattle.std.proofs.Common.{ap, ◌∙◌}
+use Rattle.std.proofs.Common.{ℕ, Bool, true, false, cond, not, ◌&&◌, ◌≡◌, ◌<◌, ◌==◌, List, Option, Some, None, refl, ap, ◌∙◌}
 use Rattle.std.proofs.Common.{sym, subst, length, get_or, take, inl, inr, arith}
 use Rattle.std.specs.List.{list_any}
 use Rattle.std.specs.Option.{option_or}
-use Rattle.std.proofs.lemmas.Bool.{and_from, and_parts, cases_Bool, eqb-true, eq-eqb, false_from_ne_true, false≢true, not-false, not-true}
-use Rattle.std.proofs.lemmas.Bool.{not_from_false, not_from_true}
+use Rattle.std.proofs.lemmas.Bool.{and_from, and_parts, cases_Bool, eqb-true, eq-eqb, false_from_ne_true, false≢true, not-true}
+use Rattle.std.proofs.lemmas.Bool.{not_from_false}
 use Rattle.std.proofs.lemmas.List.{get_or-take, length-take-le}
 use Rattle.std.proofs.lemmas.List.Folds.{list_any_at}
 use Rattle.std.proofs.lemmas.Option.{none-some}
@@ -33,8 +32,7 @@ use Rattle.mark_judge.proofs.Tests.{In-any, In-get_or, any-In, any_none, get_or-
 use Rattle.plan_calls.specs.RankOps.{done_threshold}
 use Rattle.plan_core.specs.Members.{In}
 use Rattle.plan_core.specs.Plan.{Plan}
-use Rattle.plan_core.specs.Sound.{SoundPlan}
-use Rattle.plan_core.proofs.Links.{In-from_to, from_to-In}
+use Rattle.plan_core.proofs.Links.{In-from_to}
 use Rattle.plan_judge.specs.Causes.{first_found}
 use Rattle.plan_judge.proofs.Rows.{clear_or, found_none, none_found, or_clear}
 

@@ -1,5 +1,5 @@
 -- What is the first at fault in the lines after the links of a plan.
-use Rattle.std.specs.Prelude.{ℕ, Bool, true, false, not, ◌==◌, ◌&&◌, List, Option, Some, None, if◌then◌else◌, length, get_or, take}
+use Rattle.std.specs.Prelude.{ℕ, Bool, false, not, ◌==◌, ◌&&◌, List, Option, Some, None, if◌then◌else◌, length, get_or, take}
 use Rattle.std.specs.List.{list_any}
 use Rattle.std.specs.Option.{option_or}
 use Rattle.number_lists.specs.Numbers.{from_to}

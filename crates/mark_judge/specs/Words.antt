@@ -1,5 +1,5 @@
 -- Lines and words of faults.
-use Rattle.std.specs.Prelude.{ℕ, ◌+◌, List, length, codes}
+use Rattle.std.specs.Prelude.{ℕ, ◌+◌, List, length}
 use Rattle.given_lines.specs.declared.given.Mark.{Mark}
 use Rattle.mark_judge.specs.declared.flaw.MarkFlaw.{MarkFlaw}
 use Rattle.mark_judge.specs.declared.flaw.MarkFlaw.TheVariants.{BadDone, BadResult, NoResult, BarrierOpen}

@@ -1,5 +1,5 @@
 -- The first entry that lacks its bit settles it.
-use Rattle.std.proofs.Common.{length, ◌∙◌, sym, arith}
+use Rattle.std.proofs.Common.{length, sym, arith}
 use Rattle.mark_judge.specs.Tables.{does_lack}
 use Rattle.mark_judge.proofs.Tests.{any_below, none_below}
 use Rattle.mark_judge.proofs.entries.lacks_one.Goals as goal

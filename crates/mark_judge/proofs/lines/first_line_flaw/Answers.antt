@@ -1,5 +1,5 @@
 -- The first line that is at fault.
-use Rattle.std.proofs.Common.{◌≡◌, None, length, take, ap, ◌∙◌, sym, subst, arith}
+use Rattle.std.proofs.Common.{length, ◌∙◌, sym, subst, arith}
 use Rattle.std.proofs.lemmas.List.{take_all}
 use Rattle.mark_judge.specs.Judged.{line_flaw}
 use Rattle.mark_judge.specs.Tables.{AreNamed}

@@ -1,5 +1,5 @@
 -- The first buffer of which a result has no line.
-use Rattle.std.proofs.Common.{ℕ, Option, ◌∙◌, ap, sym, arith}
+use Rattle.std.proofs.Common.{ℕ, Option, ◌∙◌, ap, sym}
 use Rattle.coll_shape.specs.Outline.{Outline, buffer_at}
 use Rattle.mark_judge.specs.declared.flaw.Due.{Due}
 use Rattle.mark_judge.specs.declared.flaw.Due.TheVariants.{Result}
