@@ -128,16 +128,16 @@ abbrev pub swaps : GetArgs → Handle → ℕ → ℕ → SwapOp → ElemType �
 swaps back md at told op ty operand = Swap back (sent_with back md at told) op ty operand
 
 abbrev pub Starts : TriggeredOp → State → State → Result Sent CallFault → Type 0
-Starts deed s t r =
-    Guards (start_misuse deed s.ranks s.limits) s t (λ a. MayLackMemory (start deed s) s (ends t (as_started a))) r
+Starts action s t r =
+    Guards (start_misuse action s.ranks s.limits) s t (λ a. MayLackMemory (start action s) s (ends t (as_started a))) r
 
 abbrev pub Posts : TriggeredOp → Handle → ℕ → State → State → Result ℕ CallFault → Type 0
-Posts deed ct threshold s t r =
-    Guards (start_misuse deed s.ranks s.limits) s t (λ a. MayLackMemory (triggered deed ct threshold s) s (ends t a)) r
+Posts action ct threshold s t r =
+    Guards (start_misuse action s.ranks s.limits) s t (λ a. MayLackMemory (triggered action ct threshold s) s (ends t a)) r
 
 -- a triggered operation, whose number goes out
 abbrev pub PostsTold : TriggeredOp → Handle → ℕ → ℕ → ℕ → Option State → Option State → ℕ → Type 0
-PostsTold deed ct threshold old new before after status = Called (Posts deed ct threshold) fault_number one_number old new before after
+PostsTold action ct threshold old new before after status = Called (Posts action ct threshold) fault_number one_number old new before after
     status
 
 -- with less room than for the longest message the call isn't made
@@ -147,8 +147,8 @@ Roomy false old new s t status made = made
 
 -- a start, whose message is handed out
 abbrev pub Sends : TriggeredOp → CMessage × List ℕ → CMessage × List ℕ → Option State → Option State → ℕ → Type 0
-Sends deed old new before after status =
-    Over (λ s t. Roomy (nat_lt (length old.1) s.limits.msg) old new s t status (Tells (Starts deed s t) fault_number handed old new status))
+Sends action old new before after status =
+    Over (λ s t. Roomy (nat_lt (length old.1) s.limits.msg) old new s t status (Tells (Starts action s t) fault_number handed old new status))
     old new before after status
 
 -- ---- what is ready, and what arrives

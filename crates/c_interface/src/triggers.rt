@@ -21,16 +21,16 @@ use std::alloc::Global;
 fn post(
     alloc: Global,
     ni: &mut NiHandle,
-    deed: TriggeredOp,
+    action: TriggeredOp,
     trig_ct: CHandle,
     threshold: u64,
     number: &mut u32,
 ) -> u32
-    ensures { PostsTold deed (handle_of trig_ct) threshold number.old number.new (held ni.old) (held ni.new) result }
+    ensures { PostsTold action (handle_of trig_ct) threshold number.old number.new (held ni.old) (held ni.new) result }
 {
     match ni.take(alloc) {
         Some(mut nic) => {
-            let made = guarded_ni::triggered(nic.as_mut(), deed, trig_ct.handle(), threshold);
+            let made = guarded_ni::triggered(nic.as_mut(), action, trig_ct.handle(), threshold);
             *ni = NiHandle::of(nic);
             guarded_number_out(made, number)
         }

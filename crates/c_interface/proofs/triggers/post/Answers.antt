@@ -9,7 +9,7 @@ use Rattle.c_interface.proofs.triggers.post.Goals as goal
 
 pub returns-in-Some : goal.returns-in-Some
 returns-in-Some c =
-    let made = λ (h : Handle). Posts c.args.deed h c.args.threshold in
+    let made = λ (h : Handle). Posts c.args.action h c.args.threshold in
     called (made (handle_of c.args.trig_ct)) fault_number one_number _ _ _ _ _
     c.as_mut.result.now c.triggered-made.new.nic c.triggered-made.result (ap Some c.as_mut.ensures.value ∙ c.in-Some.ensures.value)
     c.of.ensures
