@@ -148,7 +148,8 @@ Roomy false old new s t status made = made
 -- a start, whose message is handed out
 abbrev pub Sends : TriggeredOp → CMessage × List ℕ → CMessage × List ℕ → Option State → Option State → ℕ → Type 0
 Sends action old new before after status =
-    Over (λ s t. Roomy (nat_lt (length old.1) s.limits.msg) old new s t status (Tells (Starts action s t) fault_number handed old new status))
+    Over (λ s t. Roomy (nat_lt (length old.1) s.limits.msg) old new s t status
+    (Tells (Starts action s t) fault_number handed old new status))
     old new before after status
 
 -- ---- what is ready, and what arrives
