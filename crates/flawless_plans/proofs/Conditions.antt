@@ -1,5 +1,5 @@
 -- What a plan meets in which nothing is at fault.
-use Rattle.std.proofs.Common.{ℕ, ◌≡◌, ◌+◌, ◌*◌, ◌/◌, ◌%◌, ◌<◌, ◌≤◌, ◌^◌, List, [], length, map, get_or, refl, ap, ◌∙◌, sym, subst, arith}
+use Rattle.std.proofs.Common.{ℕ, ◌≡◌, ◌*◌, ◌/◌, ◌%◌, ◌<◌, ◌^◌, List, length, refl, ◌∙◌, sym, subst, arith}
 use Rattle.std.proofs.lemmas.Nat.{div_below, mod_below}
 use Rattle.coll_shape.specs.Meaning.{AreInputs}
 use Rattle.coll_shape.specs.Outline.{Outline, buffer_at, list_bytes}
@@ -13,7 +13,7 @@ use Rattle.mark_judge.proofs.Right.{judged_right}
 use Rattle.mark_judge.proofs.Tests.{get_or-In}
 use Rattle.plan_core.specs.Draw.{HeldCells}
 use Rattle.plan_core.specs.Members.{In}
-use Rattle.plan_core.specs.Plan.{Plan, cell}
+use Rattle.plan_core.specs.Plan.{Plan}
 use Rattle.plan_core.specs.Sound.{AreInputsOf, SoundPlan}
 use Rattle.plan_core.specs.Values.{Inputs}
 use Rattle.plan_judge.specs.Guards.{AreGuarded}

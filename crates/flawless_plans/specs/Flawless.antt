@@ -1,5 +1,5 @@
 -- A given plan in which nothing is at fault, and what then holds of its ranks.
-use Rattle.std.specs.Prelude.{ℕ, ◌≡◌, ◌<◌, List, Some, None, length, map}
+use Rattle.std.specs.Prelude.{ℕ, ◌≡◌, ◌<◌, List, Some, None, map}
 use Rattle.ptl_types.specs.Elements.{part}
 use Rattle.coll_shape.specs.Outline.{Outline, buffer_at, list_bytes}
 use Rattle.given_lines.specs.declared.given.Mark.{Mark}
