@@ -4,7 +4,7 @@ use denote.Struct.Declared.{shape}
 use Rattle.std.proofs.Crossing.{crosses}
 use Rattle.rank_node.proofs.Sent.{node-send}
 use Rattle.schedule_compiler.proofs.job.Job.TheSendSync as job
-use Rattle.rank_slots.specs.contracts.slot.TurnRank as slot
+use Rattle.rank_slots.specs.contracts.turn_rank.TurnRank as slot
 use Rattle.rank_slots.proofs.hints.Hints.TheSendSync as hints
 use Rattle.rank_slots.proofs.ports.InPort.TheSendSync as in_port
 use Rattle.rank_slots.proofs.ports.OutPort.TheSendSync as out_port

@@ -145,7 +145,7 @@ fn flush_one<R: Wait>(
     requires at { at < length outs.old.items }
     requires ends { AreEnds network.wires.now node.old.closed outs.old.items }
     ensures node { Regated node.old node.new }
-    ensures ends { AreEnds network.wires.now node.new.closed outs.new.items }
+    ensures ends { AreEnds network.entry.wires.now node.new.closed outs.new.items }
     ensures flushed { (p : OutPort) × (q : OutPort) × (get_elem? outs.old.items at ≡ some p) × Flushed p q ×
         (outs.new.items ≡ slice_set outs.old.items at q) × (q.end.waits ≡ false ↔ IsTrue result) }
 {
@@ -166,7 +166,7 @@ pub(crate) fn flush_all<R: Wait>(
 ) -> bool
     requires { AreEnds network.wires.now node.old.closed outs.old.items }
     ensures node { Regated node.old node.new }
-    ensures ends { AreEnds network.wires.now node.new.closed outs.new.items }
+    ensures ends { AreEnds network.entry.wires.now node.new.closed outs.new.items }
     ensures flushed { Pairwise Flushed outs.old.items outs.new.items }
     ensures free { IsTrue result → Each (λ (p : OutPort). p.end.waits ≡ false) outs.new.items }
 {
@@ -191,7 +191,7 @@ fn post<R: Wait>(
     requires ends { AreEnds network.wires.now node.old.closed outs.old.items }
     requires may { Each (MayPost (Some message)) outs.old.items }
     ensures node { Regated node.old node.new }
-    ensures ends { AreEnds network.wires.now node.new.closed outs.new.items }
+    ensures ends { AreEnds network.entry.wires.now node.new.closed outs.new.items }
     ensures posted { Pairwise (Posted (Some message)) outs.old.items outs.new.items }
 {
     let target = message.header().target;
@@ -216,7 +216,7 @@ pub(crate) fn pass_on<R: Wait>(
     requires ends { AreEnds network.wires.now node.old.closed outs.old.items }
     requires may { Each (MayPost made) outs.old.items }
     ensures node { Regated node.old node.new }
-    ensures ends { AreEnds network.wires.now node.new.closed outs.new.items }
+    ensures ends { AreEnds network.entry.wires.now node.new.closed outs.new.items }
     ensures posted { Pairwise (Posted made) outs.old.items outs.new.items }
 {
     if let Some(message) = made {

@@ -13,7 +13,7 @@ use Rattle.turn_table.specs.contracts.table.TurnHand as hand
 use Rattle.worlds.proofs.frame.Frame.TheSendSync as frame
 use Rattle.rank_threads.specs.contracts.fabric.Fabric as fabric
 use Rattle.rank_threads.specs.contracts.fabric.Fabric.TheInside as inside
-use Rattle.rank_slots.specs.contracts.slot.TurnRank as slot
+use Rattle.rank_slots.specs.contracts.turn_rank.TurnRank as slot
 use Rattle.rank_slots.specs.contracts.past.TurnRankPast.TheImpl as past
 use Rattle.rank_slots.proofs.mail.Mail.TheSendSync as mail
 use Rattle.rank_slots.proofs.Sent.{slot-send}
