@@ -137,6 +137,9 @@ fn take_block(
 
 /// Who takes long runs of data lines.
 pub(crate) trait ReadAhead {
+    /// What it asks.
+    ghost ready: { Self → Type 0 } = { λ _. Unit {0} };
+
     /// Where a long run of data lines comes next, takes as many of them as are there, or none. Answers the number of the line after
     /// them, and what is left.
     fn read_ahead<'a>(
@@ -145,7 +148,8 @@ pub(crate) trait ReadAhead {
         number: u32,
         bytes: &'a [u8],
     ) -> Result<(u32, &'a [u8]), ParseFault>
-        requires { number + length bytes.now < 2 ^ 32 }
+        requires ready { ready self.now }
+        requires at_most { number + length bytes.now < 2 ^ 32 }
         ensures { ReadsOn result number bytes.now (past reader.old) (past reader.new) };
 }
 
@@ -208,6 +212,11 @@ impl<'r, R: Threads + Sync> ByThreads<'r, R> {
 }
 
 impl<'r, R: Threads + Sync> ReadAhead for ByThreads<'r, R> {
+    ghost use denote.Param.Send.{IsSync};
+
+    // Threads share the runtime.
+    ghost ready = { λ _. IsSync R.row };
+
     fn read_ahead<'a>(
         &self,
         reader: &mut Reader,

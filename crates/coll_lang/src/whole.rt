@@ -88,7 +88,8 @@ fn ended(reader: Reader, number: u32, rest: &[u8]) -> Result<Reader, ParseFault>
 
 /// What the lines say. Long runs of data lines may be taken ahead.
 fn read_lines<A: ReadAhead>(alloc: Global, ahead: &A, bytes: &[u8]) -> Result<Reader, ParseFault>
-    requires { length bytes.now ≤ LONGEST_TEXT }
+    requires ready { A.ready ahead.now }
+    requires short { length bytes.now ≤ LONGEST_TEXT }
     ensures { Reads past result (read_from nothing 1 (lines bytes.now)) }
 {
     let mut reader = new_reader(alloc)?;
@@ -121,6 +122,7 @@ fn refused(line: u32, name: Refusal) -> ParseFault
 /// What a text describes, or its first refusal. Long runs of data lines may be taken ahead.
 #[tactic(auto, unfolding(crate::specs::Language::read))]
 fn parsed<A: ReadAhead>(alloc: Global, ahead: &A, bytes: &[u8]) -> Result<Description, ParseFault>
+    requires { A.ready ahead.now }
     ensures { Reads (λ d. d) result (read bytes.now) }
 {
     if bytes.len() > LONGEST_TEXT {
