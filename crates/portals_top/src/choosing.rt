@@ -44,8 +44,8 @@ fn recall_standing(world: &ChoiceWorld)
 }
 
 /// Runs a choice text in the program's own order.
-fn run_choices(alloc: Global, text: ChoiceText) -> Result<ChoiceWorld, NoMemory>
-    ensures { IfOk result (λ w. IsChoiceRun text.ranks text.choices.now w) }
+fn run_choices(alloc: Global, text: &ChoiceText) -> Result<ChoiceWorld, NoMemory>
+    ensures { IfOk result (λ w. IsChoiceRun text.now.ranks text.now.choices.now w) }
 {
     let mut world = ChoiceWorld::open(alloc, text.ranks, text.choices)?;
     world.run_to_rest();
@@ -54,8 +54,8 @@ fn run_choices(alloc: Global, text: ChoiceText) -> Result<ChoiceWorld, NoMemory>
 }
 
 /// Runs a choice text in the order that the words of a generator choose.
-fn run_chosen_choices(alloc: Global, text: ChoiceText, seed: u64) -> Result<ChoiceWorld, NoMemory>
-    ensures { IfOk result (λ w. IsChoiceRun text.ranks text.choices.now w × IsChoiceInOrder seed w) }
+fn run_chosen_choices(alloc: Global, text: &ChoiceText, seed: u64) -> Result<ChoiceWorld, NoMemory>
+    ensures { IfOk result (λ w. IsChoiceRun text.now.ranks text.now.choices.now w × IsChoiceInOrder seed w) }
 {
     let mut world = ChoiceWorld::open(alloc, text.ranks, text.choices)?;
     let mut words = Words::of(seed);
@@ -66,10 +66,10 @@ fn run_chosen_choices(alloc: Global, text: ChoiceText, seed: u64) -> Result<Choi
 }
 
 /// Runs a choice text in the program's own order, writes its results, and hands back the world.
-fn once<K: Sink>(alloc: Global, text: ChoiceText, sink: &mut K, ran: &mut Ran) -> Status
+fn once<K: Sink>(alloc: Global, text: &ChoiceText, sink: &mut K, ran: &mut Ran) -> Status
     requires none { ran.old ≡ nothing_ran }
-    ensures written { Written (due_in_mode Mode.Once text.choices.now ran.new.choice) (K.outflow sink.old) (K.outflow sink.new) result }
-    ensures world { HandsBack result Status.Done (LeavesChosen (Command.Execute Mode.Once) text.ranks text.choices.now) ran.new }
+    ensures written { Written (due_in_mode Mode.Once text.now.choices.now ran.new.choice) (K.outflow sink.old) (K.outflow sink.new) result }
+    ensures world { HandsBack result Status.Done (LeavesChosen (Command.Execute Mode.Once) text.now.ranks text.now.choices.now) ran.new }
 {
     let Ok(mut out) = Pieces::open(alloc) else {
         return Status::NoMemory;
@@ -83,11 +83,11 @@ fn once<K: Sink>(alloc: Global, text: ChoiceText, sink: &mut K, ran: &mut Ran) -
 }
 
 /// Runs a choice text in the order that a seed chooses, writes its results and that order, and hands back the world.
-fn sim<K: Sink>(alloc: Global, text: ChoiceText, seed: u64, sink: &mut K, ran: &mut Ran) -> Status
+fn sim<K: Sink>(alloc: Global, text: &ChoiceText, seed: u64, sink: &mut K, ran: &mut Ran) -> Status
     requires none { ran.old ≡ nothing_ran }
-    ensures written { Written (due_in_mode (Mode.Sim seed) text.choices.now ran.new.choice) (K.outflow sink.old)
+    ensures written { Written (due_in_mode (Mode.Sim seed) text.now.choices.now ran.new.choice) (K.outflow sink.old)
         (K.outflow sink.new) result }
-    ensures world { HandsBack result Status.Done (LeavesChosen (Command.Execute (Mode.Sim seed)) text.ranks text.choices.now) ran.new }
+    ensures world { HandsBack result Status.Done (LeavesChosen (Command.Execute (Mode.Sim seed)) text.now.ranks text.now.choices.now) ran.new }
 {
     let Ok(mut out) = Pieces::open(alloc) else {
         return Status::NoMemory;
@@ -113,15 +113,15 @@ fn refuse_choices<K: Sink>(alloc: Global, sink: &mut K, told: &mut Option<Note>)
 fn in_mode<K: Sink>(
     alloc: Global,
     mode: Mode,
-    text: ChoiceText,
+    text: &ChoiceText,
     sink: &mut K,
     ran: &mut Ran,
     told: &mut Option<Note>,
 ) -> Status
     requires none { ran.old ≡ nothing_ran }
-    ensures written { Written (due_in_mode mode text.choices.now ran.new.choice) (K.outflow sink.old) (K.outflow sink.new) result }
-    ensures world { HandsBack result (due_in_mode mode text.choices.now ran.new.choice).status
-        (LeavesChosen (Command.Execute mode) text.ranks text.choices.now) ran.new }
+    ensures written { Written (due_in_mode mode text.now.choices.now ran.new.choice) (K.outflow sink.old) (K.outflow sink.new) result }
+    ensures world { HandsBack result (due_in_mode mode text.now.choices.now ran.new.choice).status
+        (LeavesChosen (Command.Execute mode) text.now.ranks text.now.choices.now) ran.new }
     ensures told { Tells result (K.outflow sink.old) (K.outflow sink.new) told.new }
 {
     match mode {
@@ -137,15 +137,15 @@ fn in_mode<K: Sink>(
 pub(crate) fn chosen<K: Sink>(
     alloc: Global,
     command: Command,
-    text: ChoiceText,
+    text: &ChoiceText,
     sink: &mut K,
     ran: &mut Ran,
     told: &mut Option<Note>,
 ) -> Status
     requires { ran.old ≡ nothing_ran }
-    ensures written { Written (due_chosen command text.choices.now ran.new.choice) (K.outflow sink.old) (K.outflow sink.new) result }
-    ensures world { HandsBack result (due_chosen command text.choices.now ran.new.choice).status
-        (LeavesChosen command text.ranks text.choices.now) ran.new }
+    ensures written { Written (due_chosen command text.now.choices.now ran.new.choice) (K.outflow sink.old) (K.outflow sink.new) result }
+    ensures world { HandsBack result (due_chosen command text.now.choices.now ran.new.choice).status
+        (LeavesChosen command text.now.ranks text.now.choices.now) ran.new }
     ensures told { Tells result (K.outflow sink.old) (K.outflow sink.new) told.new }
 {
     match command {

@@ -67,7 +67,7 @@ pub(crate) fn large<R: Threads + Wait + Sync, G: Gate, K: Sink>(
         world: &world,
         shape: job.shape(),
     };
-    let written = write_sums(&mut out, sink, number, results);
+    let written = write_sums(&mut out, sink, number, &results);
     ran.world = Some(world);
     ran.spent = Some(spent);
     status_of(written)

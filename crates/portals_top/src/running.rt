@@ -184,7 +184,7 @@ fn sim<K: Sink>(alloc: Global, job: &ShapeJob, seed: u64, sink: &mut K, ran: &mu
         world: &world,
         shape: job.shape(),
     };
-    let written = write_ordered(&mut out, sink, results);
+    let written = write_ordered(&mut out, sink, &results);
     ran.world = Some(world);
     status_of(written)
 }
@@ -267,7 +267,7 @@ pub(crate) fn run<R: Threads + Wait + Sync, G: Gate, K: Sink>(
         world: &world,
         shape: job.shape(),
     };
-    let written = write_run(host, &mut out, sink, crew, results);
+    let written = write_run(host, &mut out, sink, crew, &results);
     ran.world = Some(world);
     ran.spent = Some(spent);
     status_of(written)

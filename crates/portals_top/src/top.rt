@@ -138,7 +138,7 @@ fn described<K: Sink>(
                 ranks: shape.ranks(),
                 choices,
             };
-            Begun::Answered(chosen(alloc, command, text, sink, ran, told))
+            Begun::Answered(chosen(alloc, command, &text, sink, ran, told))
         }
         None => compiled(alloc, command, d, sink, ran, told),
     }

@@ -4,7 +4,7 @@ ghost use Rattle.std.specs.Prelude.{◌≡◌, map, string_bytes, IfSome};
 ghost use Rattle.portals_top.specs.Words.{CanAnswer, chosen_of, json_of, large_of, request, run_of, seed_of, sim_of, steady_of, text_task};
 ghost use Rattle.portals_top.specs.Words.{trace_of, workers_of};
 
-use coll_text::{Number, number_at, number_between};
+use coll_text::{long_number, number_between};
 
 /// How a description is run, and what is written of the run.
 #[derive(Clone, Copy, Debug, PartialEq, Eq)]
@@ -86,22 +86,12 @@ fn text_task(command: Command) -> Task
     }
 }
 
-/// The seed that a word is. None: it is no number below 2^64.
-fn seed_in(word: &[u8]) -> Option<u64>
-    ensures { result ≡ seed_of word.now }
-{
-    match number_at(word) {
-        Number::Small(seed) => Some(seed),
-        Number::Huge | Number::Malformed => None,
-    }
-}
-
 /// What `sim` and this word ask for.
 fn sim_in(word: &[u8]) -> Option<Request>
     ensures value { result ≡ sim_of (seed_of word.now) }
     ensures possible { IfSome result CanAnswer }
 {
-    match seed_in(word) {
+    match long_number(word) {
         Some(seed) => Some(Request::Do(text_task(Command::Execute(Mode::Sim { seed })))),
         None => None,
     }

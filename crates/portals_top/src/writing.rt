@@ -82,14 +82,14 @@ fn put_orders<K: Sink>(out: &mut Pieces, sink: &mut K, world: &World) -> Result<
 pub(crate) fn write_ordered<K: Sink>(
     out: &mut Pieces,
     sink: &mut K,
-    results: Results,
+    results: &Results,
 ) -> Result<(), Failed>
     requires empty { out.old ≡ [] }
-    requires resting { IsResting results.shape.now results.world.now }
+    requires resting { IsResting results.now.shape.now results.now.world.now }
     ensures { EndsWith (K.outflow sink.old) (K.outflow sink.new)
-        (result_text results.shape.now results.world.now.inputs ++ orders_of (Some results.world.now)) result }
+        (result_text results.now.shape.now results.now.world.now.inputs ++ orders_of (Some results.now.world.now)) result }
 {
-    put_result(out, sink, &results)?;
+    put_result(out, sink, results)?;
     put_orders(out, sink, results.world)?;
     out.end(sink)
 }
@@ -100,17 +100,17 @@ pub(crate) fn write_run<R: Threads + Sync, G, K: Sink>(
     out: &mut Pieces,
     sink: &mut K,
     crew: Crew,
-    results: Results,
+    results: &Results,
 ) -> Result<(), Failed>
     requires workers { HasWorkers (mode_of crew) }
     requires empty { out.old ≡ [] }
-    requires resting { IsResting results.shape.now results.world.now }
+    requires resting { IsResting results.now.shape.now results.now.world.now }
     ensures { EndsWith (K.outflow sink.old) (K.outflow sink.new)
-        (mode_text (mode_of crew) results.shape.now results.world.now.inputs (Some results.world.now)) result }
+        (mode_text (mode_of crew) results.now.shape.now results.now.world.now.inputs (Some results.now.world.now)) result }
 {
     match crew {
         Crew::Run { workers } | Crew::Steady { workers } => {
-            write_result_by(host.rt, host.alloc, workers, out, sink, &results)
+            write_result_by(host.rt, host.alloc, workers, out, sink, results)
         }
         Crew::Trace { .. } => write_ordered(out, sink, results),
     }
@@ -121,18 +121,18 @@ pub(crate) fn write_sums<K: Sink>(
     out: &mut Pieces,
     sink: &mut K,
     number: u32,
-    results: Results,
+    results: &Results,
 ) -> Result<(), Failed>
     requires empty { out.old ≡ [] }
-    requires shape { results.shape.now ≡ (generated number).shape }
-    requires inputs { results.world.now.inputs ≡ (generated number).inputs }
-    requires resting { IsResting results.shape.now results.world.now }
+    requires shape { results.now.shape.now ≡ (generated number).shape }
+    requires inputs { results.now.world.now.inputs ≡ (generated number).inputs }
+    requires resting { IsResting results.now.shape.now results.now.world.now }
     ensures { EndsWith (K.outflow sink.old) (K.outflow sink.new) (summary_text number) result }
 {
     let plan = results.world.schedule().plan();
     let cells = plan.cells().len() as u64;
     let links = plan.links().len() as u64;
-    write_summary(out, sink, number, cells, links, &results)
+    write_summary(out, sink, number, cells, links, results)
 }
 
 /// The status of what was written.

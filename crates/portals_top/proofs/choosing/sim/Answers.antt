@@ -10,11 +10,11 @@ use Rattle.portals_top.proofs.choosing.sim.Goals as goal
 
 pub write_ordered_values-written-requires-clause-steps : goal.write_ordered_values-written-requires-clause-steps
 write_ordered_values-written-requires-clause-steps g c =
-    ap length c.in-Ok-run_chosen_choices.ensures.0.kinds ∙ length-map c.args.text.choices.now.steps kind_of
+    ap length c.in-Ok-run_chosen_choices.ensures.0.kinds ∙ length-map c.args.text.now.choices.now.steps kind_of
 
 pub returns : goal.returns
 returns g c = rw c.status_of.ensures (record {
   written = written-of _ _ _ _ c.write_ordered_values-written.ensures;
-  world = handed-of (LeavesChosen (Execute (Sim c.args.seed)) c.args.text.ranks c.args.text.choices.now) _ _
+  world = handed-of (LeavesChosen (Execute (Sim c.args.seed)) c.args.text.now.ranks c.args.text.now.choices.now) _ _
       (c.in-Ok-run_chosen_choices.ensures, ap (λ (r : Ran). r.world) c.requires.none);
 })

@@ -6,16 +6,16 @@ use Rattle.portals_top.proofs.writing.write_ordered.Goals as goal
 
 pub returns-in_err-put_result : goal.returns-in_err-put_result
 returns-in_err-put_result g c =
-    let w = c.args.results.world.now in
-    let o = c.args.results.shape.now in
+    let w = c.args.results.now.world.now in
+    let o = c.args.results.now.shape.now in
     EndsWith-stops _ _ (result_text o w.inputs ++ orders_of (Some w)) _ c.from_residual.ensures.0
     (Fails-more _ _ (result_text o w.inputs) (orders_of (Some w))
     (rw c.requires.empty at c.in_err-put_result.ensures))
 
 pub returns-in_err-put_orders : goal.returns-in_err-put_orders
 returns-in_err-put_orders g c =
-    let w = c.args.results.world.now in
-    let o = c.args.results.shape.now in
+    let w = c.args.results.now.world.now in
+    let o = c.args.results.now.shape.now in
     EndsWith-stops _ _ (result_text o w.inputs ++ orders_of (Some w)) _ c.from_residual-in_err-put_orders.ensures.0
     (Fails-then _ _ _ (result_text o w.inputs ++ orders_of (Some w)) _
     (Takes-more _ _ (result_text o w.inputs) _ (orders_of (Some w))
@@ -24,8 +24,8 @@ returns-in_err-put_orders g c =
 
 pub returns : goal.returns
 returns g c =
-    let w = c.args.results.world.now in
-    let o = c.args.results.shape.now in
+    let w = c.args.results.now.world.now in
+    let o = c.args.results.now.shape.now in
     EndsWith-then _ _ _ (result_text o w.inputs ++ orders_of (Some w)) _ _
     (Takes-then _ _ _ (result_text o w.inputs ++ orders_of (Some w)) _ _
     (Takes-more _ _ (result_text o w.inputs) _ (orders_of (Some w))
