@@ -1,5 +1,5 @@
 -- Strays of three ranks: one is put at the end of a used request lane; and what is no such step, by one fault each.
-use Rattle.std.proofs.Common.{ℕ, Bool, true, false, cond, ◌&&◌, ◌==◌, ◌≡◌, ◌*◌, ◌^◌, List, [], ◌∷◌, ◌++◌, get_or, length}
+use Rattle.std.proofs.Common.{ℕ, Bool, true, false, cond, ◌&&◌, ◌==◌, ◌≡◌, ◌*◌, ◌^◌, List, [], ◌∷◌, ◌++◌, get_or}
 use Rattle.std.proofs.Common.{refl}
 use Rattle.std.proofs.Common.{None, arith, ap, subst, sym, ◌∙◌, lit<, if◌then◌else◌, eqb-true}
 use Rattle.ni_model.specs.Conditions.{IsKept}
