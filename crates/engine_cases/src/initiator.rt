@@ -89,23 +89,23 @@ impl Host {
     }
 }
 
-/// The header of an acknowledgement to a descriptor.
-fn acknowledgement(home: Handle) -> Header {
-    Header {
+/// An acknowledgement to a descriptor.
+fn acknowledgement(alloc: Global, home: Handle) -> Message {
+    let header = Header {
         kind: MessageKind::Ack,
         source: 1,
         match_bits: 5,
         ack: AckRequest::CtAck,
         home: Some(home),
         ..Header::PLAIN
-    }
+    };
+    Message::new(header, Bytes::empty(alloc))
 }
 
 fn drops_a_stray(rt: &impl Abort, alloc: Global, host: &mut Host)
     requires { AreBoundIn (length host.old.region) host.old.initiator.mds }
 {
-    let header = acknowledgement(Handle { slot: 0, stamp: 0 });
-    let stray = Message::new(header, Bytes::empty(alloc));
+    let stray = acknowledgement(alloc, Handle { slot: 0, stamp: 0 });
     let (outcome, counted) = host.answer(stray);
     gives!(rt; outcome, Outcome::Dropped);
     gives!(rt; counted.is_none(), true);
