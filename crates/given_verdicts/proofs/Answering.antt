@@ -39,7 +39,7 @@ clear k d g r e h = IfOk-weaker r _ _ (λ a q. q ∙ ap (on_flaw k d g) (sym e))
 
 pub flawed : (k : ℕ) (d : Program) (g : Given) (flaw : Flaw) (n : ℕ) (cause : GivenCause) → judged g.plan (lengths_of d.shape) ≡ Some flaw
     → n ≡ flaw_line k g.plan flaw → cause ≡ cause_of flaw → Fails n cause ≡ on_read k d (Ok g)
-flawed k d g flaw n cause e line why = ap₂ (λ m w. Fails m w) line why ∙ ap (on_flaw k d g) (sym e)
+flawed k d g flaw n cause e line why = ap₂ (λ (m : ℕ) (w : GivenCause). Fails m w) line why ∙ ap (on_flaw k d g) (sym e)
 
 -- ---- the lines after the links
 
@@ -49,7 +49,7 @@ unmarked k d g r e h = IfOk-weaker r _ _ (λ a q. q ∙ ap (on_marks k d g) (sym
 
 pub marked : (k : ℕ) (d : Program) (g : Given) (flaw : MarkFlaw) (n : ℕ) → marks_judged g.plan d.shape g.done g.marks ≡ Some flaw
     → n ≡ line_of k g.plan g.marks flaw → Fails n (causes.Mark flaw) ≡ on_flaw k d g None
-marked k d g flaw n e line = ap (λ m. Fails m (causes.Mark flaw)) line ∙ ap (on_marks k d g) (sym e)
+marked k d g flaw n e line = ap (λ (m : ℕ). Fails m (causes.Mark flaw)) line ∙ ap (on_marks k d g) (sym e)
 
 -- ---- the results
 

@@ -27,6 +27,9 @@ word_more first words i word text one two inside is so_far space then =
 pub whole_line : (first : List ℕ) (words : List (Bor (List ℕ))) (text end : List ℕ) → text ≡ first ++ flat_map spaced words
     → end ≡ text ++ 10 ∷ [] → end ≡ line (first ∷ map (λ (word : Bor (List ℕ)). word.now) words)
 whole_line first words text end is last =
-    last ∙ ap (λ (v : List ℕ). v ++ 10 ∷ []) is
-    ∙ sym (ap (λ (v : List ℕ). v ++ 10 ∷ []) (join_spaced first (map (λ (word : Bor (List ℕ)). word.now) words)
-    ∙ ap (λ (v : List ℕ). (first ++ v) ++ 10 ∷ []) (flat_map-map (λ w. 32 ∷ w) (λ (word : Bor (List ℕ)). word.now) words)))
+    let now = λ (word : Bor (List ℕ)). word.now in
+    let one : line (first ∷ map now words) ≡ (first ++ flat_map (λ w. 32 ∷ w) (map now words)) ++ 10 ∷ [] =
+    ap (λ (v : List ℕ). v ++ 10 ∷ []) (join_spaced first (map now words)) in
+    let two : (first ++ flat_map (λ w. 32 ∷ w) (map now words)) ++ 10 ∷ [] ≡ (first ++ flat_map spaced words) ++ 10 ∷ [] =
+    ap (λ (v : List ℕ). (first ++ v) ++ 10 ∷ []) (flat_map-map (λ w. 32 ∷ w) now words) in
+    last ∙ ap (λ (v : List ℕ). v ++ 10 ∷ []) is ∙ sym (one ∙ two)

@@ -29,7 +29,6 @@ use std::alloc::Global;
 pub const LONGEST_GIVEN: usize = 33_554_432;
 
 /// Of each input the bytes of its list.
-#[tactic(auto, using(crate::proofs::Lengths::one_more))]
 fn input_lengths(alloc: Global, shape: &Shape) -> Result<Vec<u64>, NoMemory>
     ensures { IfOk result (λ lengths. lengths.items ≡ lengths_of shape.now) }
 {

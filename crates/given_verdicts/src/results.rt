@@ -17,6 +17,7 @@ use ptl_types::Rank;
 use std::alloc::{AllocError, Global};
 
 /// What a cell holds; nothing, where there is no such cell.
+#[tactic(auto, using(std::proofs::lemmas::List::get_or_past))]
 fn held_in(values: &CellValues, cell: u32) -> &[u8]
     ensures { result.now ≡ get_or values.now cell [] }
 {

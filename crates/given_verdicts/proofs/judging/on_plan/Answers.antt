@@ -14,8 +14,8 @@ returns-in-None c =
     (rw (c.plan-plan.ensures, c.as_slice.ensures.value, c.in_ok-lengths.ensures, c.shape.ensures.shape)
     at (sym c.in_ok-judge.ensures ∙ c.in-None.is)) c.on_marks.ensures
 
-pub returns-in-Some : goal.returns-in-Some
-returns-in-Some c =
+pub returns : goal.returns
+returns c =
     flawed c.args.first c.args.d.now c.args.given.now c.in-Some.flaw c.flaw_line.result c.cause_of.result
     (rw (c.plan-plan.ensures, c.as_slice.ensures.value, c.in_ok-lengths.ensures, c.shape.ensures.shape)
     at (sym c.in_ok-judge.ensures ∙ c.in-Some.is))

@@ -14,5 +14,6 @@ returns-in-Ok c =
 
 pub returns-in-Err-Refused : goal.returns-in-Err-Refused
 returns-in-Err-Refused c =
-    ap (on_read c.args.first c.args.d.now)
-    (sym (rw (c.in-Err-Refused.field-0-is, c.shape.ensures.shape) at c.in-Err-Refused.ensures.read))
+    rw c.in-Err-Refused.field-0-is
+    (ap (on_read c.args.first c.args.d.now)
+    (sym (rw (c.in-Err-Refused.field-0-is, c.shape.ensures.shape) at c.in-Err-Refused.ensures.read)))

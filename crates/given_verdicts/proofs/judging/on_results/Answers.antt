@@ -12,7 +12,8 @@ values-requires-clause-count c =
     (sym c.shape-shape.ensures.readable.given.many)
 
 pub buffers_of-requires : goal.buffers_of-requires
-buffers_of-requires c = rw (c.shape-shape.ensures.shape, c.inputs-inputs.ensures.inputs) c.shape-shape.ensures.readable.given
+buffers_of-requires c =
+    rw (c.shape-shape.ensures.shape, c.inputs-inputs.ensures.inputs) (record { inputs = c.shape-shape.ensures.readable.given })
 
 pub returns-in-Ok-Some : goal.returns-in-Ok-Some
 returns-in-Ok-Some c =
