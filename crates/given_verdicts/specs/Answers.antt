@@ -18,7 +18,6 @@ use Rattle.plan_core.specs.Values.{Inputs, value}
 use Rattle.plan_judge.specs.declared.flaw.Flaw.{Flaw}
 use Rattle.plan_judge.specs.declared.flaw.Flaw.TheVariants as flaws
 use Rattle.plan_judge.specs.Causes.{first_found, judged}
-use Rattle.given_lines.specs.declared.fault.GivenRefusal.{GivenRefusal}
 use Rattle.given_lines.specs.declared.given.Mark.{Mark}
 use Rattle.given_lines.specs.declared.given.Mark.TheVariants as marks
 use Rattle.given_lines.specs.Given.{Given, Read, read_given}
@@ -27,7 +26,6 @@ use Rattle.mark_judge.specs.declared.flaw.MarkFlaw.TheVariants.{BadResult}
 use Rattle.mark_judge.specs.Due.{mark_at}
 use Rattle.mark_judge.specs.Judged.{marks_judged}
 use Rattle.mark_judge.specs.Words.{line_of}
-use Rattle.given_verdicts.specs.declared.answer.TextRefusal.{TextRefusal}
 use Rattle.given_verdicts.specs.declared.answer.TextRefusal.TheVariants as texts
 use Rattle.given_verdicts.specs.declared.answer.GivenCause.{GivenCause}
 use Rattle.given_verdicts.specs.declared.answer.GivenCause.TheVariants as causes

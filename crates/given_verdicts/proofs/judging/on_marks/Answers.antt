@@ -1,5 +1,5 @@
 -- A plan without a flaw is sound.
-use Rattle.std.proofs.Common.{◌≡◌, sym, subst, ◌∙◌}
+use Rattle.std.proofs.Common.{sym, subst, ◌∙◌}
 use Rattle.plan_core.specs.Sound.{SoundPlan}
 use Rattle.plan_values.specs.Given.{IsGiven}
 use Rattle.given_verdicts.specs.Answers.{lengths_of}

@@ -1,5 +1,5 @@
 -- The plan's flaw, or what its lines after the links show.
-use Rattle.std.proofs.Common.{◌≡◌, sym, ◌∙◌}
+use Rattle.std.proofs.Common.{sym, ◌∙◌}
 use Rattle.given_verdicts.proofs.Answering.{clear, flawed}
 use Rattle.given_verdicts.proofs.judging.on_plan.Goals as goal
 

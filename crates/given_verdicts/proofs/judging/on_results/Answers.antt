@@ -1,5 +1,5 @@
 -- The plan is evaluated, and its results are compared.
-use Rattle.std.proofs.Common.{◌≡◌, Some, None, sym, ◌∙◌}
+use Rattle.std.proofs.Common.{sym}
 use Rattle.given_verdicts.proofs.Answering.{answered}
 use Rattle.given_verdicts.proofs.judging.on_results.Goals as goal
 
