@@ -4,7 +4,7 @@ use crate::lines::extra_word;
 use crate::notes::LineFlaw;
 use crate::places::word;
 use coll_shape::{Need, StepKind};
-use coll_text::is_name;
+use coll_text::{is_name, op_named};
 
 /// Of the names of a step, the first of which is this word.
 fn names_flaw(line: &[u8], number: usize, kind: StepKind) -> (usize, LineFlaw) {
