@@ -137,3 +137,30 @@ fn answers_that_differ(rt: HostRuntime) {
         }
     }
 }
+
+#[test]
+fn answers_that_are_filled_in(rt: HostRuntime) {
+    let calls: [(&[u8], &[u8]); 13] = [
+        (b"0 open mds=1 cts=1 msg=16 region=01020304", b" ok"),
+        (b"1 open entries=1 pts=1 msg=16 ->", b" ok"),
+        (b"1 pt_alloc 0", b" ok"),
+        (b"1 me_append 0 priority bits=5 put", b" linked m0"),
+        (b"0 ct_alloc", b" c0"),
+        (b"0 ct_alloc", b" NoSpace"),
+        (b"0 md_bind length=4 ct=c0 ack", b" d0"),
+        (b"0 put d0 offset=2 length=2 ack=ct target=1 bits=5", b" w0"),
+        (b"0 triggered t0 c0 1 put d0 target=1", b" NoSpace"),
+        (b"1 deliver w0", b" matched w1"),
+        (b"0 deliver w1", b" answered"),
+        (b"0 ct_get c0", b" 1 0"),
+        (b"0 read 1 2", b" 0203"),
+    ];
+    let mut judge = Judge::filling(rt.alloc(), false);
+    assert!(rt; judge.take(b"ni 1").is_ok() && judge.take(b"ranks 2").is_ok());
+    for (line, owed) in calls {
+        match judge.take(line).expect(&rt, "memory") {
+            Taken::Owes(text) => assert_eq!(rt; text.as_slice(), owed),
+            _ => assert!(rt; false, "an answer is owed"),
+        }
+    }
+}
