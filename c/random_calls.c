@@ -71,10 +71,6 @@ static ptl_handle_any_t handle(unsigned r, int kind, unsigned place) {
     return place == KEPT ? PTL_INVALID_HANDLE : rank_of[r].given[kind][place];
 }
 
-static void name_in(char *to, int kind, unsigned place) {
-    sprintf(to, "%c%u", "cqdm"[kind], place);
-}
-
 static void answer_made(unsigned r, int kind, ptl_handle_any_t made, uint32_t status, const char *word) {
     if (status != SF_OK) {
         printf(" -> %s\n", refusal(status));
@@ -143,7 +139,7 @@ struct start {
 static struct start any_start(unsigned r) {
     static const unsigned sizes[] = { 1, 1, 2, 2, 4, 4, 8, 8 };
     static const char *const calls[] = { "put", "get", "atomic", "fetch_atomic", "swap" };
-    struct start s = { .kind = below(5), .offset = below(12), .length = below(14), .bits = below(3), .at = below(8), .target = below(RANKS),
+    struct start s = { .kind = below(5), .offset = below(6), .length = below(10), .bits = below(3), .at = below(6), .target = below(RANKS),
                        .pt = below(3), .type = below(8) };
     unsigned d = some(r, MD), b = some(r, MD);
     if (below(40) == 0) {
@@ -194,6 +190,7 @@ static void start(unsigned r) {
     sf_message_t m;
     uint8_t out[ROOM];
     uint32_t status = 0;
+    printf("%u ", r);
     struct start s = any_start(r);
     switch (s.kind) {
     case SF_PUT:
