@@ -41,8 +41,9 @@ impl<'a> Rows for RankRows<'a> {
     ghost line = { λ rows r. value_line (chosen_name rows.choices.now rows.step) r (value_in rows.world.now rows.step r) };
 
     fn put<K: Sink>(&self, out: &mut Pieces, sink: &mut K, number: u32) -> Result<(), Failed> {
-        let name = name_of(&self.choices.steps()[self.step as usize]);
-        value_line(out, sink, name, number, self.world.value(self.step, number))
+        let step = self.step;
+        let name = name_of(&self.choices.steps()[step as usize]);
+        value_line(out, sink, name, number, self.world.value(step, number))
     }
 }
 

@@ -12,16 +12,16 @@ returns-in-Ok-verdict_on g c =
       told = c.answer_verdict.ensures.told;
     }
 
-pub returns-in-Err : goal.returns-in-Err
-returns-in-Err g c =
+pub returns-in-Err-verdict_on : goal.returns-in-Err-verdict_on
+returns-in-Err-verdict_on g c =
     record {
       judged = rw (← c.into_parts-shape.ensures.shape, ← c.into_parts-shape.ensures.inputs)
           (judged-compiled _ _ c.args.orders.now _ _ _ _ c.in-Ok.ensures.0 (judged-no_memory _ _ c.args.orders.now _));
       told = tt;
     }
 
-pub returns-in-Err-compile : goal.returns-in-Err-compile
-returns-in-Err-compile g c =
+pub returns : goal.returns
+returns g c =
     record {
       judged = rw (← c.into_parts-shape.ensures.shape, ← c.into_parts-shape.ensures.inputs)
           (judged-refused _ _ c.args.orders.now _ Plan c.args.d.inputs None _ _ _
