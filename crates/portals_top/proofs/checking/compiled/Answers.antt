@@ -12,8 +12,8 @@ returns-in-Ok-verdict_on g c =
       told = c.answer_verdict.ensures.told;
     }
 
-pub returns-in-Err-verdict_on : goal.returns-in-Err-verdict_on
-returns-in-Err-verdict_on g c =
+pub returns-in-Ok : goal.returns-in-Ok
+returns-in-Ok g c =
     record {
       judged = rw (← c.into_parts-shape.ensures.shape, ← c.into_parts-shape.ensures.inputs)
           (judged-compiled _ _ c.args.orders.now _ _ _ _ c.in-Ok.ensures.0 (judged-no_memory _ _ c.args.orders.now _));
