@@ -14,7 +14,7 @@ use Rattle.rank_threads.proofs.fabric.Fabric.close_at_rest.Goals as goal
 pub returns-clause-rest : goal.returns-clause-rest
 returns-clause-rest g c = λ k agree. let f = c.args.self in let w = c.close_keeping.result.0 in let e = c.close_keeping.ensures in
     let fronts = c.requires.noted in
-    let sound : IsSound f.job = subst (λ (f : FabricState). IsSound f.job) c.self.view_is c.sound.ensures in
+    let sound : IsSound f.job = subst (λ (f : FabricState). IsSound f.job) c.self.view_is c.recall_soundness.ensures in
     let job = job-of f c.args.hands.items w e.world in
     let fit = subst IsSound job sound in
     let wave = subst (λ (j : JobOf). IsWave (system_of j.schedule.plan j.inputs k) fronts.0 (histories_in w)) job
@@ -29,7 +29,7 @@ pub returns-clause-whole : goal.returns-clause-whole
 returns-clause-whole g c = λ fronts seen r low. let f = c.args.self in let w = c.close_keeping.result.0 in let e =
     c.close_keeping.ensures in
     let k : ℕ → Slots = λ r. slots_of (node_at w.nodes r).kept in let agree = some-slots w e.kept in
-    let sound : IsSound f.job = subst (λ (f : FabricState). IsSound f.job) c.self.view_is c.sound.ensures in
+    let sound : IsSound f.job = subst (λ (f : FabricState). IsSound f.job) c.self.view_is c.recall_soundness.ensures in
     let job = job-of f c.args.hands.items w e.world in
     let fit = subst IsSound job sound in
     let wave = subst (λ (j : JobOf). IsWave (system_of j.schedule.plan j.inputs k) fronts (histories_in w)) job

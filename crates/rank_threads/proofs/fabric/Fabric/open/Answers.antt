@@ -24,7 +24,7 @@ open-requires-clause-empty g c =
 pub invariant_of-fabric : goal.invariant_of-fabric
 invariant_of-fabric g c =
     let job = c.args.job.now in let p = job.schedule.plan in let w = c.in_ok-slots.ensures.wired in
-    let wires = c.in_ok-slots.wires.items in let same = c.in_ok-shared.ensures in let sound = c.sound.ensures in
+    let wires = c.in_ok-slots.wires.items in let same = c.in_ok-shared.ensures in let sound = c.recall_soundness.ensures in
     let start : c.in_ok-turns.turns.start ≡ c.in_ok-slots.slots.items = c.in_ok-turns.ensures.table in
     let count : length c.in_ok-turns.turns.start ≡ job.schedule.plan.ranks = ap (λ (l : List TurnRank). length l) start ∙ w.count in
     let ranks : c.ranks-ranks.result ≡ job.schedule.plan.ranks = c.ranks-ranks.ensures.value
