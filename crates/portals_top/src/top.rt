@@ -134,10 +134,8 @@ fn described<K: Sink>(
         Some(choices) => {
             let shape = d.shape();
             shape.keeps_form();
-            let text = ChoiceText {
-                ranks: shape.ranks(),
-                choices,
-            };
+            let ranks = shape.ranks();
+            let text = ChoiceText { ranks, choices };
             Begun::Answered(chosen(alloc, command, &text, sink, ran, told))
         }
         None => compiled(alloc, command, d, sink, ran, told),

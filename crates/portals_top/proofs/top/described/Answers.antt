@@ -4,7 +4,7 @@ pub returns-in-Some : goal.returns-in-Some
 returns-in-Some g c = record {
   begun = (
     rw (← c.in-Some.ensures.value) c.chosen.ensures.written,
-    rw (← c.in-Some.ensures.value, ← c.shape-shape.ensures.shape, ← c.ranks.ensures.value) c.chosen.ensures.world,
+    rw (← c.in-Some.ensures.value, ← c.shape-shape.ensures.shape, ← c.ranks-ranks.ensures.value) c.chosen.ensures.world,
   );
   told = c.chosen.ensures.told;
 }
