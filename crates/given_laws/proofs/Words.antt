@@ -5,7 +5,6 @@ use Rattle.std.specs.Prelude.{is_some, option_and_then}
 use Rattle.std.specs.List.{list_all, AllByRecursion}
 use Rattle.std.specs.Fmt.{decimal}
 use Rattle.std.specs.Str.{bytes_eq}
-use Rattle.std.proofs.lemmas.Bool.Decides.{nat_tests}
 use Rattle.ptl_types.specs.declared.elements.AtomicOp.{AtomicOp}
 use Rattle.ptl_types.specs.declared.elements.AtomicOp.TheVariants as ops
 use Rattle.coll_text.specs.Text.{line, number_between}
@@ -30,9 +29,7 @@ short_read : (n : ℕ) → n < 2 ^ 32 → short_of (decimal n) ≡ Some n
 short_read n small = between_read 0 4294967295 n (omega arith) (omega (arith, small)) (omega arith)
 
 long_read : (n : ℕ) → n < 2 ^ 64 → long_of (decimal n) ≡ Some n
-long_read n small =
-    ap (option_and_then (λ n. cond (nat_lt n (2 ^ 64)) (Some n) None)) (number_read n small)
-    ∙ ap (λ t. cond t (Some n) None) (is_below n (2 ^ 64) small)
+long_read n small = between_read 0 18446744073709551615 n (omega arith) (omega (arith, small)) (omega arith)
 
 cell_op_read : (op : Option AtomicOp) → cell_op_of (op_or_none op) ≡ Some op
 cell_op_read None = refl
