@@ -13,6 +13,23 @@
  *   - Nothing runs by itself. A triggered operation that is ready waits until SfFire fires it.
  *   - There are no callbacks, no threads, and no user_ptr.
  *
+ * BUILDING. `c/build` makes libsinfreddy.a: gcc -I FOLDER program.c -L FOLDER -lsinfreddy, and nothing else is linked. The caller's part
+ * as the network, over interfaces ni[0] .. ni[n - 1] with `room` bytes for a message, without tests of statuses:
+ *
+ *     for (uint32_t r = 0, ready, number, made; r < n; r++) {
+ *         for (SfReady(&ni[r], &ready); ready > 0; SfReady(&ni[r], &ready)) {
+ *             SfReadyAt(&ni[r], 0, &number);
+ *             SfFire(&ni[r], number, &made, &message, bytes, room);
+ *             while (made) { // an answer goes the same way
+ *                 SfDeliver(&ni[message.target], &message, bytes, message.bytes, &outcome, &made, &answer, back, room);
+ *                 message = answer;
+ *                 memcpy(bytes, back, room);
+ *             }
+ *         }
+ *     }
+ *
+ * again and again until nothing is ready anywhere. Lengths, regions, rooms and max_msg_size may be 0.
+ *
  * STATUSES. Each call answers one. It is SF_OK, and the call was made, or it says why the call wasn't made, and then the interface is
  * as it was and nothing was written through a pointer. Where several reasons hold, the first of these is told: a number that names
  * nothing (SF_UNKNOWN); SF_CLOSED; SF_SHORT; a rule that the arguments break (16 to 25), the lowest; a refusal (1 to 6), the lowest.
@@ -67,7 +84,8 @@ enum {
     SF_MALFORMED = 36       /* the header and the bytes are no message: see SfDeliver */
 };
 
-/* An interface, or none. Opaque: PtlNIInit fills it, PtlNIFini empties it. */
+/* An interface, or none. Opaque: PtlNIInit fills it, PtlNIFini empties it. It is initialised by SF_NI_CLOSED or by zeros, as
+ * `ptl_handle_ni_t ni[4] = { SF_NI_CLOSED };` does with all four. */
 typedef struct {
     void *at;
     bool live;
@@ -105,7 +123,7 @@ typedef struct {
     uint32_t max_cts;                /* counting events at a time */
     uint32_t max_eqs;                /* event queues at a time */
     uint32_t max_pt_index;           /* portal table indices: every index is below this */
-    uint32_t max_triggered_ops;      /* triggered operations that wait at a time */
+    uint32_t max_triggered_ops;      /* triggered operations at a time: each from its posting until it is fired or cancelled */
     uint64_t max_msg_size;           /* the longest operation of any kind, in bytes */
     uint64_t max_atomic_size;        /* the longest atomic, in bytes */
     uint64_t max_fetch_atomic_size;  /* the longest fetching atomic, in bytes */
@@ -142,8 +160,8 @@ enum {
     PTL_ME_OP_GET = 2,          /* gets are allowed */
     PTL_ME_USE_ONCE = 4,        /* the first message unlinks it */
     PTL_ME_MANAGE_LOCAL = 8,    /* it places messages one behind the other, at an offset of its own */
-    PTL_ME_NO_TRUNCATE = 16,    /* a message that doesn't fit whole isn't matched */
-    PTL_ME_EVENT_CT_COMM = 32,  /* each message counts one success */
+    PTL_ME_NO_TRUNCATE = 16,    /* a message that doesn't fit whole isn't matched; without it, it is cut, to no bytes too, and counted */
+    PTL_ME_EVENT_CT_COMM = 32,  /* each message counts one success in ct_handle: nothing is counted where either is missing */
     PTL_ME_EVENT_CT_OVERFLOW = 64 /* each unexpected header that its append takes counts one success */
 };
 
@@ -284,7 +302,8 @@ uint32_t SfAwaits(ptl_handle_ni_t *ni, ptl_handle_md_t md, uint64_t *answers);
 /* A start reads its bytes at once, and hands its message to the caller: its header in `*message`, its `message->bytes` bytes at `out`.
  * `room` bytes can be written there, at least max_msg_size of the interface, else SF_SHORT. Lengths and offsets are in bytes. All of
  * them: SF_STALE: a descriptor. SF_OUT_OF_REGION: the part reaches past its descriptor. SF_NO_MEMORY. SF_UNKNOWN_RANK, SF_TOO_LONG;
- * but for puts and gets SF_PARTIAL_ELEMENT. SF_UNKNOWN: the acknowledgement, operation or type. */
+ * but for puts and gets SF_PARTIAL_ELEMENT. SF_UNKNOWN: the acknowledgement, operation or type. An index that the target doesn't have is no
+ * fault of the start: the message is dropped there. */
 uint32_t PtlPut(ptl_handle_ni_t *ni, ptl_handle_md_t md, uint64_t local_offset, uint64_t length, uint32_t ack_req, uint32_t target,
                 uint32_t pt_index, uint64_t match_bits, uint64_t remote_offset, uint64_t hdr_data, sf_message_t *message, uint8_t *out,
                 size_t room);
@@ -307,8 +326,10 @@ uint32_t PtlSwap(ptl_handle_ni_t *ni, ptl_handle_md_t get_md, uint64_t local_get
 
 /* The arguments of the plain call, then the counting event that it waits on and the threshold. It is ready while successes and failures
  * of that counting event are together at least the threshold, also right after it was posted, and then waits for SfFire; `*number` is its
- * number. SF_STALE: the counting event, or a thing that the operation names. SF_NO_SPACE. SF_COUNT_FULL: of the two last. SF_NO_MEMORY.
- * What is wrong with the arguments of the plain call is said here, but for parts past a descriptor, which are judged here too. */
+ * number: operations are numbered from 0 in the order of posting, and no number comes twice. Set to less before it is fired, the counting
+ * event makes it unready again; whoever uses one anew had better count on to a higher threshold. SF_STALE: the counting event, or a thing
+ * that the operation names. SF_NO_SPACE: so many wait, or the numbers, below 2^32, are used up. SF_COUNT_FULL: of PtlTriggeredCTInc and
+ * PtlTriggeredCTSet alone. SF_NO_MEMORY. All that the plain call says of its arguments is said at posting, not when it is fired. */
 uint32_t PtlTriggeredPut(ptl_handle_ni_t *ni, ptl_handle_md_t md, uint64_t local_offset, uint64_t length, uint32_t ack_req,
                          uint32_t target, uint32_t pt_index, uint64_t match_bits, uint64_t remote_offset, uint64_t hdr_data,
                          ptl_handle_ct_t trig_ct, uint64_t threshold, uint32_t *number);
@@ -339,8 +360,9 @@ uint32_t PtlTriggeredCTSet(ptl_handle_ni_t *ni, ptl_handle_ct_t ct, ptl_ct_event
 uint32_t SfReady(ptl_handle_ni_t *ni, uint32_t *count);
 uint32_t SfReadyAt(ptl_handle_ni_t *ni, uint32_t i, uint32_t *number);
 
-/* Fires a ready operation. Where it starts an operation, `*made` is 1 and its message is handed out as by a start; an increment or a set
- * makes no message, and `*made` is 0. SF_NOT_READY: it isn't ready. SF_SHORT: `room` is below max_msg_size. */
+/* Fires a ready operation, which is gone afterwards, its place free again. Where it starts an operation, `*made` is 1 and its message is
+ * handed out as by a start; an increment or a set makes no message, and `*made` is 0, but `message` and `out` are wanted for it too.
+ * SF_NOT_READY: it isn't ready. SF_SHORT: `room` is below max_msg_size, whatever the operation. */
 uint32_t SfFire(ptl_handle_ni_t *ni, uint32_t number, uint32_t *made, sf_message_t *message, uint8_t *out, size_t room);
 
 /* Hands a message that arrived to its interface; `*outcome` is what became of it. Where it asked for an answer, `*answered` is 1 and the
@@ -349,7 +371,13 @@ uint32_t SfFire(ptl_handle_ni_t *ni, uint32_t number, uint32_t *made, sf_message
  * (message->length for a put, an atomic, a fetching atomic, a swap and a reply that is ok; 0 else), or it lacks an operation or has one
  * too many, or its length isn't one of whole elements. SF_NO_MEMORY. SF_SHORT: `room` is below message->length. SF_CLOSED.
  * SF_ELSEWHERE: it is for another rank. */
-enum { SF_MATCHED, SF_OVERFLOW, SF_ANSWERED, SF_DROPPED, SF_VIOLATION };
+enum {
+    SF_MATCHED,  /* an entry of the priority list took the request */
+    SF_OVERFLOW, /* one of the overflow list did, and its header waits for an append or a search */
+    SF_ANSWERED, /* an acknowledgement or a reply, and it was taken in */
+    SF_DROPPED,  /* no such index, no entry that matches, no room for a header, or an answer that isn't due: PTL_SR_DROP_COUNT */
+    SF_VIOLATION /* the entry that matches doesn't allow it: PTL_SR_PERMISSION_VIOLATIONS */
+};
 uint32_t SfDeliver(ptl_handle_ni_t *ni, const sf_message_t *message, const uint8_t *bytes, size_t length, uint32_t *outcome,
                    uint32_t *answered, sf_message_t *answer, uint8_t *out, size_t room);
 
