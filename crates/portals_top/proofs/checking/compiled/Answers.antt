@@ -14,9 +14,11 @@ returns-in-Ok-verdict_on g c =
 
 pub returns-in-Ok : goal.returns-in-Ok
 returns-in-Ok g c =
+    let o = c.into_parts-shape.result.0 in
     record {
-      judged = rw (← c.into_parts-shape.ensures.shape, ← c.into_parts-shape.ensures.inputs)
-          (judged-compiled _ _ c.args.orders.now _ _ _ _ c.in-Ok.ensures.0 (judged-no_memory _ _ c.args.orders.now _));
+      judged = rw (← c.into_parts-shape.ensures.shape)
+          (judged-compiled o c.args.d.inputs c.args.orders.now _ _ _ _ c.in-Ok.ensures.0
+          (judged-no_memory o c.args.d.inputs c.args.orders.now _));
       told = tt;
     }
 
