@@ -8,7 +8,8 @@ pub returns : goal.returns
 returns c = record {
   barriers = λ p o said marks inputs slots world h given cut.
       barriers_kept p o said marks h inputs slots world
-      (c.cells_in_order.ensures.order p inputs slots world (sound_for p o said marks h inputs given) (fit p o said marks h inputs given) cut);
+      (c.cells_in_order.ensures.order p inputs slots world (sound_for p o said marks h inputs given)
+      (fit p o said marks h inputs given) cut);
   complete = λ p o said marks inputs slots steps strays world held h given reached still r in_range.
       c.strays_change_no_end.ensures.complete p inputs slots steps strays world held (sound_for p o said marks h inputs given)
       (fit p o said marks h inputs given) reached still r in_range;
