@@ -87,7 +87,8 @@ fn sim<K: Sink>(alloc: Global, text: &ChoiceText, seed: u64, sink: &mut K, ran: 
     requires none { ran.old ≡ nothing_ran }
     ensures written { Written (due_in_mode (Mode.Sim seed) text.now.choices.now ran.new.choice) (K.outflow sink.old)
         (K.outflow sink.new) result }
-    ensures world { HandsBack result Status.Done (LeavesChosen (Command.Execute (Mode.Sim seed)) text.now.ranks text.now.choices.now) ran.new }
+    ensures world { HandsBack result Status.Done
+        (LeavesChosen (Command.Execute (Mode.Sim seed)) text.now.ranks text.now.choices.now) ran.new }
 {
     let Ok(mut out) = Pieces::open(alloc) else {
         return Status::NoMemory;
