@@ -1,5 +1,5 @@
-/* Each call on a handle that holds no interface, and calls whose arguments break a rule: each answers a status, and the interface is as
- * it was. Status 0: each answer was as it has to be. */
+/* Each call on a handle that holds no interface and on a null one, and calls whose arguments break a rule: each answers a status, and the
+ * interface is as it was. Status 0: each answer was as it has to be. */
 #include "sinfreddy.h"
 #include <stdio.h>
 
@@ -100,6 +100,8 @@ int main(void) {
     ptl_handle_ni_t ni = SF_NI_CLOSED;
     ptl_ni_limits_t unfit = limits;
     closed(&ni);
+    closed(NULL);
+    want("no handle to open", PtlNIInit(0, 2, &limits, region, 8, NULL), SF_CLOSED);
     unfit.max_cts = UINT32_MAX;
     want("a rank that is none", PtlNIInit(2, 2, &limits, region, 8, &ni), SF_UNKNOWN_RANK);
     want("limits that don't fit", PtlNIInit(0, 2, &unfit, region, 8, &ni), SF_UNFIT_LIMITS);

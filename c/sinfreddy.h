@@ -37,8 +37,9 @@
  * SF_CLOSED.
  *
  * WHAT A CALLER MUST KEEP, since no call can test it:
- *   - Each pointer leads to a value of its type, or to as many bytes as the length that follows it, also where that is 0; none is null.
- *     Two pointers of one call lead to different places.
+ *   - Each pointer leads to a value of its type, or to as many bytes as the length that follows it, also where that is 0; none is null but
+ *     the handle's, which is told as a closed one (SF_CLOSED): each call is a macro too, which tests it. Two pointers of one call lead to
+ *     different places.
  *   - A handle is used by one thread at a time. It isn't copied: the calls are given pointers to the one that PtlNIInit filled.
  *   - An `ptl_handle_ni_t` begins as SF_NI_CLOSED ({0}), and only these calls write to it.
  *   - malloc, realloc and free are the C library's, or others that keep to its rules.
@@ -384,5 +385,53 @@ uint32_t SfDeliver(ptl_handle_ni_t *ni, const sf_message_t *message, const uint8
 #ifdef __cplusplus
 }
 #endif
+
+/* A null handle is told as a closed one: here, before the library is called. */
+static inline ptl_handle_ni_t *sf_handle(ptl_handle_ni_t *ni) {
+    static ptl_handle_ni_t closed = SF_NI_CLOSED;
+    return ni == NULL ? &closed : ni;
+}
+static inline uint32_t sf_init(uint32_t rank, uint32_t ranks, const ptl_ni_limits_t *limits, const uint8_t *region, size_t length,
+                               ptl_handle_ni_t *ni) {
+    return ni == NULL ? (uint32_t)SF_CLOSED : PtlNIInit(rank, ranks, limits, region, length, ni);
+}
+#define PtlNIInit(...) sf_init(__VA_ARGS__)
+#define PtlNIFini(ni) PtlNIFini(sf_handle(ni))
+#define PtlNIStatus(ni, ...) PtlNIStatus(sf_handle(ni), __VA_ARGS__)
+#define SfWrite(ni, ...) SfWrite(sf_handle(ni), __VA_ARGS__)
+#define SfRead(ni, ...) SfRead(sf_handle(ni), __VA_ARGS__)
+#define PtlCTAlloc(ni, ...) PtlCTAlloc(sf_handle(ni), __VA_ARGS__)
+#define PtlCTFree(ni, ...) PtlCTFree(sf_handle(ni), __VA_ARGS__)
+#define PtlCTGet(ni, ...) PtlCTGet(sf_handle(ni), __VA_ARGS__)
+#define PtlCTSet(ni, ...) PtlCTSet(sf_handle(ni), __VA_ARGS__)
+#define PtlCTInc(ni, ...) PtlCTInc(sf_handle(ni), __VA_ARGS__)
+#define PtlCTCancelTriggered(ni, ...) PtlCTCancelTriggered(sf_handle(ni), __VA_ARGS__)
+#define PtlEQAlloc(ni, ...) PtlEQAlloc(sf_handle(ni), __VA_ARGS__)
+#define PtlEQFree(ni, ...) PtlEQFree(sf_handle(ni), __VA_ARGS__)
+#define PtlEQGet(ni, ...) PtlEQGet(sf_handle(ni), __VA_ARGS__)
+#define PtlPTAlloc(ni, ...) PtlPTAlloc(sf_handle(ni), __VA_ARGS__)
+#define PtlPTFree(ni, ...) PtlPTFree(sf_handle(ni), __VA_ARGS__)
+#define PtlMEAppend(ni, ...) PtlMEAppend(sf_handle(ni), __VA_ARGS__)
+#define PtlMEUnlink(ni, ...) PtlMEUnlink(sf_handle(ni), __VA_ARGS__)
+#define PtlMESearch(ni, ...) PtlMESearch(sf_handle(ni), __VA_ARGS__)
+#define PtlMDBind(ni, ...) PtlMDBind(sf_handle(ni), __VA_ARGS__)
+#define PtlMDRelease(ni, ...) PtlMDRelease(sf_handle(ni), __VA_ARGS__)
+#define SfAwaits(ni, ...) SfAwaits(sf_handle(ni), __VA_ARGS__)
+#define PtlPut(ni, ...) PtlPut(sf_handle(ni), __VA_ARGS__)
+#define PtlGet(ni, ...) PtlGet(sf_handle(ni), __VA_ARGS__)
+#define PtlAtomic(ni, ...) PtlAtomic(sf_handle(ni), __VA_ARGS__)
+#define PtlFetchAtomic(ni, ...) PtlFetchAtomic(sf_handle(ni), __VA_ARGS__)
+#define PtlSwap(ni, ...) PtlSwap(sf_handle(ni), __VA_ARGS__)
+#define PtlTriggeredPut(ni, ...) PtlTriggeredPut(sf_handle(ni), __VA_ARGS__)
+#define PtlTriggeredGet(ni, ...) PtlTriggeredGet(sf_handle(ni), __VA_ARGS__)
+#define PtlTriggeredAtomic(ni, ...) PtlTriggeredAtomic(sf_handle(ni), __VA_ARGS__)
+#define PtlTriggeredFetchAtomic(ni, ...) PtlTriggeredFetchAtomic(sf_handle(ni), __VA_ARGS__)
+#define PtlTriggeredSwap(ni, ...) PtlTriggeredSwap(sf_handle(ni), __VA_ARGS__)
+#define PtlTriggeredCTInc(ni, ...) PtlTriggeredCTInc(sf_handle(ni), __VA_ARGS__)
+#define PtlTriggeredCTSet(ni, ...) PtlTriggeredCTSet(sf_handle(ni), __VA_ARGS__)
+#define SfReady(ni, ...) SfReady(sf_handle(ni), __VA_ARGS__)
+#define SfReadyAt(ni, ...) SfReadyAt(sf_handle(ni), __VA_ARGS__)
+#define SfFire(ni, ...) SfFire(sf_handle(ni), __VA_ARGS__)
+#define SfDeliver(ni, ...) SfDeliver(sf_handle(ni), __VA_ARGS__)
 
 #endif
