@@ -108,8 +108,8 @@ static void fly(const sf_message_t *m, const uint8_t *bytes) {
     flying[flies].name = sent;
     printf("message w%u kind=%s source=%u target=%u pt=%u bits=%" PRIu64 " offset=%" PRIu64 " length=%" PRIu64 " data=%" PRIu64, sent,
            kinds[m->kind], m->source, m->target, m->pt_index, m->match_bits, m->offset, m->length, m->hdr_data);
-    printf(" op=%s swap=%s type=%s operand=%" PRIu64 " ack=%s home_offset=%" PRIu64 " ok=%u", m->operation ? operations[m->operation - 1] : "-",
-           m->swap ? swaps[m->swap - 1] : "-", types[m->datatype], m->operand, acks[m->ack_req], m->home_offset, m->ok);
+    printf(" op=%s swap=%s type=%s operand=%" PRIu64 " ack=%s home_offset=%" PRIu64 " ok=%u",
+           m->operation ? operations[m->operation - 1] : "-", m->swap ? swaps[m->swap - 1] : "-", types[m->datatype], m->operand, acks[m->ack_req], m->home_offset, m->ok);
     print_home(m->kind < SF_ACK ? m->source : m->target, m->home);
     printf(" bytes=");
     hex(bytes, m->bytes);
@@ -161,8 +161,8 @@ static struct start any_start(unsigned r) {
         s.op = below(10);
         printf(" %s %s", operations[s.op], types[s.type]);
     }
-    printf(" d%u offset=%" PRIu64 " length=%" PRIu64 " target=%u pt=%u bits=%" PRIu64 " at=%" PRIu64, d == KEPT ? 999 : d, s.offset, s.length,
-           s.target, s.pt, s.bits, s.at);
+    printf(" d%u offset=%" PRIu64 " length=%" PRIu64 " target=%u pt=%u bits=%" PRIu64 " at=%" PRIu64, d == KEPT ? 999 : d, s.offset,
+           s.length, s.target, s.pt, s.bits, s.at);
     if (s.kind == SF_PUT || s.kind == SF_ATOMIC) {
         s.ack = below(3);
         printf(" ack=%s", acks[s.ack]);
@@ -253,8 +253,8 @@ static void post(unsigned r) {
                                         threshold, &number);
             break;
         case SF_FETCH_ATOMIC:
-            status = PtlTriggeredFetchAtomic(ni, s.back, s.back_offset, s.md, s.offset, s.length, s.target, s.pt, s.bits, s.at, s.data, s.op,
-                                             s.type, ct, threshold, &number);
+            status = PtlTriggeredFetchAtomic(ni, s.back, s.back_offset, s.md, s.offset, s.length, s.target, s.pt, s.bits, s.at, s.data,
+                                             s.op, s.type, ct, threshold, &number);
             break;
         default:
             status = PtlTriggeredSwap(ni, s.back, s.back_offset, s.md, s.offset, s.length, s.target, s.pt, s.bits, s.at, s.data, s.operand,
@@ -422,8 +422,8 @@ static void entries(unsigned r) {
                  | (below(3) ? 0 : PTL_ME_MANAGE_LOCAL) | (below(4) ? 0 : PTL_ME_NO_TRUNCATE) | (below(2) ? PTL_ME_EVENT_CT_COMM : 0)
                  | (below(3) ? 0 : PTL_ME_EVENT_CT_OVERFLOW);
     me.ct_handle = field(r, CT, "ct", ct);
-    int n = sprintf(text, "start=%" PRIu64 " length=%" PRIu64 " bits=%" PRIu64 " ignore=%" PRIu64 " min_free=%" PRIu64 "%s", me.start, me.length,
-                    me.match_bits, me.ignore_bits, me.min_free, ct);
+    int n = sprintf(text, "start=%" PRIu64 " length=%" PRIu64 " bits=%" PRIu64 " ignore=%" PRIu64 " min_free=%" PRIu64 "%s", me.start,
+                    me.length, me.match_bits, me.ignore_bits, me.min_free, ct);
     if (me.match_id != PTL_RANK_ANY) {
         n += sprintf(text + n, " source=%u", me.match_id);
     }
