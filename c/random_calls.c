@@ -109,7 +109,8 @@ static void fly(const sf_message_t *m, const uint8_t *bytes) {
     printf("message w%u kind=%s source=%u target=%u pt=%u bits=%" PRIu64 " offset=%" PRIu64 " length=%" PRIu64 " data=%" PRIu64, sent,
            kinds[m->kind], m->source, m->target, m->pt_index, m->match_bits, m->offset, m->length, m->hdr_data);
     printf(" op=%s swap=%s type=%s operand=%" PRIu64 " ack=%s home_offset=%" PRIu64 " ok=%u",
-           m->operation ? operations[m->operation - 1] : "-", m->swap ? swaps[m->swap - 1] : "-", types[m->datatype], m->operand, acks[m->ack_req], m->home_offset, m->ok);
+           m->operation ? operations[m->operation - 1] : "-", m->swap ? swaps[m->swap - 1] : "-", types[m->datatype], m->operand,
+           acks[m->ack_req], m->home_offset, m->ok);
     print_home(m->kind < SF_ACK ? m->source : m->target, m->home);
     printf(" bytes=");
     hex(bytes, m->bytes);
