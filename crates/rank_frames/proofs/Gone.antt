@@ -1,0 +1,243 @@
+-- Steps one after the other, and each kind of step.
+use Rattle.std.proofs.Common.{ℕ, zero, suc, Bool, true, false, not, cond, ◌&&◌, ◌≡◌, ◌+◌, ◌-◌, ◌<◌, ◌==◌, List, [], ◌∷◌, ◌++◌}
+use Rattle.std.proofs.Common.{Result, Ok, Err, length, refl, sym, ap, ap₂, ◌∙◌, subst, arith}
+use Rattle.std.proofs.Common.{append_assoc, length-append, get_or, eqb-true, inl, inr}
+use Rattle.std.proofs.Common.{get_or-set_other, get_or-set_same, length-set}
+use Rattle.std.proofs.lemmas.Bool.{cases_Bool, eqb-false}
+use Rattle.std.proofs.lemmas.List.Elements.{filter-append}
+use Rattle.std.proofs.lemmas.Grind.{flat_map-append}
+use Rattle.std.proofs.lemmas.List.{append-nil}
+use Rattle.ptl_types.specs.Kinds.{lane_of}
+use Rattle.ptl_types.specs.Messages.{Sent}
+use Rattle.ptl_types.specs.declared.headers.Lane.{Lane}
+use Rattle.ptl_types.specs.declared.headers.Lane.TheVariants.{Request, Answer}
+use Rattle.port_io.specs.Ends.{Outflow}
+use Rattle.run_text.specs.Putting.{Takes}
+use Rattle.run_text.proofs.Taking.{Takes-none, Takes-then, Takes-more}
+use Rattle.cuts.specs.histories.Cut.{is_stray, owned}
+use Rattle.cuts.specs.histories.History.{Local, and_then, got, made, made_by, same_lane, state}
+use Rattle.cuts.specs.histories.History.Local.{Start, Receive, Fire}
+use Rattle.cuts.proofs.histories.Fronts.{got-append, made-append, state-append}
+use Rattle.rank_node.specs.Copies.{Diary}
+use Rattle.rank_node.specs.Node.{IsStarted, start_of}
+use Rattle.rank_frames.specs.Due.{Dues, due_on, with_taken}
+use Rattle.message_codec.specs.Encoding.{encoding}
+use Rattle.rank_frames.specs.Frames.{frame, frames_for, frames_of, given}
+use Rattle.rank_frames.specs.Going.{Goes, GoesOn, HasGone, IsLeft, Stops, Writes}
+use Rattle.rank_frames.specs.Place.{PlaceState, fired_place, received_place}
+use Rattle.rank_frames.specs.declared.fault.Stop.{Stop}
+use Rattle.rank_frames.specs.declared.fault.Stop.TheVariants.{Read, Write, NoMemory, Frame}
+
+-- ---- none, and one after the other
+
+pub gone-none : (p : PlaceState) → HasGone p p [] []
+gone-none p = record {
+  me = refl;
+  task = refl;
+  locals = sym (append-nil p.node.diary.locals);
+  slots = λ k a. a;
+  nic = λ k a. refl;
+  made = λ k a. refl;
+  ranks = refl;
+  lanes = λ s lane. omega arith;
+  clean = λ s lane. refl;
+}
+
+pub gone-then : (p q r : PlaceState) (es fs : List Local) (ms ns : List Sent) → HasGone p q es ms → HasGone q r fs ns
+    → HasGone p r (es ++ fs) (ms ++ ns)
+gone-then p q r es fs ms ns g h = record {
+  me = h.me ∙ g.me;
+  task = h.task ∙ g.task;
+  locals = h.locals ∙ ap (λ (l : List Local). l ++ fs) g.locals ∙ append_assoc p.node.diary.locals es fs;
+  slots = λ k a. g.slots k (h.slots k a);
+  nic = λ k a.
+      h.nic k a ∙ ap₂ (λ t v. state (start_of t k) v fs) g.task (g.nic k (h.slots k a))
+      ∙ sym (state-append (start_of p.node.task k) p.node.nic es fs);
+  made = λ k a.
+      made-append (start_of p.node.task k) p.node.nic es fs
+      ∙ ap₂ (λ (xs ys : List Sent). xs ++ ys) (g.made k (h.slots k a))
+      (ap₂ (λ t v. made (start_of t k) v fs) (sym g.task) (sym (g.nic k (h.slots k a))) ∙ h.made k a);
+  ranks = h.ranks ∙ g.ranks;
+  lanes = λ s lane.
+      let a = g.lanes s lane in
+      let b = h.lanes s lane in
+      let c : length (got (es ++ fs) s lane) ≡ length (got es s lane) + length (got fs s lane) =
+      ap (λ (l : List Sent). length l) (got-append es fs s lane) ∙ length-append (got es s lane) (got fs s lane) in
+      omega arith;
+  clean = λ s lane.
+      ap owned (got-append es fs s lane) ∙ filter-append (λ m. not (is_stray m)) (got es s lane) (got fs s lane)
+      ∙ ap₂ (λ (xs ys : List Sent). xs ++ ys) (g.clean s lane) (h.clean s lane) ∙ sym (got-append es fs s lane);
+}
+
+-- ---- each kind of step
+
+pub gone-fire : (p : PlaceState) (t : ℕ) → HasGone p (fired_place t p) (Fire t ∷ []) (and_then (made_by p.node.nic (Fire t)) [])
+gone-fire p t = record {
+  me = refl;
+  task = refl;
+  locals = refl;
+  slots = λ k a. a;
+  nic = λ k a. refl;
+  made = λ k a. refl;
+  ranks = refl;
+  lanes = λ s lane. omega arith;
+  clean = λ s lane. refl;
+}
+
+pub gone-start : (p q : PlaceState) → IsStarted p.node q.node → q.me ≡ p.me → q.due ≡ p.due → HasGone p q (Start ∷ []) []
+gone-start p q st me due = record {
+  me = me;
+  task = st.task;
+  locals = ap (λ (d : Diary). d.locals) st.diary;
+  slots = st.slots;
+  nic = st.nic;
+  made = λ k a. refl;
+  ranks = ap (λ (d : Dues). length d.requests) due;
+  lanes = λ s lane. let same = ap (λ (d : Dues). due_on d s lane) due in omega arith;
+  clean = λ s lane. refl;
+}
+
+-- one less at its place
+less-here : (xs : List ℕ) (s : ℕ) → 0 < get_or xs s 0 → s < length xs
+less-here [] s some = absurd (omega arith)
+less-here (x ∷ xs) zero some = omega arith
+less-here (x ∷ xs) (suc s) some = let h = less-here xs s some in omega arith
+
+same-lane-self : (lane : Lane) → same_lane lane lane ≡ true
+same-lane-self Request = refl
+same-lane-self Answer = refl
+
+lanes-same : (a b : Lane) → same_lane a b ≡ true → a ≡ b
+lanes-same Request Request e = refl
+lanes-same Request Answer e = absurd cc
+lanes-same Answer Request e = absurd cc
+lanes-same Answer Answer e = refl
+
+less-same : (d : Dues) (source : ℕ) (lane : Lane) (n : ℕ) → 0 < due_on d source lane
+    → due_on (with_taken d source lane n) source lane + 1 ≡ due_on d source lane
+less-same d source Request n some =
+    let e = get_or-set_same d.requests source (get_or d.requests source 0 - 1) 0 (less-here d.requests source some) in
+    omega arith
+less-same d source Answer n some =
+    let e = get_or-set_same d.answers source (get_or d.answers source 0 - 1) 0 (less-here d.answers source some) in
+    omega arith
+
+less-other_rank : (d : Dues) (source : ℕ) (lane : Lane) (n s : ℕ) (l : Lane) → (source ≡ s → ⊥)
+    → due_on (with_taken d source lane n) s l ≡ due_on d s l
+less-other_rank d source Request n s Request ne = get_or-set_other d.requests source s (get_or d.requests source 0 - 1) 0 (λ e. ne (sym e))
+less-other_rank d source Request n s Answer ne = refl
+less-other_rank d source Answer n s Request ne = refl
+less-other_rank d source Answer n s Answer ne = get_or-set_other d.answers source s (get_or d.answers source 0 - 1) 0 (λ e. ne (sym e))
+
+less-other_lane : (d : Dues) (source : ℕ) (lane : Lane) (n s : ℕ) (l : Lane) → same_lane lane l ≡ false
+    → due_on (with_taken d source lane n) s l ≡ due_on d s l
+less-other_lane d source Request n s Request e = absurd cc
+less-other_lane d source Request n s Answer e = refl
+less-other_lane d source Answer n s Request e = refl
+less-other_lane d source Answer n s Answer e = absurd cc
+
+less-ranks : (d : Dues) (source : ℕ) (lane : Lane) (n : ℕ) → length (with_taken d source lane n).requests ≡ length d.requests
+less-ranks d source Request n = length-set d.requests source (get_or d.requests source 0 - 1)
+less-ranks d source Answer n = refl
+
+taken-lanes : (d : Dues) (source : ℕ) (lane : Lane) (n : ℕ) (m : Sent) (s : ℕ) (l : Lane) → 0 < due_on d source lane
+    → due_on (with_taken d source lane n) s l + length (got (Receive source lane m ∷ []) s l) ≡ due_on d s l
+taken-lanes d source lane n m s l some =
+    elim (cases_Bool (source == s)) [
+      | inl same ↦ elim (cases_Bool (same_lane lane l)) [
+        | inl on ↦
+            let a : source ≡ s = eqb-true source s same in
+            let b : lane ≡ l = lanes-same lane l on in
+            let c = less-same d source lane n some in
+            let e : due_on (with_taken d source lane n) s l + 1 ≡ due_on d s l =
+            subst (λ x. due_on (with_taken d source lane n) x l + 1 ≡ due_on d x l) a
+            (subst (λ x. due_on (with_taken d source lane n) source x + 1 ≡ due_on d source x) b c) in
+            rw (same, on) e
+        | inr off ↦
+            let e = less-other_lane d source lane n s l off in
+            rw (same, off) (omega arith)
+      ]
+      | inr other ↦
+          let ne : source ≡ s → ⊥ = eqb-false source s other in
+          let e = less-other_rank d source lane n s l ne in
+          rw other (omega arith)
+    ]
+
+received-clean : (source : ℕ) (lane : Lane) (m : Sent) (s : ℕ) (l : Lane) → is_stray m ≡ false
+    → owned (got (Receive source lane m ∷ []) s l) ≡ got (Receive source lane m ∷ []) s l
+received-clean source lane m s l own = at ((source == s) && same_lane lane l)
+  where
+    at : (b : Bool) → owned (cond b (m ∷ []) []) ≡ cond b (m ∷ []) []
+    at true = rw own refl
+    at false = refl
+
+pub gone-receive : (p : PlaceState) (source : ℕ) (m : Sent) → 0 < due_on p.due source (lane_of m.header.kind) → is_stray m ≡ false
+    → HasGone p (received_place source m p) (Receive source (lane_of m.header.kind) m ∷ [])
+    (and_then (made_by p.node.nic (Receive source (lane_of m.header.kind) m)) [])
+gone-receive p source m some own = record {
+  me = refl;
+  task = refl;
+  locals = refl;
+  slots = λ k a. a;
+  nic = λ k a. refl;
+  made = λ k a. refl;
+  ranks = less-ranks p.due source (lane_of m.header.kind) (length m.bytes);
+  lanes = λ s l. taken-lanes p.due source (lane_of m.header.kind) (length m.bytes) m s l some;
+  clean = λ s l. received-clean source (lane_of m.header.kind) m s l own;
+}
+
+-- ---- going on
+
+pub goes-none : (p : PlaceState) (o : Outflow) → GoesOn p p o o [] []
+goes-none p o = record { steps = []; messages = []; gone = gone-none p; fed = refl; text = Takes-none o [] }
+
+pub goes-then : (p q r : PlaceState) (a b c : Outflow) (xs ys rest : List ℕ) → GoesOn p q a b xs [] → GoesOn q r b c ys rest
+    → GoesOn p r a c (xs ++ ys) rest
+goes-then p q r a b c xs ys rest g h = record {
+  steps = g.steps ++ h.steps;
+  messages = g.messages ++ h.messages;
+  gone = gone-then p q r g.steps h.steps g.messages h.messages g.gone h.gone;
+  fed = flat_map-append given g.steps h.steps ∙ ap₂ (λ (u v : List ℕ). u ++ v) g.fed h.fed;
+  text =
+      let whole : frames_of (g.messages ++ h.messages) ≡ frames_of g.messages ++ frames_of h.messages =
+      flat_map-append (λ (m : Sent). frame m.header.target (encoding m)) g.messages h.messages in
+      subst (λ text. Takes a c text rest) (sym whole)
+      (Takes-then a b c (frames_of g.messages ++ frames_of h.messages) (frames_of h.messages) rest
+      (Takes-more a b (frames_of g.messages) [] (frames_of h.messages) g.text) h.text);
+}
+
+pub stops-then : (e : Stop) (p q r : PlaceState) (a b c : Outflow) (xs : List ℕ) → GoesOn p q a b xs [] → Stops e q r b c → Stops e p r a c
+stops-then e p q r a b c xs g h = record {
+  bytes = xs ++ h.bytes;
+  rest = h.rest;
+  on = goes-then p q r a b c xs h.bytes h.rest g h.on;
+  left = h.left;
+}
+
+-- steps that were made, and what was written of their messages
+pub step-goes : (p q : PlaceState) (es : List Local) (ms : List Sent) (bytes : List ℕ) (r : Result (Unit {0}) Stop) (a b : Outflow)
+    → HasGone p q es ms → frames_for es ≡ bytes → Writes r a b (frames_of ms) → Goes r p q a b bytes
+step-goes p q es ms bytes (Ok done) a b gone fed text = record { steps = es; messages = ms; gone = gone; fed = fed; text = text }
+step-goes p q es ms bytes (Err e) a b gone fed left = record {
+  bytes = bytes;
+  rest = left.0;
+  on = record { steps = es; messages = ms; gone = gone; fed = fed; text = left.1 };
+  left = left.2;
+}
+
+-- then more
+pub goes-on : (p q s : PlaceState) (a b c : Outflow) (xs ys : List ℕ) (r : Result (Unit {0}) Stop)
+    → GoesOn p q a b xs [] → Goes r q s b c ys
+    → Goes r p s a c (xs ++ ys)
+goes-on p q s a b c xs ys (Ok done) g h = goes-then p q s a b c xs ys [] g h
+goes-on p q s a b c xs ys (Err e) g h = stops-then e p q s a b c xs g h
+
+-- nothing was done
+pub left-none : (e : Stop) → IsLeft e []
+left-none Read = tt
+left-none Write = tt
+left-none NoMemory = tt
+left-none (Frame fault) = refl
+
+pub stops-none : (e : Stop) (p : PlaceState) (o : Outflow) → Stops e p p o o
+stops-none e p o = record { bytes = []; rest = []; on = goes-none p o; left = left-none e }

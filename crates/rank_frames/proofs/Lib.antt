@@ -1,0 +1,5 @@
+pub mod Gone
+pub mod Clear
+pub mod Placed
+pub mod Steps
+pub mod By

@@ -1,0 +1,90 @@
+-- How a rank goes on: the steps that it makes, what they are given, and what they write.
+use Rattle.std.specs.Prelude.{ℕ, false, ◌+◌, ◌<◌, ◌≡◌, List, [], ◌++◌, length, count_by, Option, Result, Ok, Err}
+use Rattle.ptl_types.specs.declared.headers.Lane.{Lane}
+use Rattle.ptl_types.specs.Messages.{Sent}
+use Rattle.ni_model.specs.Ready.{is_ready}
+use Rattle.port_io.specs.Ends.{GivesFront, Inflow, Outflow}
+use Rattle.run_text.specs.Putting.{Takes}
+use Rattle.cuts.specs.view.Slots.{Slots}
+use Rattle.cuts.specs.histories.Cut.{owned}
+use Rattle.cuts.specs.histories.History.{Local, got, is_start, made, state}
+use Rattle.rank_node.specs.Handles.{Agrees}
+use Rattle.rank_node.specs.Node.{start_of}
+use Rattle.rank_frames.specs.Due.{due_on, messages_due}
+use Rattle.rank_frames.specs.Frames.{frames_for, frames_of}
+use Rattle.rank_frames.specs.Place.{PlaceState}
+use Rattle.rank_frames.specs.declared.fault.Stop.{Stop}
+use Rattle.rank_frames.specs.declared.fault.Stop.TheVariants.{Frame}
+
+-- The node made these steps, and they made these messages. What they received was due, and no stray is among it.
+pub record HasGone (p q : PlaceState) (es : List Local) (ms : List Sent) : Type 0 where
+  pub me : q.me ≡ p.me
+  pub task : q.node.task ≡ p.node.task
+  pub locals : q.node.diary.locals ≡ p.node.diary.locals ++ es
+  pub slots : (k : Slots) → Agrees k q.node.kept → Agrees k p.node.kept
+  pub nic : (k : Slots) → Agrees k q.node.kept → q.node.nic ≡ state (start_of p.node.task k) p.node.nic es
+  pub made : (k : Slots) → Agrees k q.node.kept → made (start_of p.node.task k) p.node.nic es ≡ ms
+  pub ranks : length q.due.requests ≡ length p.due.requests
+  pub lanes : (s : ℕ) (lane : Lane) → due_on q.due s lane + length (got es s lane) ≡ due_on p.due s lane
+  pub clean : (s : ℕ) (lane : Lane) → owned (got es s lane) ≡ got es s lane
+
+-- no operation is ready
+abbrev pub IsIdle : PlaceState → Type 0
+IsIdle p = (t : ℕ) → is_ready p.node.nic t ≡ false
+
+-- there was a start
+abbrev pub HasStarted : PlaceState → Type 0
+HasStarted p = 0 < count_by is_start p.node.diary.locals
+
+-- It went on: it made steps that were given these bytes, and of the frames of their messages the sink took all but the rest.
+pub record GoesOn (p q : PlaceState) (old new : Outflow) (bytes rest : List ℕ) : Type 0 where
+  pub steps : List Local
+  pub messages : List Sent
+  pub gone : HasGone p q steps messages
+  pub fed : frames_for steps ≡ bytes
+  pub text : Takes old new (frames_of messages) rest
+
+-- no frame was refused
+abbrev pub IsOutside : Stop → Type 0
+IsOutside (Frame fault) = ⊥
+IsOutside _ = Unit {0}
+
+-- where a frame is refused all is written
+abbrev pub IsLeft : Stop → List ℕ → Type 0
+IsLeft (Frame fault) rest = rest ≡ []
+IsLeft _ rest = Unit {0}
+
+-- it stopped on its way
+pub record Stops (e : Stop) (p q : PlaceState) (old new : Outflow) : Type 0 where
+  pub bytes : List ℕ
+  pub rest : List ℕ
+  pub on : GoesOn p q old new bytes rest
+  pub left : IsLeft e rest
+
+-- of a text the sink took all, or a beginning
+abbrev pub Writes : Result (Unit {0}) Stop → Outflow → Outflow → List ℕ → Type 0
+Writes (Ok done) old new text = Takes old new text []
+Writes (Err e) old new text = (rest : List ℕ) × Takes old new text rest × IsLeft e rest
+
+-- it went on by these bytes, with nothing left to write, or it stopped
+abbrev pub Goes : Result (Unit {0}) Stop → PlaceState → PlaceState → Outflow → Outflow → List ℕ → Type 0
+Goes (Ok done) p q old new bytes = GoesOn p q old new bytes []
+Goes (Err e) p q old new bytes = Stops e p q old new
+
+-- It went on by what a source gave, with nothing left to write; and after a start nothing is ready.
+pub record GoesBy (p q : PlaceState) (before after : Option (List ℕ)) (old new : Outflow) : Type 0 where
+  pub bytes : List ℕ
+  pub on : GoesOn p q old new bytes []
+  pub front : GivesFront before after bytes
+  pub idle : HasStarted q → IsIdle q
+
+-- it went on by frames, or stopped
+abbrev pub TakesFrames : Result (Unit {0}) Stop → PlaceState → PlaceState → Inflow → Inflow → Outflow → Outflow → Type 0
+TakesFrames (Ok done) p q before after old new = GoesBy p q before.left after.left old new
+TakesFrames (Err e) p q before after old new = Stops e p q old new
+
+-- the rank has ended: it has started, nothing is ready, and nothing is due
+pub record IsOver (p : PlaceState) : Type 0 where
+  pub started : HasStarted p
+  pub idle : IsIdle p
+  pub none_due : messages_due p.due ≡ 0

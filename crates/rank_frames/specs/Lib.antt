@@ -1,0 +1,4 @@
+pub mod Frames
+pub mod Due
+pub mod Place
+pub mod Going
