@@ -97,12 +97,27 @@ static const char *const swaps[] = { "swap", "cswap", "mswap" };
 static const char *const types[] = { "u8", "i8", "u16", "i16", "u32", "i32", "u64", "i64" };
 static const char *const acks[] = { "none", "ct", "full" };
 
+/* Whether a message is the same once it was bytes. */
+static void encodes(const sf_message_t *m, const uint8_t *bytes) {
+    uint8_t frame[SF_FRAME_HEADER + ROOM], again[SF_FRAME_HEADER + ROOM], read[ROOM];
+    sf_message_t head;
+    uint64_t n, k;
+    if (SfEncode(m, bytes, m->bytes, frame, sizeof frame, &n) != SF_OK || n != SF_FRAME_HEADER + m->bytes
+        || SfDecode(frame, n, &head, read, ROOM) != SF_OK || SfEncode(&head, read, head.bytes, again, sizeof again, &k) != SF_OK || k != n
+        || memcmp(frame, again, n) != 0 || memcmp(read, bytes, m->bytes) != 0 || SfDecode(frame, n - 1, &head, read, ROOM) != SF_MALFORMED
+        || SfEncode(m, bytes, m->bytes, again, n - 1, &k) != SF_SHORT) {
+        fprintf(stderr, "a message isn't the same once it was bytes\n");
+        exit(1);
+    }
+}
+
 /* A message is under way: it gets a name, and all of it is told. */
 static void fly(const sf_message_t *m, const uint8_t *bytes) {
     static const char *const kinds[] = { "put", "get", "atomic", "fetch_atomic", "swap", "ack", "reply" };
     if (flies == FLYING) {
         exit(0);
     }
+    encodes(m, bytes);
     flying[flies].head = *m;
     memcpy(flying[flies].bytes, bytes, m->bytes);
     flying[flies].name = sent;

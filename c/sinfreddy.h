@@ -201,7 +201,7 @@ typedef struct {
 } ptl_event_t;
 
 /* A message's header, as it came out of a call. A caller carries it and the `bytes` bytes beside it, and needs no more of it than the
- * ranks. It has no pointers, so between processes of one machine it may be copied as it is. */
+ * ranks. It has no pointers, so between processes of one machine it may be copied as it is; between machines SfEncode and SfDecode serve. */
 enum { SF_PUT, SF_GET, SF_ATOMIC, SF_FETCH_ATOMIC, SF_SWAP, SF_ACK, SF_REPLY };
 typedef struct {
     uint32_t kind;         /* SF_PUT .. SF_REPLY; from SF_ACK on it is an answer */
@@ -381,6 +381,18 @@ enum {
 };
 uint32_t SfDeliver(ptl_handle_ni_t *ni, const sf_message_t *message, const uint8_t *bytes, size_t length, uint32_t *outcome,
                    uint32_t *answered, sf_message_t *answer, uint8_t *out, size_t room);
+
+/* ---- Messages between machines ---------------------------------------------------------------------------------------------------- */
+
+/* Writes a message and the `length` bytes that go with it as bytes that may cross machines: SF_FRAME_HEADER bytes, little-endian, and then
+ * those that go with it (docs/PROFILE.md, "A message as bytes"). `*written` is how many they are. SF_UNKNOWN, SF_MALFORMED: as SfDeliver
+ * says them. SF_NO_MEMORY. SF_SHORT: `room` is less than that. */
+enum { SF_FRAME_HEADER = 80 };
+uint32_t SfEncode(const sf_message_t *message, const uint8_t *bytes, size_t length, uint8_t *out, size_t room, uint64_t *written);
+
+/* Reads the message that `length` bytes encode, all of them, and hands it out: what was encoded is read again as it was. SF_MALFORMED: they
+ * encode none. SF_NO_MEMORY. SF_SHORT: `room` is less than the bytes that go with it. */
+uint32_t SfDecode(const uint8_t *frame, size_t length, sf_message_t *message, uint8_t *out, size_t room);
 
 #ifdef __cplusplus
 }

@@ -10,6 +10,7 @@ mod answers;
 mod counting;
 mod entries;
 mod forms;
+mod framing;
 mod interfaces;
 mod messages;
 mod options;

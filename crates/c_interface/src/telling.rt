@@ -179,7 +179,7 @@ fn told(message: &Message) -> CMessage
 }
 
 /// Copies bytes to the front of a buffer, as many as it has room for.
-fn onto(bytes: &[u8], out: &mut [u8])
+pub fn onto(bytes: &[u8], out: &mut [u8])
     ensures { out.new ≡ onto bytes.now out.old }
 {
     let count = if bytes.len() <= out.len() {
