@@ -201,7 +201,8 @@ typedef struct {
 } ptl_event_t;
 
 /* A message's header, as it came out of a call. A caller carries it and the `bytes` bytes beside it, and needs no more of it than the
- * ranks. It has no pointers, so between processes of one machine it may be copied as it is; between machines SfEncode and SfDecode serve. */
+ * ranks. It has no pointers, so between processes of one machine it may be copied as it is; between machines SfEncode and SfDecode
+ * serve. */
 enum { SF_PUT, SF_GET, SF_ATOMIC, SF_FETCH_ATOMIC, SF_SWAP, SF_ACK, SF_REPLY };
 typedef struct {
     uint32_t kind;         /* SF_PUT .. SF_REPLY; from SF_ACK on it is an answer */
