@@ -1,14 +1,10 @@
 -- Frames one after the other.
-use Rattle.std.proofs.Common.{ℕ, true, false, ◌≡◌, ◌==◌, ◌&&◌, Bool, List, [], ◌++◌, Option, Some, None, Result, Ok, Err, OnOk}
-use Rattle.std.proofs.Common.{nat_lt, count_by, refl, sym, ap, ◌∙◌, append_assoc, eqb-true}
-use Rattle.std.proofs.lemmas.Bool.{ltb-true}
-use Rattle.port_io.specs.Ends.{GivesFront, Inflow, Outflow}
-use Rattle.cuts.specs.histories.History.{is_start}
-use Rattle.rank_frames.specs.Due.{messages_due}
-use Rattle.rank_frames.specs.Going.{Goes, GoesBy, HasStarted, IsIdle, IsOver, Stops, TakesFrames}
+use Rattle.std.proofs.Common.{ℕ, List, [], ◌++◌, Option, Some, None}
+use Rattle.std.proofs.Common.{refl, sym, ap, ◌∙◌, append_assoc}
+use Rattle.port_io.specs.Ends.{GivesFront, Outflow}
+use Rattle.rank_frames.specs.Going.{GoesBy, HasStarted, IsIdle, Stops}
 use Rattle.rank_frames.specs.Place.{PlaceState}
 use Rattle.rank_frames.specs.declared.fault.Stop.{Stop}
-use Rattle.rank_frames.specs.declared.fault.Stop.TheVariants.{Read}
 use Rattle.rank_frames.proofs.Gone.{goes-none, goes-then, stops-then}
 
 -- ---- what a source gives
@@ -39,25 +35,3 @@ by-then p q s x y z a b c g h = record {
 pub by-stops : (e : Stop) (p q s : PlaceState) (x y : Option (List ℕ)) (a b c : Outflow) → GoesBy p q x y a b → Stops e q s b c
     → Stops e p s a c
 by-stops e p q s x y a b c g h = stops-then e p q s a b c g.bytes g.on h
-
-pub by-ends : (p q : PlaceState) (x y : Option (List ℕ)) (a b : Outflow) → GoesBy p q x y a b → Stops Read p q a b
-by-ends p q x y a b g = record { bytes = g.bytes; rest = []; on = g.on; left = tt }
-
-pub by-frame : (p q : PlaceState) (i j : Inflow) (a b : Outflow) (bytes : List ℕ) (r : Result (Unit {0}) Stop) → Goes r p q a b bytes
-    → GivesFront i.left j.left bytes → OnOk r (IsIdle q) → TakesFrames r p q i j a b
-by-frame p q i j a b bytes (Ok done) g front idle = record { bytes = bytes; on = g; front = front; idle = λ s. idle }
-by-frame p q i j a b bytes (Err e) g front idle = g
-
--- ---- the end
-both : (x y : Bool) → (x && y) ≡ true → (x ≡ true) × (y ≡ true)
-both true true e = (refl, refl)
-both true false e = absurd cc
-both false y e = absurd cc
-
-pub is-over : (p : PlaceState) (told : Bool) → told ≡ true
-    → told ≡ (nat_lt 0 (count_by is_start p.node.diary.locals) && (messages_due p.due == 0))
-    → (HasStarted p → IsIdle p) → IsOver p
-is-over p told e is idle =
-    let parts = both (nat_lt 0 (count_by is_start p.node.diary.locals)) (messages_due p.due == 0) (sym is ∙ e) in
-    let started : HasStarted p = ltb-true _ _ parts.0 in
-    record { started = started; idle = idle started; none_due = eqb-true _ _ parts.1 }
