@@ -103,10 +103,6 @@ less-here [] s some = absurd (omega arith)
 less-here (x ∷ xs) zero some = omega arith
 less-here (x ∷ xs) (suc s) some = let h = less-here xs s some in omega arith
 
-same-lane-self : (lane : Lane) → same_lane lane lane ≡ true
-same-lane-self Request = refl
-same-lane-self Answer = refl
-
 lanes-same : (a b : Lane) → same_lane a b ≡ true → a ≡ b
 lanes-same Request Request e = refl
 lanes-same Request Answer e = absurd cc
