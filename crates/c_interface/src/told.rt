@@ -40,6 +40,7 @@ impl CHandle {
         slot: u32::MAX,
     };
 
+    /// A handle as C has it.
     pub fn of(handle: Handle) -> CHandle
         ensures { result ≡ handle_told handle }
     {
@@ -49,6 +50,7 @@ impl CHandle {
         }
     }
 
+    /// The handle that it is, live or not.
     pub fn handle(&self) -> Handle
         ensures { result ≡ handle_of self.now }
     {
@@ -71,6 +73,7 @@ impl CHandle {
 }
 
 impl CCount {
+    /// What a counting event holds, as C has it.
     pub fn of(count: Count) -> CCount
         ensures { result ≡ count_told count }
     {
@@ -80,6 +83,7 @@ impl CCount {
         }
     }
 
+    /// The successes and failures.
     pub fn count(&self) -> Count
         ensures { result ≡ count_of self.now }
     {
@@ -91,6 +95,7 @@ impl CCount {
 }
 
 impl CLimits {
+    /// The limits, in things and bytes.
     pub fn limits(&self) -> Limits
         ensures { result ≡ limits_of self.now }
     {
@@ -185,6 +190,7 @@ fn event_kind(kind: EventKind) -> u32
 }
 
 impl CEvent {
+    /// An event as C has it: a field that its kind doesn't name is 0, and `ok` is then 1.
     pub fn of(event: &Event) -> CEvent
         ensures { result ≡ event_told event.now }
     {

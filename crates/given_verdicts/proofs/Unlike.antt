@@ -56,3 +56,6 @@ ends_apart a b i apart e =
       | inr h ↦ ap₂ (λ (u v : List ℕ). difference_from i u v) (cut_at a i (omega arith)) (drop_all i b (omega arith))
           ∙ right_ends i (get_or a i 0) (drop (i + 1) a)
     ]
+
+-- what a place tells, one after the other
+pub ruleset place_by_place = (same_here, differs_here, ends_alike, ends_apart)

@@ -98,7 +98,7 @@ fn result_flaw(
     meant: &Buffers,
     mark: u32,
 ) -> Result<Option<GivenAnswer>, AllocError>
-    requires few { length given.now.plan.cells + length given.now.plan.links < 2 ^ 32 - 1 }
+    requires at_most { length given.now.plan.cells + length given.now.plan.links < 2 ^ 32 - 1 }
     requires few_marks { length given.now.marks < 2 ^ 32 }
     requires mark { mark < length given.now.marks }
     ensures { IfOk result (λ flaw. flaw ≡ result_flaw first given.now.plan shape.now values.now meant.now given.now.marks mark) }
@@ -122,7 +122,7 @@ pub(crate) fn results_flaw(
     values: &CellValues,
     meant: &Buffers,
 ) -> Result<Option<GivenAnswer>, AllocError>
-    requires few { length given.now.plan.cells + length given.now.plan.links < 2 ^ 32 - 1 }
+    requires at_most { length given.now.plan.cells + length given.now.plan.links < 2 ^ 32 - 1 }
     requires few_marks { length given.now.marks < 2 ^ 32 }
     ensures { IfOk result (λ flaw. flaw ≡ results_flaw first given.now.plan shape.now values.now meant.now given.now.marks) }
 {

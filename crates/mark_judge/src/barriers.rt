@@ -26,7 +26,7 @@ use std::alloc::{AllocError, Global};
 
 /// Whether a line names where a rank leaves a step, and one of these entries into that step doesn't lead there.
 fn is_unmet(words: &[u64], entries: &[Entry], mark: Mark) -> bool
-    requires few { length entries.now ≤ 64 }
+    requires one_word { length entries.now ≤ 64 }
     requires cell { cell_of mark < length words.now }
     ensures { result ≡ is_unmet words.now entries.now mark }
 {
@@ -49,7 +49,7 @@ fn note_line(unmet: &mut Vec<bool>, i: usize, so: bool)
 /// Notes of each line whether one of these entries doesn't lead to it.
 fn note_unmet(unmet: &mut Vec<bool>, marks: &[Mark], entries: &[Entry], words: &[u64])
     requires many { length unmet.old.items ≡ length marks.now }
-    requires few { length entries.now ≤ 64 }
+    requires one_word { length entries.now ≤ 64 }
     requires known { (i : ℕ) → i < length marks.now → cell_of (mark_at marks.now i) < length words.now }
     ensures many { length unmet.new.items ≡ length marks.now }
     ensures noted { (i : ℕ) → i < length marks.now → get_or unmet.new.items i false ≡
@@ -70,7 +70,7 @@ fn note_entries(
     entries: &[Entry],
 ) -> Result<(), AllocError>
     requires many { length unmet.old.items ≡ length marks.now }
-    requires few { length entries.now ≤ 64 }
+    requires one_word { length entries.now ≤ 64 }
     requires at_most { length plan.now.cells + length plan.now.links < 2 ^ 32 - 1 }
     requires links { (l : ℕ) → l < length plan.now.links → SoundLink plan.now l }
     requires table { into.now ≡ map (in_links plan.now) (all_cells plan.now) }

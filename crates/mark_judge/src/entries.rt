@@ -68,7 +68,7 @@ pub(crate) fn joined(a: u64, b: u64) -> u64
 
 /// Whether the entry at a place is one into a step and has no bit in a word.
 fn does_lack(word: u64, entries: &[Entry], step: u32, k: usize) -> bool
-    requires few { length entries.now ≤ 64 }
+    requires one_word { length entries.now ≤ 64 }
     requires place { k < length entries.now }
     ensures { result ≡ does_lack word entries.now step k }
 {

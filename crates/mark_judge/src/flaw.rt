@@ -83,7 +83,7 @@ fn first_done(first: u32, plan: &Plan) -> u64
 
 /// The number of the line at fault, of a plan whose text begins with line `first`: what is missing is missing at the line `end`.
 pub fn line_of(first: u32, plan: &Plan, marks: &[Mark], flaw: MarkFlaw) -> u64
-    requires few { length plan.now.cells + length plan.now.links < 2 ^ 32 - 1 }
+    requires at_most { length plan.now.cells + length plan.now.links < 2 ^ 32 - 1 }
     requires few_marks { length marks.now < 2 ^ 32 }
     ensures { result ≡ line_of first plan.now marks.now flaw }
 {

@@ -68,7 +68,7 @@ pub(crate) fn words_reached(
     into: &ByRank,
     entries: &[Entry],
 ) -> Result<Vec<u64>, AllocError>
-    requires few { length entries.now ≤ 64 }
+    requires one_word { length entries.now ≤ 64 }
     requires at_most { length plan.now.cells + length plan.now.links < 2 ^ 32 - 1 }
     requires links { (l : ℕ) → l < length plan.now.links → SoundLink plan.now l }
     requires table { into.now ≡ map (in_links plan.now) (all_cells plan.now) }

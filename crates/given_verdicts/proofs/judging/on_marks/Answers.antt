@@ -27,8 +27,8 @@ on_size-requires-clause-given c =
     c.judged_plans.ensures p d.inputs (lengths_of d.shape) c.requires.flawless
     (input_lists d.shape d.inputs p.ranks c.requires.ranks c.shape-shape.ensures.readable.given)
 
-pub line_of-requires-clause-few : goal.line_of-requires-clause-few
-line_of-requires-clause-few c =
+pub line_of-requires-clause-at_most : goal.line_of-requires-clause-at_most
+line_of-requires-clause-at_most c =
     let d = c.args.d.now in
     let p = c.args.given.now.plan in
     let g : IsGiven p d.inputs =
