@@ -1,0 +1,10 @@
+use Rattle.std.proofs.Common.{drop}
+use Rattle.fold_terms.specs.Terms.{Keeps}
+use Rattle.plan_terms.proofs.Landing.{AreLandedTo}
+use Rattle.plan_terms.proofs.folding.land_atomics.Given as goal
+
+abbrev pub invariant-loop-l : goal.invariant-loop-l
+invariant-loop-l l = record {
+  keeps : Keeps l.initial.terms l.terms;
+  landed : AreLandedTo l.terms l.plan l.op l.c l.before l.links (drop l.l-index l.links) l.initial.folds l.folds;
+}
