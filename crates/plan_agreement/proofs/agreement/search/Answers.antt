@@ -1,0 +1,13 @@
+-- The inputs that were tried last show it.
+use Rattle.plan_agreement.proofs.agreement.search.Goals as goal
+
+pub returns-then-found : goal.returns-then-found
+returns-then-found c = record {
+  mark = c.requires.mark;
+  before = c.requires.before;
+  taken = c.in_ok-inputs.ensures;
+  differs = c.in_ok-found.ensures c.if-found.true;
+}
+
+pub returns : goal.returns
+returns c = (c.requires.mark, c.requires.before)

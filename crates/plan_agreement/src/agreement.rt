@@ -1,0 +1,204 @@
+//! What is found for all inputs.
+
+ghost use Rattle.std.specs.Prelude.{◌≡◌, ◌<◌, ◌^◌, true, None, IfOk, MatchOption, length};
+ghost use Rattle.coll_shape.specs.Meaning.{AreInputs};
+ghost use Rattle.shape_plans.specs.Drawing.{drawing_of, plan_of};
+ghost use Rattle.shape_plans.specs.Footprint.{refusal};
+ghost use Rattle.plan_agreement.specs.Agreement.{Agrees, AreMeantTo, IsMeant, IsPlanFor};
+
+use crate::comparing::first_unlike;
+use crate::witness::witness;
+use coll_meaning::buffers_of;
+use coll_shape::{Inputs, Shape};
+use fold_terms::{TermFault, Terms};
+use given_lines::Mark;
+use plan_core::Plan;
+use plan_terms::cell_places;
+use plan_values::values;
+use ptl_types::NoMemory;
+use shape_plans::{CompileFault, DrawnShape, drawn_shape};
+use std::alloc::Global;
+
+/// How many inputs are tried.
+const TRIES: u32 = 9;
+
+/// What is found of the results of a plan, for all inputs.
+#[derive(Debug, Drop)]
+pub enum Agreement {
+    /// Each is what the shape means, whatever the inputs.
+    Same,
+    /// This one isn't for these inputs. Each before it is for all inputs.
+    Differs(u32, Inputs),
+    /// Each before this one is for all inputs. Of this one neither was found.
+    Unknown(u32),
+    /// The shape's own plan is refused, or there is too much to compare.
+    TooLarge,
+}
+
+/// Whether two lists aren't the same.
+fn are_unlike(a: &[u8], b: &[u8]) -> bool
+    ensures { result ≡ true → a.now ≡ b.now → ⊥ }
+{
+    a != b
+}
+
+/// Whether a result's cell holds another list than the shape means of these inputs.
+fn differs(
+    alloc: Global,
+    plan: &Plan,
+    shape: &Shape,
+    inputs: &Inputs,
+    mark: Mark,
+) -> Result<bool, NoMemory>
+    requires fits { IsPlanFor plan.now shape.now }
+    requires inputs { AreInputs shape.now inputs.now }
+    ensures { IfOk result (λ found. found ≡ true → IsMeant plan.now shape.now inputs.now mark → ⊥) }
+{
+    shape.keeps_form();
+    let Mark::Result { buffer, rank, cell } = mark else {
+        return Ok(false);
+    };
+    let values = values(alloc, plan, inputs, shape.input_count())?;
+    if cell as usize >= values.len() {
+        return Ok(false);
+    }
+    let meant = buffers_of(alloc, shape, inputs)?;
+    Ok(are_unlike(values.cell(cell), meant.list(buffer, rank)))
+}
+
+/// Looks for inputs that show of a mark that its cell doesn't hold what is meant.
+fn search(
+    alloc: Global,
+    plan: &Plan,
+    shape: &Shape,
+    marks: &[Mark],
+    mark: u32,
+) -> Result<Agreement, NoMemory>
+    requires fits { IsPlanFor plan.now shape.now }
+    requires mark { mark < length marks.now }
+    requires before { AreMeantTo plan.now shape.now marks.now mark }
+    ensures { IfOk result (λ found. Agrees plan.now shape.now marks.now found) }
+{
+    for kind in 0..TRIES {
+        let inputs = witness(alloc, shape, kind)?;
+        let found = differs(alloc, plan, shape, &inputs, marks[mark as usize])?;
+        if found {
+            return Ok(Agreement::Differs(mark, inputs));
+        }
+    }
+    Ok(Agreement::Unknown(mark))
+}
+
+/// The bytes of the longest list of an input.
+fn longest(shape: &Shape) -> u64 {
+    shape.keeps_form();
+    let mut most = 0u64;
+    for b in 0..shape.input_count() {
+        most = most.max(shape.buffers()[b as usize].list_bytes());
+    }
+    most
+}
+
+/// No terms yet, for so many inputs at each of so many ranks, of at most so many bytes.
+fn opened(alloc: Global, ranks: u32, count: u32, longest: u64) -> Result<Terms, TermFault>
+    ensures { IfOk result (λ t. t.ranks ≡ ranks) }
+{
+    let cells = u64::from(ranks) * u64::from(count);
+    if cells > u64::from(u32::MAX) || longest > u64::from(u32::MAX) {
+        return Err(TermFault::TooMany);
+    }
+    Terms::open(alloc, ranks, cells as u32, longest as u32)
+}
+
+/// The first mark whose cell isn't computed as the shape's own plan computes it.
+fn unlike(
+    alloc: Global,
+    plan: &Plan,
+    shape: &Shape,
+    drawn: &DrawnShape,
+    marks: &[Mark],
+) -> Result<Option<u32>, TermFault>
+    requires fits { IsPlanFor plan.now shape.now }
+    requires accepted { refusal shape.now ≡ None }
+    requires plan { drawn.now.plan ≡ plan_of shape.now }
+    requires held { drawn.now.held ≡ (drawing_of shape.now).held }
+    requires few_marks { length marks.now < 2 ^ 32 }
+    ensures { IfOk result (λ found. MatchOption found (AreMeantTo plan.now shape.now marks.now (length marks.now))
+        (λ i. (i < length marks.now) × AreMeantTo plan.now shape.now marks.now i)) }
+{
+    shape.keeps_form();
+    let ranks = shape.ranks();
+    let count = shape.input_count();
+    let mut terms = opened(alloc, ranks, count, longest(shape))?;
+    let own = cell_places(&mut terms, alloc, &drawn.plan, count)?;
+    let given = cell_places(&mut terms, alloc, plan, count)?;
+    terms.are_solved();
+    Ok(first_unlike(plan, shape, &given, &own, &drawn.held, marks))
+}
+
+/// What is found where this is the first mark whose cell isn't computed as the shape's own plan computes it.
+fn by_first(
+    alloc: Global,
+    plan: &Plan,
+    shape: &Shape,
+    marks: &[Mark],
+    first: Option<u32>,
+) -> Result<Agreement, NoMemory>
+    requires fits { IsPlanFor plan.now shape.now }
+    requires first { MatchOption first (AreMeantTo plan.now shape.now marks.now (length marks.now))
+        (λ i. (i < length marks.now) × AreMeantTo plan.now shape.now marks.now i) }
+    ensures { IfOk result (λ found. Agrees plan.now shape.now marks.now found) }
+{
+    match first {
+        None => Ok(Agreement::Same),
+        Some(mark) => search(alloc, plan, shape, marks, mark),
+    }
+}
+
+/// What is found by a comparison with the shape's own plan.
+fn against(
+    alloc: Global,
+    plan: &Plan,
+    shape: &Shape,
+    drawn: &DrawnShape,
+    marks: &[Mark],
+) -> Result<Agreement, NoMemory>
+    requires fits { IsPlanFor plan.now shape.now }
+    requires accepted { refusal shape.now ≡ None }
+    requires plan { drawn.now.plan ≡ plan_of shape.now }
+    requires held { drawn.now.held ≡ (drawing_of shape.now).held }
+    requires few_marks { length marks.now < 2 ^ 32 }
+    ensures { IfOk result (λ found. Agrees plan.now shape.now marks.now found) }
+{
+    match unlike(alloc, plan, shape, drawn, marks) {
+        Ok(found) => by_first(alloc, plan, shape, marks, found),
+        Err(TermFault::NoMemory) => Err(NoMemory),
+        Err(_) => Ok(Agreement::TooLarge),
+    }
+}
+
+/// Compares the results that are named with what the shape means, for all inputs. A result is the same where its bytes are computed from
+/// the inputs' bytes as in the shape's own plan, up to the order and grouping of operands, and to operands that an operation may meet
+/// again. Where it isn't, inputs are looked for that show that the result isn't what is meant.
+///
+/// It takes about twelve bytes of memory for each byte of both plans' cells, and more for what is combined.
+///
+/// # Errors
+///
+/// There was no memory.
+pub fn agree(
+    alloc: Global,
+    plan: &Plan,
+    shape: &Shape,
+    marks: &[Mark],
+) -> Result<Agreement, NoMemory>
+    requires fits { IsPlanFor plan.now shape.now }
+    requires few_marks { length marks.now < 2 ^ 32 }
+    ensures { IfOk result (λ found. Agrees plan.now shape.now marks.now found) }
+{
+    match drawn_shape(alloc, shape) {
+        Ok(drawn) => against(alloc, plan, shape, &drawn, marks),
+        Err(CompileFault::NoMemory) => Err(NoMemory),
+        Err(_) => Ok(Agreement::TooLarge),
+    }
+}

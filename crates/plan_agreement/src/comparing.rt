@@ -1,0 +1,88 @@
+//! Results compared by what their bytes are computed from.
+
+ghost use Rattle.std.specs.Prelude.{◌≡◌, ◌<◌, true, MatchOption, length};
+ghost use Rattle.plan_core.specs.Draw.{held_cell};
+ghost use Rattle.shape_plans.specs.Drawing.{drawing_of};
+ghost use Rattle.plan_agreement.specs.Agreement.{AreAlikeTo, IsAlike, held_places};
+
+use coll_shape::Shape;
+use given_lines::Mark;
+use plan_core::{BufferCells, Plan};
+use plan_terms::CellPlaces;
+use ptl_types::Rank;
+
+/// The places of the cell of the shape's own plan that holds a buffer at a rank; none, where no cell does.
+fn due_places<'a>(
+    shape: &Shape,
+    own: &'a CellPlaces,
+    held: &BufferCells,
+    buffer: u32,
+    rank: Rank,
+) -> &'a [u32]
+    requires held { held.now ≡ (drawing_of shape.now).held }
+    requires buffer { buffer < length shape.now.buffers }
+    requires rank { rank < shape.now.ranks }
+    ensures { result.now ≡ held_places own.now (held_cell (drawing_of shape.now).held buffer rank) }
+{
+    shape.keeps_form();
+    match held.cell(buffer, rank) {
+        Some(cell) => own.cell(cell),
+        None => &[],
+    }
+}
+
+/// Whether there are such a buffer, such a rank and such a cell.
+fn is_known(plan: &Plan, shape: &Shape, buffer: u32, rank: Rank, cell: u32) -> bool
+    ensures buffer { result ≡ true → buffer < length shape.now.buffers }
+    ensures rank { result ≡ true → rank < shape.now.ranks }
+    ensures cell { result ≡ true → cell < length plan.now.cells }
+{
+    (buffer as usize) < shape.buffers().len()
+        && rank < shape.ranks()
+        && (cell as usize) < plan.cells().len()
+}
+
+/// Whether the cell of a mark, where it is a result's, is computed as the cell that holds its buffer is.
+pub(crate) fn is_alike(
+    plan: &Plan,
+    shape: &Shape,
+    given: &CellPlaces,
+    own: &CellPlaces,
+    held: &BufferCells,
+    mark: Mark,
+) -> bool
+    requires held { held.now ≡ (drawing_of shape.now).held }
+    ensures { result ≡ true → IsAlike plan.now shape.now given.now own.now mark }
+{
+    match mark {
+        Mark::Result { buffer, rank, cell } => {
+            if !is_known(plan, shape, buffer, rank, cell) {
+                return false;
+            }
+            given.cell(cell) == due_places(shape, own, held, buffer, rank)
+        }
+        _ => true,
+    }
+}
+
+/// The first mark whose cell isn't computed so.
+pub(crate) fn first_unlike(
+    plan: &Plan,
+    shape: &Shape,
+    given: &CellPlaces,
+    own: &CellPlaces,
+    held: &BufferCells,
+    marks: &[Mark],
+) -> Option<u32>
+    requires held { held.now ≡ (drawing_of shape.now).held }
+    requires few { length marks.now < 4294967296 }
+    ensures { MatchOption result (AreAlikeTo plan.now shape.now given.now own.now marks.now (length marks.now))
+        (λ i. (i < length marks.now) × AreAlikeTo plan.now shape.now given.now own.now marks.now i) }
+{
+    for i in 0..marks.len() {
+        if !is_alike(plan, shape, given, own, held, marks[i]) {
+            return Some(i as u32);
+        }
+    }
+    None
+}

@@ -1,0 +1,29 @@
+//! Whether the results of a plan are what its shape means, for all inputs.
+#![tactic(auto)]
+
+ghost use Rattle.std.specs.Prelude.{◌≡◌, None, map};
+ghost use Rattle.number_lists.specs.Numbers.{from_to};
+ghost use Rattle.coll_shape.specs.Outline.{Outline, buffer_at, list_bytes};
+ghost use Rattle.coll_shape.specs.WellFormed.{IsWellFormed};
+ghost use Rattle.plan_core.specs.Plan.{Plan};
+ghost use Rattle.plan_judge.specs.Causes.{judged};
+ghost use Rattle.shape_plans.specs.Drawing.{plan_of};
+ghost use Rattle.shape_plans.specs.Footprint.{refusal};
+ghost use Rattle.plan_agreement.specs.Agreement.{IsPlanFor};
+
+mod agreement;
+mod comparing;
+mod witness;
+
+pub use agreement::{Agreement, agree};
+
+/// The plan of a shape that isn't refused is one for the shape.
+pub fn own_plans_fit()
+    ensures { (o : Outline) → IsWellFormed o → refusal o ≡ None → IsPlanFor (plan_of o) o }
+{}
+
+/// A plan in which no flaw was found for the lengths of a shape's inputs is one for the shape, if it has its ranks.
+pub fn judged_plans_fit()
+    ensures { (p : Plan) (o : Outline) → p.ranks ≡ o.ranks →
+        judged p (map (λ b. list_bytes (buffer_at o b)) (from_to 0 o.inputs)) ≡ None → IsPlanFor p o }
+{}

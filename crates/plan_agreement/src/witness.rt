@@ -1,0 +1,83 @@
+//! Inputs that may show a difference.
+
+ghost use Rattle.std.specs.Prelude.{◌≡◌, ◌<◌, ◌*◌, ◌/◌, [], ℕ, All, IfOk, length, get_or};
+ghost use Rattle.coll_shape.specs.Meaning.{AreInputs};
+ghost use Rattle.coll_shape.specs.Outline.{buffer_at, list_bytes};
+ghost use Rattle.plan_agreement.specs.Witness.{AreWitnesses, IsListOf};
+
+use coll_shape::{InputList, Inputs, Shape};
+use ptl_types::NoMemory;
+use std::alloc::{AllocError, Global};
+
+/// A step of a generator of numbers.
+fn stepped(state: u64) -> u64 {
+    state
+        .wrapping_mul(6_364_136_223_846_793_005)
+        .wrapping_add(1_442_695_040_888_963_407)
+}
+
+/// A byte of the kind of this try: all bytes, or small numbers.
+fn byte_of(kind: u32, state: u64) -> u8 {
+    let byte = ((state >> 33) % 256) as u8;
+    match kind % 3 {
+        0 => byte,
+        1 => byte % 3,
+        _ => byte % 2,
+    }
+}
+
+/// So many bytes, by the generator from this state on.
+fn witness_list(alloc: Global, kind: u32, from: u64, count: u64) -> Result<InputList, AllocError>
+    ensures { IfOk result (λ list. IsListOf count list) }
+{
+    let mut state = from;
+    let mut bytes = Vec::with_capacity(alloc, count as usize)?;
+    for k in 0..count {
+        state = stepped(state ^ k);
+        bytes.push(byte_of(kind, state))?;
+    }
+    Ok(InputList::of(bytes))
+}
+
+/// How many lists the inputs of a shape have together.
+fn list_count(shape: &Shape) -> u32
+    ensures { result ≡ shape.now.inputs * shape.now.ranks }
+{
+    shape.keeps_form();
+    shape.input_count() * shape.ranks()
+}
+
+/// The bytes of one of these lists, of which each input has one a rank.
+fn bytes_at(shape: &Shape, i: u32) -> u64
+    requires { i < shape.now.inputs * shape.now.ranks }
+    ensures { result ≡ list_bytes (buffer_at shape.now (i / shape.now.ranks)) }
+{
+    shape.keeps_form();
+    let buffers = shape.buffers();
+    let input = i / shape.ranks();
+    buffers[input as usize].list_bytes()
+}
+
+/// The lists of all inputs of a shape, rank by rank in each.
+fn witness_lists(alloc: Global, shape: &Shape, kind: u32) -> Result<Vec<InputList>, AllocError>
+    ensures { IfOk result (λ lists. AreWitnesses shape.now lists.items) }
+{
+    let mut lists = Vec::new(alloc);
+    for i in 0..list_count(shape) {
+        let state = u64::from(i).wrapping_mul(0x9E37_79B9_7F4A_7C15) ^ u64::from(kind);
+        let list = witness_list(alloc, kind, stepped(state), bytes_at(shape, i))?;
+        lists.push(list)?;
+    }
+    Ok(lists)
+}
+
+/// Inputs of a shape, others for each kind.
+pub(crate) fn witness(alloc: Global, shape: &Shape, kind: u32) -> Result<Inputs, NoMemory>
+    ensures { IfOk result (λ inputs. AreInputs shape.now inputs) }
+{
+    shape.keeps_form();
+    match witness_lists(alloc, shape, kind) {
+        Ok(lists) => Ok(Inputs::of(shape.ranks(), shape.input_count(), lists)),
+        Err(_) => Err(NoMemory),
+    }
+}
