@@ -1,5 +1,5 @@
 -- Steps one after the other, and each kind of step.
-use Rattle.std.proofs.Common.{ℕ, zero, suc, Bool, true, false, not, cond, ◌&&◌, ◌≡◌, ◌+◌, ◌-◌, ◌<◌, ◌==◌, List, [], ◌∷◌, ◌++◌}
+use Rattle.std.proofs.Common.{ℕ, zero, suc, Bool, true, false, not, cond, ◌&&◌, ◌≡◌, ◌+◌, ◌-◌, ◌<◌, ◌≤◌, ◌==◌, List, [], ◌∷◌, ◌++◌}
 use Rattle.std.proofs.Common.{Result, Ok, Err, length, refl, sym, ap, ap₂, ◌∙◌, subst, arith}
 use Rattle.std.proofs.Common.{append_assoc, length-append, get_or, eqb-true, inl, inr}
 use Rattle.std.proofs.Common.{get_or-set_other, get_or-set_same, length-set}
@@ -18,15 +18,14 @@ use Rattle.cuts.specs.histories.Cut.{is_stray, owned}
 use Rattle.cuts.specs.histories.History.{Local, and_then, got, made, made_by, same_lane, state}
 use Rattle.cuts.specs.histories.History.Local.{Start, Receive, Fire}
 use Rattle.cuts.proofs.histories.Fronts.{got-append, made-append, state-append}
-use Rattle.rank_node.specs.Copies.{Diary}
+use Rattle.rank_node.specs.Copies.{Diary, bytes_received}
 use Rattle.rank_node.specs.Node.{IsStarted, start_of}
 use Rattle.rank_frames.specs.Due.{Dues, due_on, with_taken}
 use Rattle.message_codec.specs.Encoding.{encoding}
 use Rattle.rank_frames.specs.Frames.{frame, frames_for, frames_of, given}
-use Rattle.rank_frames.specs.Going.{Goes, GoesOn, HasGone, IsLeft, Stops, Writes}
+use Rattle.rank_frames.specs.Going.{Goes, GoesOn, HasGone, IsOutside, Stops, Writes}
 use Rattle.rank_frames.specs.Place.{PlaceState, fired_place, received_place}
 use Rattle.rank_frames.specs.declared.fault.Stop.{Stop}
-use Rattle.rank_frames.specs.declared.fault.Stop.TheVariants.{Read, Write, NoMemory, Frame}
 
 -- ---- none, and one after the other
 
@@ -40,8 +39,16 @@ gone-none p = record {
   made = λ k a. refl;
   ranks = refl;
   lanes = λ s lane. omega arith;
+  bytes = omega arith;
   clean = λ s lane. refl;
 }
+
+-- the bytes of all that is received
+received-append : (es fs : List Local) → bytes_received (es ++ fs) ≡ bytes_received es + bytes_received fs
+received-append [] fs = omega arith
+received-append (Start ∷ es) fs = received-append es fs
+received-append (Receive s lane m ∷ es) fs = let h = received-append es fs in omega arith
+received-append (Fire t ∷ es) fs = received-append es fs
 
 pub gone-then : (p q r : PlaceState) (es fs : List Local) (ms ns : List Sent) → HasGone p q es ms → HasGone q r fs ns
     → HasGone p r (es ++ fs) (ms ++ ns)
@@ -64,6 +71,11 @@ gone-then p q r es fs ms ns g h = record {
       let c : length (got (es ++ fs) s lane) ≡ length (got es s lane) + length (got fs s lane) =
       ap (λ (l : List Sent). length l) (got-append es fs s lane) ∙ length-append (got es s lane) (got fs s lane) in
       omega arith;
+  bytes =
+      let a = g.bytes in
+      let b = h.bytes in
+      let c = received-append es fs in
+      omega arith;
   clean = λ s lane.
       ap owned (got-append es fs s lane) ∙ filter-append (λ m. not (is_stray m)) (got es s lane) (got fs s lane)
       ∙ ap₂ (λ (xs ys : List Sent). xs ++ ys) (g.clean s lane) (h.clean s lane) ∙ sym (got-append es fs s lane);
@@ -81,6 +93,7 @@ gone-fire p t = record {
   made = λ k a. refl;
   ranks = refl;
   lanes = λ s lane. omega arith;
+  bytes = omega arith;
   clean = λ s lane. refl;
 }
 
@@ -94,6 +107,7 @@ gone-start p q st me due = record {
   made = λ k a. refl;
   ranks = ap (λ (d : Dues). length d.requests) due;
   lanes = λ s lane. let same = ap (λ (d : Dues). due_on d s lane) due in omega arith;
+  bytes = let same = ap (λ (d : Dues). d.bytes) due in omega arith;
   clean = λ s lane. refl;
 }
 
@@ -159,6 +173,10 @@ taken-lanes d source lane n m s l some =
           rw other (omega arith)
     ]
 
+taken-bytes : (d : Dues) (source : ℕ) (lane : Lane) (n : ℕ) → n ≤ d.bytes → (with_taken d source lane n).bytes + n ≡ d.bytes
+taken-bytes d source Request n le = omega arith
+taken-bytes d source Answer n le = omega arith
+
 received-clean : (source : ℕ) (lane : Lane) (m : Sent) (s : ℕ) (l : Lane) → is_stray m ≡ false
     → owned (got (Receive source lane m ∷ []) s l) ≡ got (Receive source lane m ∷ []) s l
 received-clean source lane m s l own = at ((source == s) && same_lane lane l)
@@ -168,9 +186,9 @@ received-clean source lane m s l own = at ((source == s) && same_lane lane l)
     at false = refl
 
 pub gone-receive : (p : PlaceState) (source : ℕ) (m : Sent) → 0 < due_on p.due source (lane_of m.header.kind) → is_stray m ≡ false
-    → HasGone p (received_place source m p) (Receive source (lane_of m.header.kind) m ∷ [])
+    → length m.bytes ≤ p.due.bytes → HasGone p (received_place source m p) (Receive source (lane_of m.header.kind) m ∷ [])
     (and_then (made_by p.node.nic (Receive source (lane_of m.header.kind) m)) [])
-gone-receive p source m some own = record {
+gone-receive p source m some own fits = record {
   me = refl;
   task = refl;
   locals = refl;
@@ -179,6 +197,7 @@ gone-receive p source m some own = record {
   made = λ k a. refl;
   ranks = less-ranks p.due source (lane_of m.header.kind) (length m.bytes);
   lanes = λ s l. taken-lanes p.due source (lane_of m.header.kind) (length m.bytes) m s l some;
+  bytes = let e = taken-bytes p.due source (lane_of m.header.kind) (length m.bytes) fits in omega arith;
   clean = λ s l. received-clean source (lane_of m.header.kind) m s l own;
 }
 
@@ -207,7 +226,7 @@ stops-then e p q r a b c xs g h = record {
   bytes = xs ++ h.bytes;
   rest = h.rest;
   on = goes-then p q r a b c xs h.bytes h.rest g h.on;
-  left = h.left;
+  outside = h.outside;
 }
 
 -- steps that were made, and what was written of their messages
@@ -218,7 +237,7 @@ step-goes p q es ms bytes (Err e) a b gone fed left = record {
   bytes = bytes;
   rest = left.0;
   on = record { steps = es; messages = ms; gone = gone; fed = fed; text = left.1 };
-  left = left.2;
+  outside = left.2;
 }
 
 -- then more
@@ -229,11 +248,5 @@ goes-on p q s a b c xs ys (Ok done) g h = goes-then p q s a b c xs ys [] g h
 goes-on p q s a b c xs ys (Err e) g h = stops-then e p q s a b c xs g h
 
 -- nothing was done
-pub left-none : (e : Stop) → IsLeft e []
-left-none Read = tt
-left-none Write = tt
-left-none NoMemory = tt
-left-none (Frame fault) = refl
-
-pub stops-none : (e : Stop) (p : PlaceState) (o : Outflow) → Stops e p p o o
-stops-none e p o = record { bytes = []; rest = []; on = goes-none p o; left = left-none e }
+pub stops-none : (e : Stop) (p : PlaceState) (o : Outflow) → IsOutside e → Stops e p p o o
+stops-none e p o outside = record { bytes = []; rest = []; on = goes-none p o; outside = outside }

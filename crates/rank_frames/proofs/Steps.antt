@@ -9,7 +9,7 @@ use Rattle.cuts.specs.histories.History.{Local, and_then, made_by}
 use Rattle.cuts.specs.histories.History.Local.{Start, Receive, Fire}
 use Rattle.rank_node.specs.Node.{IsStarted}
 use Rattle.message_codec.specs.Encoding.{encoding}
-use Rattle.rank_frames.specs.Frames.{frame, frames_of, head, nobody}
+use Rattle.rank_frames.specs.Frames.{frame, frames_of, mark}
 use Rattle.rank_frames.specs.Going.{Goes, GoesOn, HasGone, Writes}
 use Rattle.rank_frames.specs.Place.{PlaceState, fault_of, fired_place, received_place}
 use Rattle.rank_frames.specs.declared.fault.Stop.{Stop}
@@ -28,13 +28,12 @@ fire-goes p q t o r a b step message text =
     let gone = subst (λ (x : PlaceState). HasGone p x (Fire t ∷ []) (and_then o [])) (sym step) made in
     step-goes p q (Fire t ∷ []) (and_then o []) [] r a b gone refl text
 
-pub start-goes : (p q : PlaceState) (count : ℕ) (a : Outflow) → IsStarted p.node q.node → q.me ≡ p.me → q.due ≡ p.due → count ≡ 0
-    → GoesOn p q a a (head nobody count) []
-start-goes p q count a st me due none = record {
+pub start-goes : (p q : PlaceState) (a : Outflow) → IsStarted p.node q.node → q.me ≡ p.me → q.due ≡ p.due → GoesOn p q a a mark []
+start-goes p q a st me due = record {
   steps = Start ∷ [];
   messages = [];
   gone = gone-start p q st me due;
-  fed = ap (head nobody) (sym none);
+  fed = refl;
   text = Takes-none a [];
 }
 
@@ -45,7 +44,7 @@ receive-goes p q source m o r a b none step message text =
     let is = clear p source m none in
     let es : List Local = Receive source (lane_of m.header.kind) m ∷ [] in
     let makes = λ (x : Option Sent). HasGone p (received_place source m p) es (and_then x []) in
-    let made = subst makes (sym message) (gone-receive p source m is.due is.own) in
+    let made = subst makes (sym message) (gone-receive p source m is.due is.own is.bytes) in
     let gone = subst (λ (x : PlaceState). HasGone p x es (and_then o [])) (sym step) made in
     step-goes p q es (and_then o []) (frame source (encoding m)) r a b gone (append-nil (frame source (encoding m))) text
 

@@ -1,5 +1,5 @@
 -- How a rank goes on: the steps that it makes, what they are given, and what they write.
-use Rattle.std.specs.Prelude.{ℕ, false, ◌+◌, ◌<◌, ◌≡◌, List, [], ◌++◌, length, count_by, Option, Result, Ok, Err}
+use Rattle.std.specs.Prelude.{ℕ, false, ◌+◌, ◌<◌, ◌≡◌, ◌⊎◌, List, [], ◌++◌, length, count_by, Option, Some, None, Result, Ok, Err}
 use Rattle.ptl_types.specs.declared.headers.Lane.{Lane}
 use Rattle.ptl_types.specs.Messages.{Sent}
 use Rattle.ni_model.specs.Ready.{is_ready}
@@ -8,11 +8,14 @@ use Rattle.run_text.specs.Putting.{Takes}
 use Rattle.cuts.specs.view.Slots.{Slots}
 use Rattle.cuts.specs.histories.Cut.{owned}
 use Rattle.cuts.specs.histories.History.{Local, got, is_start, made, state}
+use Rattle.message_codec.specs.Reading.{reading}
+use Rattle.rank_node.specs.Copies.{bytes_received}
 use Rattle.rank_node.specs.Handles.{Agrees}
 use Rattle.rank_node.specs.Node.{start_of}
 use Rattle.rank_frames.specs.Due.{due_on, messages_due}
-use Rattle.rank_frames.specs.Frames.{frames_for, frames_of}
-use Rattle.rank_frames.specs.Place.{PlaceState}
+use Rattle.rank_frames.specs.Frames.{frame, frames_for, frames_of, head}
+use Rattle.rank_frames.specs.Place.{PlaceState, Refuses, fault_of_head}
+use Rattle.rank_frames.specs.declared.fault.FrameFault.{FrameFault}
 use Rattle.rank_frames.specs.declared.fault.Stop.{Stop}
 use Rattle.rank_frames.specs.declared.fault.Stop.TheVariants.{Frame}
 
@@ -26,6 +29,7 @@ pub record HasGone (p q : PlaceState) (es : List Local) (ms : List Sent) : Type 
   pub made : (k : Slots) → Agrees k q.node.kept → made (start_of p.node.task k) p.node.nic es ≡ ms
   pub ranks : length q.due.requests ≡ length p.due.requests
   pub lanes : (s : ℕ) (lane : Lane) → due_on q.due s lane + length (got es s lane) ≡ due_on p.due s lane
+  pub bytes : q.due.bytes + bytes_received es ≡ p.due.bytes
   pub clean : (s : ℕ) (lane : Lane) → owned (got es s lane) ≡ got es s lane
 
 -- no operation is ready
@@ -49,22 +53,17 @@ abbrev pub IsOutside : Stop → Type 0
 IsOutside (Frame fault) = ⊥
 IsOutside _ = Unit {0}
 
--- where a frame is refused all is written
-abbrev pub IsLeft : Stop → List ℕ → Type 0
-IsLeft (Frame fault) rest = rest ≡ []
-IsLeft _ rest = Unit {0}
-
--- it stopped on its way
+-- it stopped on its way, by no frame
 pub record Stops (e : Stop) (p q : PlaceState) (old new : Outflow) : Type 0 where
   pub bytes : List ℕ
   pub rest : List ℕ
   pub on : GoesOn p q old new bytes rest
-  pub left : IsLeft e rest
+  pub outside : IsOutside e
 
 -- of a text the sink took all, or a beginning
 abbrev pub Writes : Result (Unit {0}) Stop → Outflow → Outflow → List ℕ → Type 0
 Writes (Ok done) old new text = Takes old new text []
-Writes (Err e) old new text = (rest : List ℕ) × Takes old new text rest × IsLeft e rest
+Writes (Err e) old new text = (rest : List ℕ) × Takes old new text rest × IsOutside e
 
 -- it went on by these bytes, with nothing left to write, or it stopped
 abbrev pub Goes : Result (Unit {0}) Stop → PlaceState → PlaceState → Outflow → Outflow → List ℕ → Type 0
@@ -78,10 +77,43 @@ pub record GoesBy (p q : PlaceState) (before after : Option (List ℕ)) (old new
   pub front : GivesFront before after bytes
   pub idle : HasStarted q → IsIdle q
 
+-- ---- refused frames
+
+-- what a source gives is a frame that is refused by its head, of which no more is read
+pub record IsHeadRefused (p : PlaceState) (fault : FrameFault) (bytes : List ℕ) : Type 0 where
+  pub source : ℕ
+  pub count : ℕ
+  pub is : bytes ≡ head source count
+  pub refused : fault_of_head p source count ≡ Some fault
+
+-- ... or by its bytes, where its head isn't
+pub record AreBytesRefused (p : PlaceState) (fault : FrameFault) (bytes : List ℕ) : Type 0 where
+  pub source : ℕ
+  pub behind : List ℕ
+  pub is : bytes ≡ frame source behind
+  pub head_passes : fault_of_head p source (length behind) ≡ None
+  pub refused : Refuses p source (Frame fault) (reading behind)
+
+abbrev pub IsFrameRefused : PlaceState → FrameFault → List ℕ → Type 0
+IsFrameRefused p fault bytes = IsHeadRefused p fault bytes ⊎ AreBytesRefused p fault bytes
+
+-- It went on by what a source gave, with nothing left to write, up to a frame that is refused there. By that frame nothing was done.
+pub record Halts (fault : FrameFault) (p q : PlaceState) (before after : Option (List ℕ)) (old new : Outflow) : Type 0 where
+  pub bytes : List ℕ
+  pub on : GoesOn p q old new bytes []
+  pub frame : List ℕ
+  pub front : GivesFront before after (bytes ++ frame)
+  pub is : IsFrameRefused q fault frame
+
+-- at a frame that is refused, or for another cause
+abbrev pub StopsBy : Stop → PlaceState → PlaceState → Option (List ℕ) → Option (List ℕ) → Outflow → Outflow → Type 0
+StopsBy (Frame fault) p q before after old new = Halts fault p q before after old new
+StopsBy e p q before after old new = Stops e p q old new
+
 -- it went on by frames, or stopped
 abbrev pub TakesFrames : Result (Unit {0}) Stop → PlaceState → PlaceState → Inflow → Inflow → Outflow → Outflow → Type 0
 TakesFrames (Ok done) p q before after old new = GoesBy p q before.left after.left old new
-TakesFrames (Err e) p q before after old new = Stops e p q old new
+TakesFrames (Err e) p q before after old new = StopsBy e p q before.left after.left old new
 
 -- the rank has ended: it has started, nothing is ready, and nothing is due
 pub record IsOver (p : PlaceState) : Type 0 where

@@ -1,14 +1,18 @@
 -- Where a rank stands: its node, and what is still due; what keeps a frame from being taken.
-use Rattle.std.specs.Prelude.{ℕ, not, ◌&&◌, ◌==◌, ◌≡◌, ◌≤◌, ◌<◌, ◌^◌, nat_lt, length}
-use Rattle.std.specs.Prelude.{Option, Some, None, Result, Ok, Err, if◌then◌else◌}
+use Rattle.std.specs.Prelude.{ℕ, not, ◌&&◌, ◌==◌, ◌-◌, ◌≡◌, ◌≤◌, ◌<◌, ◌^◌, nat_lt, length, count_by}
+use Rattle.std.specs.Prelude.{Bool, Option, Some, None, Result, Ok, Err, if◌then◌else◌}
 use Rattle.ptl_types.specs.Kinds.{is_answer, lane_of}
 use Rattle.ptl_types.specs.Messages.{Sent}
 use Rattle.ni_model.specs.Answers.{is_awaited}
 use Rattle.cuts.specs.histories.Cut.{is_stray}
+use Rattle.cuts.specs.histories.History.{is_start}
 use Rattle.rank_node.specs.Node.{IsNode, NodeState, fired_node, received_node}
+use Rattle.message_codec.specs.Reading.{header_length}
 use Rattle.message_codec.specs.declared.fault.Fault.{Fault}
 use Rattle.rank_frames.specs.Due.{Dues, due_on, messages_due, with_taken}
+use Rattle.rank_frames.specs.Frames.{nobody}
 use Rattle.rank_frames.specs.declared.fault.FrameFault.{FrameFault}
+use Rattle.rank_frames.specs.declared.fault.FrameFault.TheVariants.{Mark, Source, TooLong}
 use Rattle.rank_frames.specs.declared.fault.FrameFault.TheVariants.{Message, OtherSource, OtherTarget, OtherJob, Lane, NotAwaited, TooMany}
 use Rattle.rank_frames.specs.declared.fault.Stop.{Stop}
 use Rattle.rank_frames.specs.declared.fault.Stop.TheVariants.{Read, Write, NoMemory, Frame}
@@ -37,6 +41,24 @@ received_place source m p = record p {
   node = received_node source (lane_of m.header.kind) m p.node;
   due = with_taken p.due source (lane_of m.header.kind) (length m.bytes);
 }
+
+-- there was no start
+abbrev pub is_new : PlaceState → Bool
+is_new p = count_by is_start p.node.diary.locals == 0
+
+-- what keeps the bytes behind a frame's head from being read: a mark that isn't that of a first start; no rank's number; a length beyond
+-- that of a message with all bytes that are due
+abbrev pub fault_of_head : PlaceState → ℕ → ℕ → Option FrameFault
+fault_of_head p source count =
+    if source == nobody then (if (count == 0) && is_new p then None else Some Mark)
+    else if not (nat_lt source (length p.due.requests)) then Some Source
+    else if nat_lt p.due.bytes (count - header_length) then Some TooLong
+    else None
+
+-- a frame is refused for its head
+abbrev pub RefusesHead : Stop → Option FrameFault → Type 0
+RefusesHead (Frame fault) found = found ≡ Some fault
+RefusesHead _ found = ⊥
 
 -- what keeps a message of this source from being received: the first of these, in this order
 abbrev pub fault_of : PlaceState → ℕ → Sent → Option FrameFault

@@ -9,10 +9,11 @@ ghost use Rattle.cuts.specs.histories.History.{is_start, made_by};
 ghost use Rattle.cuts.specs.histories.History.Local.{Fire, Receive};
 ghost use Rattle.rank_node.specs.Node.{IsStarted};
 ghost use Rattle.rank_frames.specs.Due.{messages_due};
-ghost use Rattle.rank_frames.specs.Place.{IsPlace, fault_of, fired_place, received_place};
+ghost use Rattle.rank_frames.specs.Place.{IsPlace, fault_of, fault_of_head, fired_place, is_new, received_place};
 
 use crate::due::Due;
 use crate::fault::FrameFault;
+use crate::frames::NOBODY;
 use message_codec::HEADER;
 use ptl_types::{AckRequest, Lane, Message, MessageKind, Rank};
 use rank_node::Node;
@@ -63,11 +64,11 @@ impl Place {
         &self.node
     }
 
-    /// Whether it has started.
-    pub(crate) fn started(&self) -> bool
-        ensures { result ≡ nat_lt 0 (count_by is_start self.now.node.diary.locals) }
+    /// Whether it hasn't started.
+    fn is_new(&self) -> bool
+        ensures { result ≡ is_new self.now }
     {
-        self.node.started()
+        !self.node.started()
     }
 
     /// Whether it has started, and nothing is due.
@@ -117,12 +118,21 @@ impl Place {
         answer
     }
 
-    /// What keeps the bytes behind this head of a frame from being read, if anything.
-    pub(crate) fn fault_of_head(&self, source: Rank, count: u32) -> Option<FrameFault> {
+    /// What keeps the bytes behind this head of a frame from being read, if anything: a mark is that of a first start, and a frame is of
+    /// a rank, and no longer than a message with all bytes that are due.
+    pub(crate) fn fault_of_head(&self, source: Rank, count: u32) -> Option<FrameFault>
+        ensures { result ≡ fault_of_head self.now source count }
+    {
+        if source == NOBODY {
+            if count == 0 && self.is_new() {
+                return None;
+            }
+            return Some(FrameFault::Mark);
+        }
         if source as usize >= self.due.ranks() {
             return Some(FrameFault::Source);
         }
-        if u64::from(count) > self.due.bytes().saturating_add(HEADER as u64) {
+        if u64::from(count).saturating_sub(HEADER as u64) > self.due.bytes() {
             return Some(FrameFault::TooLong);
         }
         None

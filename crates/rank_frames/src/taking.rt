@@ -3,9 +3,9 @@
 ghost use Rattle.std.specs.Prelude.{◌≡◌, ◌<◌, ◌^◌, None, Ok, OnOk, IfOk, IfErr, length};
 ghost use Rattle.message_codec.specs.Encoding.{encoding};
 ghost use Rattle.message_codec.specs.Reading.{reading};
-ghost use Rattle.rank_frames.specs.Frames.{frame, head, nobody};
+ghost use Rattle.rank_frames.specs.Frames.{frame, mark, nobody};
 ghost use Rattle.rank_frames.specs.Going.{Goes, HasStarted, IsIdle, IsOver, TakesFrames};
-ghost use Rattle.rank_frames.specs.Place.{fault_of, Refuses};
+ghost use Rattle.rank_frames.specs.Place.{fault_of, fault_of_head, Refuses, RefusesHead};
 
 use crate::fault::{FrameFault, Stop};
 use crate::frames::{NOBODY, read_bytes, read_head};
@@ -16,19 +16,12 @@ use port_io::{Sink, Source};
 use ptl_types::{Message, Rank};
 use std::alloc::Global;
 
-/// Starts the rank, and fires what is ready then.
-fn start<K: Sink>(
-    place: &mut Place,
-    sink: &mut K,
-    buffer: &mut Vec<u8>,
-    count: u32,
-) -> Result<(), Stop>
-    ensures went { Goes result place.old place.new (K.outflow sink.old) (K.outflow sink.new) (head nobody count) }
+/// Starts the rank, which hasn't started, and fires what is ready then.
+fn start<K: Sink>(place: &mut Place, sink: &mut K, buffer: &mut Vec<u8>) -> Result<(), Stop>
+    requires { fault_of_head place.old nobody 0 ≡ None }
+    ensures went { Goes result place.old place.new (K.outflow sink.old) (K.outflow sink.new) mark }
     ensures idle { OnOk result (IsIdle place.new) }
 {
-    if count != 0 || place.started() {
-        return Err(Stop::Frame(FrameFault::Mark));
-    }
     place.start();
     fire_all(place, sink, buffer)
 }
@@ -81,6 +74,17 @@ fn read_message(alloc: Global, place: &Place, source: Rank, bytes: &[u8]) -> Res
     }
 }
 
+/// Refuses a frame for its head, if anything keeps its bytes from being read.
+fn pass_head(place: &Place, source: Rank, count: u32) -> Result<(), Stop>
+    ensures passes { OnOk result (fault_of_head place.now source count ≡ None) }
+    ensures refused { IfErr result (λ e. RefusesHead e (fault_of_head place.now source count)) }
+{
+    match place.fault_of_head(source, count) {
+        None => Ok(()),
+        Some(fault) => Err(Stop::Frame(fault)),
+    }
+}
+
 /// Takes one frame. A frame that is refused changes nothing.
 fn take_frame<S: Source, K: Sink>(
     alloc: Global,
@@ -93,11 +97,9 @@ fn take_frame<S: Source, K: Sink>(
         (K.outflow sink.old) (K.outflow sink.new) }
 {
     let (from, count) = read_head(source)?;
+    pass_head(place, from, count)?;
     if from == NOBODY {
-        return start(place, sink, buffer, count);
-    }
-    if let Some(fault) = place.fault_of_head(from, count) {
-        return Err(Stop::Frame(fault));
+        return start(place, sink, buffer);
     }
     read_bytes(source, buffer, count)?;
     let message = read_message(alloc, place, from, buffer.as_slice())?;

@@ -11,4 +11,4 @@ loop-preserved g c = by-then _ _ _ _ _ _ _ _ _ c.loop.invariant c.in_ok-take_fra
 pub returns-in_err-take_frame-clause-went : goal.returns-in_err-take_frame-clause-went
 returns-in_err-take_frame-clause-went g c =
     let p = err_from_is_err_and c.from_residual.result c.from_residual.ensures.1 in
-    rw (p.1, p.2) (by-stops _ _ _ _ _ _ _ _ _ c.loop.invariant c.in_err-take_frame.ensures)
+    rw (p.1, p.2) (by-stops _ _ _ _ _ _ _ _ _ _ c.loop.invariant c.in_err-take_frame.ensures)
