@@ -1,2 +1,5 @@
-pub mod Seats
 pub mod Scenes
+pub mod Answering
+pub mod Settling
+pub mod Steps
+pub mod Judging

@@ -9,8 +9,8 @@ use Rattle.log_names.specs.Keys.{number_lookup}
 use Rattle.log_names.specs.Names.{word_of}
 use Rattle.log_names.specs.Postings.{number_of, word_of_number}
 use Rattle.log_names.specs.Flights.{no_flights}
-use Rattle.log_verdict.specs.Seats.{is_free}
-use Rattle.log_verdict.specs.declared.seats.Seat.{Seat}
+use Rattle.log_seats.specs.Seats.{is_free}
+use Rattle.log_seats.specs.declared.seats.Seat.{Seat}
 use Rattle.log_verdict.specs.declared.scenes.Scene.{Scene}
 
 -- no interface is open yet

@@ -4,19 +4,16 @@
 //! so, and each other answer is owed. A handle is compared by the word that the device gave it, so what is owed speaks of no slot.
 #![tactic(auto)]
 
-mod after;
 mod answering;
-mod answers;
-mod bytes;
-mod entries;
+mod arriving;
 mod filling;
 mod judge;
-mod operations;
+mod printed;
 mod scenes;
-mod seats;
 mod settling;
-mod starts;
 mod steps;
-mod tables;
+mod whole;
 
 pub use judge::{Judge, Taken, Verdict};
+pub use printed::Printed;
+pub use whole::verdict_of;

@@ -1,12 +1,12 @@
 //! What stands after some lines of a log: the open interfaces, what words name there, and the messages under way.
 
-ghost use Rattle.std.specs.Prelude.{◌≡◌};
+ghost use Rattle.std.specs.Prelude.{◌≡◌, is_some};
 ghost use Rattle.std.specs.Option.{option_copied};
 ghost use Rattle.log_verdict.specs.Scenes.{descriptor_word_at, known_at, no_interfaces, part_of, seat_at, seat_of};
 
-use crate::seats::Seat;
 use log_answers::{Knows, Sort};
 use log_names::{ByNumber, Flights};
+use log_seats::Seat;
 use ptl_types::{Handle, Rank};
 use std::alloc::Global;
 
@@ -37,6 +37,16 @@ impl Scene {
         ensures { option_copied result ≡ seat_at rank self.now }
     {
         self.seats.get(u64::from(rank))
+    }
+
+    /// Whether the interface of a rank is open.
+    pub(crate) fn is_open(&self, rank: Rank) -> bool
+        ensures { result ≡ is_some (seat_at rank self.now) }
+    {
+        match self.seat(rank) {
+            Some(_) => true,
+            None => false,
+        }
     }
 }
 

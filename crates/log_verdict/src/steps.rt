@@ -1,29 +1,36 @@
 //! What comes of a line.
 
-use crate::after::{After, misuse_word, refused, told, word};
-use crate::answering::{Step, answered, flawed, said_of, said_or_owed, spaced};
-use crate::answers::answer;
-use crate::bytes::bytes_in;
+ghost use Rattle.std.specs.Prelude.{◌≡◌, IfOk, is_some, option_copied};
+ghost use Rattle.log_answers.specs.Agreement.{is_last};
+ghost use Rattle.log_verdict.specs.Answering.{came};
+ghost use Rattle.log_verdict.specs.Scenes.{seat_at};
+ghost use Rattle.log_verdict.specs.Steps.{Asks, CallComes, CallsSeat, LineCame, Makes, MakesUnlessLacking, Opens, answer_flaw, call_flaw};
+ghost use Rattle.log_verdict.specs.Steps.{flaw_or, is_opening, lacks, loses, may_lack, place_flaw, posted_name, region_of, said_if};
+ghost use Rattle.log_verdict.specs.Steps.{says_no_memory, taken_by, taken_word, tells, tells_flight};
+
+use crate::answering::{Step, answered, flawed, said_of, said_or_owed};
+use crate::arriving::deliver;
 use crate::scenes::Scene;
-use crate::seats::Seat;
 use crate::settling::settle;
 use coll_text::is;
-use guarded_ni::Misuse;
 use log_answers::Owed;
 use log_fields::Opening;
 use log_lines::{Call, Line};
-use log_words::{Flaw, Rest, Word};
-use ptl_types::{Bytes, Message, NoMemory, Rank};
+use log_names::Flight;
+use log_seats::{Seat, answer, bytes_in, refused, word};
+use log_words::{Flaw, LineFault, Rest, Word, at};
+use ptl_types::{Bytes, NoMemory, Rank};
 use std::alloc::Global;
 
 /// The bytes that a region begins with.
-fn region_of(alloc: Global, opening: &Opening) -> Result<Bytes, NoMemory> {
-    let region = match &opening.region {
-        Some(word) => bytes_in(alloc, word.text())?,
-        None => None,
-    };
+fn region_of(alloc: Global, region: &Option<Word>) -> Result<Bytes, NoMemory>
+    ensures { IfOk result (λ b. b.list ≡ region_of region.now) }
+{
     match region {
-        Some(bytes) => Ok(Bytes::from_vec(bytes)),
+        Some(word) => {
+            let bytes = bytes_in(alloc, word.text())?;
+            Ok(Bytes::from_vec(bytes))
+        }
         None => Ok(Bytes::empty(alloc)),
     }
 }
@@ -35,8 +42,10 @@ fn open(
     rank: Rank,
     opening: &Opening,
     said: Option<Rest>,
-) -> Result<Step, NoMemory> {
-    let region = region_of(alloc, opening)?;
+) -> Result<Step, NoMemory>
+    ensures { IfOk result (λ step. Opens rank opening.now said.entry scene.old (came scene.new step)) }
+{
+    let region = region_of(alloc, &opening.region)?;
     match guarded_ni::open(alloc, rank, scene.ranks, opening.limits, region) {
         Ok(nic) => {
             let step = said_or_owed(alloc, scene, said, &word(b"ok"))?;
@@ -45,99 +54,27 @@ fn open(
         }
         Err(fault) => {
             let owed = refused(fault)?;
-            said_or_owed(alloc, scene, said, &owed)
+            let step = said_or_owed(alloc, scene, said, &owed)?;
+            Ok(step)
         }
     }
 }
 
-/// The word of a message, `?` where it has none.
-fn word_at(scene: &Scene, age: u64) -> &[u8] {
-    match scene.flights.at(age) {
-        Some(flight) => match flight.word() {
-            Some(word) => word,
-            None => b"?",
-        },
-        None => b"?",
+/// Whether no word is left.
+fn is_last(words: &Rest) -> bool
+    ensures { result ≡ is_last words.now.words }
+{
+    let mut left = words.again();
+    match left.next() {
+        Some(_) => false,
+        None => true,
     }
-}
-
-/// The older message of the same lane that is to arrive first, where lanes are in order and there is one.
-fn older(scene: &Scene, age: u64) -> Option<u64> {
-    if scene.any_order {
-        return None;
-    }
-    let Some(flight) = scene.flights.at(age) else {
-        return None;
-    };
-    match scene.flights.oldest(flight.message().header()) {
-        Some(oldest) if oldest != age => Some(oldest),
-        _ => None,
-    }
-}
-
-/// What becomes of a message that arrives at an interface.
-fn arrives(seat: &mut Seat, arriving: Message) -> After {
-    match guarded_ni::deliver(&mut seat.nic, arriving) {
-        Ok(delivered) => After {
-            owed: Owed::Delivered(delivered.outcome, delivered.answer.is_some()),
-            sent: delivered.answer,
-        },
-        Err(misuse) => told(misuse_word(misuse)),
-    }
-}
-
-/// Whether a message under way is for another rank.
-fn is_elsewhere(scene: &Scene, age: u64, rank: Rank) -> bool {
-    match scene.flights.at(age) {
-        Some(flight) => flight.message().header().target != rank,
-        None => false,
-    }
-}
-
-/// A message that comes before its turn: an older one of its lane is owed.
-fn too_early(alloc: Global, scene: &Scene, message: &Word, oldest: u64) -> Result<Step, NoMemory> {
-    let said = spaced(alloc, message.text())?;
-    let owed = spaced(alloc, word_at(scene, oldest))?;
-    Ok(Step::Differs(message.column(), said, owed))
-}
-
-/// What becomes of the message of a number at an interface: it arrives where it is for this rank.
-fn delivered(scene: &mut Scene, seat: &mut Seat, age: u64) -> After {
-    let rank = seat.nic.rank();
-    if is_elsewhere(scene, age, rank) {
-        return told(misuse_word(Misuse::Elsewhere));
-    }
-    match scene.flights.take(age) {
-        Some(arriving) => arrives(seat, arriving),
-        None => told(misuse_word(Misuse::Elsewhere)),
-    }
-}
-
-/// A message arrives.
-fn deliver(
-    alloc: Global,
-    scene: &mut Scene,
-    rank: Rank,
-    message: &Word,
-    said: Option<Rest>,
-) -> Result<Step, NoMemory> {
-    let Some(age) = scene.flights.age(message.text()) else {
-        return Ok(flawed(message.column(), Flaw::UnknownMessage));
-    };
-    if !is_elsewhere(scene, age, rank) {
-        if let Some(oldest) = older(scene, age) {
-            return too_early(alloc, scene, message, oldest);
-        }
-    }
-    let Some(mut seat) = scene.seats.take(u64::from(rank)) else {
-        return Ok(flawed(1, Flaw::NotOpen));
-    };
-    let after = delivered(scene, &mut seat, age);
-    answered(alloc, scene, seat, said, after)
 }
 
 /// Whether a device may lack memory for a call.
-fn may_lack(call: &Call) -> bool {
+fn may_lack(call: &Call) -> bool
+    ensures { result ≡ may_lack call.now }
+{
     matches!(
         call,
         Call::Open(_) | Call::EqAlloc(_) | Call::Start(_) | Call::Triggered(_, _, _, _)
@@ -145,27 +82,102 @@ fn may_lack(call: &Call) -> bool {
 }
 
 /// Whether a device said that it lacked memory.
-fn says_no_memory(mut said: Rest) -> bool {
-    let Some(word) = said.next() else {
-        return false;
-    };
-    is(word.text(), b"NoMemory") && said.next().is_none()
-}
-
-/// What is wrong with the place of a call: the interface is open where it is opened, or isn't where it is used.
-fn misplaced(call: &Call, is_open: bool) -> Option<Flaw> {
-    match call {
-        Call::Open(_) => { if is_open { Some(Flaw::NameTaken) } else { None } }
-        _ => { if is_open { None } else { Some(Flaw::NotOpen) } }
+fn says_no_memory(said: &Rest) -> bool
+    ensures { result ≡ says_no_memory said.now.words }
+{
+    let mut left = said.again();
+    match left.next() {
+        Some(word) => is(word.text(), b"NoMemory") && is_last(&left),
+        None => false,
     }
 }
 
-/// The column of the word that a triggered operation is given, where one that waits at this rank has it.
-fn posted_at(scene: &Scene, rank: Rank, call: &Call) -> Option<usize> {
-    let Call::Triggered(name, _, _, _) = call else {
+/// Whether a device said that it lacked memory for a call, and may.
+#[tactic(auto, unfolding(crate::specs::Steps::lacks))]
+fn lacks(fills: bool, call: &Call, said: &Rest) -> bool
+    ensures { result ≡ lacks fills call.now said.now }
+{
+    !fills && may_lack(call) && says_no_memory(said)
+}
+
+/// Whether the call opens an interface.
+fn is_opening(call: &Call) -> bool
+    ensures { result ≡ is_opening call.now }
+{
+    matches!(call, Call::Open(_))
+}
+
+/// What is wrong with the place of a call: the interface is open where it is opened, or isn't where it is used.
+fn place_flaw(opening: bool, there: bool) -> Option<Flaw>
+    ensures { result ≡ place_flaw opening there }
+{
+    if opening {
+        if there { Some(Flaw::NameTaken) } else { None }
+    } else if there {
+        None
+    } else {
+        Some(Flaw::NotOpen)
+    }
+}
+
+/// What is wrong with an answer: one stands where it is to be written, or none where it is judged.
+fn answer_flaw(fills: bool, said: &Rest) -> Option<LineFault>
+    ensures { result ≡ answer_flaw fills said.now }
+{
+    let column = said.column();
+    let over = is_last(said);
+    if fills {
+        if over {
+            None
+        } else {
+            Some(at(column, Flaw::BadWord))
+        }
+    } else if over {
+        Some(at(column, Flaw::NoAnswer))
+    } else {
+        None
+    }
+}
+
+/// The first of two flaws.
+fn flaw_or(flaw: Option<Flaw>, later: Option<LineFault>) -> Option<LineFault>
+    ensures { result ≡ flaw_or flaw later }
+{
+    match flaw {
+        Some(flaw) => Some(at(1, flaw)),
+        None => later,
+    }
+}
+
+/// What is wrong with a call before it is made.
+#[tactic(auto, unfolding(crate::specs::Steps::call_flaw))]
+fn call_flaw(fills: bool, call: &Call, said: &Rest, there: bool) -> Option<LineFault>
+    ensures { result ≡ call_flaw fills call.now said.now there }
+{
+    flaw_or(
+        place_flaw(is_opening(call), there),
+        answer_flaw(fills, said),
+    )
+}
+
+/// The word that a triggered operation is given.
+fn posted_name<'c, 'a>(call: &'c Call<'a>) -> Option<&'c Word<'a>>
+    ensures { option_copied result ≡ posted_name call.now }
+{
+    match call {
+        Call::Triggered(name, _, _, _) => Some(name),
+        _ => None,
+    }
+}
+
+/// The column of this word, where an operation that waits has it.
+fn taken_by(name: Option<&Word>, seat: Option<&Seat>) -> Option<usize>
+    ensures { result ≡ taken_by (option_copied name.entry) (option_copied seat.entry) }
+{
+    let Some(name) = name else {
         return None;
     };
-    let Some(seat) = scene.seat(rank) else {
+    let Some(seat) = seat else {
         return None;
     };
     if seat.operation(name).is_some() {
@@ -175,6 +187,32 @@ fn posted_at(scene: &Scene, rank: Rank, call: &Call) -> Option<usize> {
     }
 }
 
+/// The column of the word that a triggered operation is given, where one that waits has it.
+#[tactic(auto, unfolding(crate::specs::Steps::taken_word))]
+fn taken_word(call: &Call, seat: Option<&Seat>) -> Option<usize>
+    ensures { result ≡ taken_word call.now (option_copied seat.entry) }
+{
+    taken_by(posted_name(call), seat)
+}
+
+/// A call that an open interface answers.
+fn asks(
+    alloc: Global,
+    scene: &mut Scene,
+    rank: Rank,
+    call: &Call,
+    said: Option<Rest>,
+) -> Result<Step, NoMemory>
+    ensures { IfOk result (λ step. Asks call.now rank said.entry scene.old (came scene.new step)) }
+{
+    let Some(mut seat) = scene.seats.take(u64::from(rank)) else {
+        return Err(NoMemory);
+    };
+    let after = answer(alloc, &mut seat, call)?;
+    let step = answered(alloc, scene, seat, said, after)?;
+    Ok(step)
+}
+
 /// A call of an open interface, but for `deliver`.
 fn call_open(
     alloc: Global,
@@ -182,33 +220,74 @@ fn call_open(
     rank: Rank,
     call: &Call,
     said: Option<Rest>,
-) -> Result<Step, NoMemory> {
-    if let Some(column) = posted_at(scene, rank, call) {
-        return Ok(flawed(column, Flaw::NameTaken));
+) -> Result<Step, NoMemory>
+    ensures { IfOk result (λ step. CallsSeat call.now rank said.entry scene.old (came scene.new step)) }
+{
+    let named = scene.seat(rank);
+    match taken_word(call, named) {
+        Some(column) => Ok(flawed(column, Flaw::NameTaken)),
+        None => {
+            let step = asks(alloc, scene, rank, call, said)?;
+            Ok(step)
+        }
     }
-    let Some(mut seat) = scene.seats.take(u64::from(rank)) else {
-        return Ok(flawed(1, Flaw::NotOpen));
-    };
-    let after = answer(alloc, &mut seat, call)?;
-    answered(alloc, scene, seat, said, after)
 }
 
-/// A call of a rank, with its answer where one was given.
-fn call_at(
+/// A call that may be made.
+#[tactic(auto, unfolding(crate::specs::Steps::Makes))]
+fn make(
     alloc: Global,
     scene: &mut Scene,
     rank: Rank,
     call: &Call,
     said: Option<Rest>,
-) -> Result<Step, NoMemory> {
+) -> Result<Step, NoMemory>
+    ensures { IfOk result (λ step. Makes call.now rank said.entry scene.old (came scene.new step)) }
+{
     match call {
-        Call::Open(opening) => open(alloc, scene, rank, opening, said),
-        Call::Deliver(message) => deliver(alloc, scene, rank, message, said),
-        _ => call_open(alloc, scene, rank, call, said),
+        Call::Open(opening) => {
+            let step = open(alloc, scene, rank, opening, said)?;
+            Ok(step)
+        }
+        Call::Deliver(message) => {
+            let step = deliver(alloc, scene, rank, message, said)?;
+            Ok(step)
+        }
+        _ => {
+            let step = call_open(alloc, scene, rank, call, said)?;
+            Ok(step)
+        }
     }
 }
 
-/// A call of a rank. Where answers are filled in, none may stand there; else one must.
+/// The answer that was given.
+fn said_if<'a>(fills: bool, said: Rest<'a>) -> Option<Rest<'a>>
+    ensures { result ≡ said_if fills said.entry }
+{
+    if fills { None } else { Some(said) }
+}
+
+/// A call that has no flaw.
+fn unless_lacking(
+    alloc: Global,
+    scene: &mut Scene,
+    fills: bool,
+    rank: Rank,
+    call: &Call,
+    said: Rest,
+) -> Result<Step, NoMemory>
+    ensures { IfOk result (λ step. MakesUnlessLacking fills call.now rank said.entry scene.old (came scene.new step)) }
+{
+    let lacking = lacks(fills, call, &said);
+    if lacking {
+        Ok(Step::Goes)
+    } else {
+        let step = make(alloc, scene, rank, call, said_if(fills, said))?;
+        Ok(step)
+    }
+}
+
+/// A call of a rank.
 fn call(
     alloc: Global,
     scene: &mut Scene,
@@ -216,72 +295,94 @@ fn call(
     rank: Rank,
     call: &Call,
     said: Rest,
-) -> Result<Step, NoMemory> {
-    if let Some(flaw) = misplaced(call, scene.seat(rank).is_some()) {
-        return Ok(flawed(1, flaw));
+) -> Result<Step, NoMemory>
+    ensures { IfOk result (λ step. CallComes fills call.now rank said.entry scene.old (came scene.new step)) }
+{
+    let there = scene.is_open(rank);
+    match call_flaw(fills, call, &said, there) {
+        Some(fault) => Ok(Step::Refused(fault)),
+        None => {
+            let step = unless_lacking(alloc, scene, fills, rank, call, said)?;
+            Ok(step)
+        }
     }
-    let is_silent = said.text().is_none();
-    if fills {
-        return if is_silent {
-            call_at(alloc, scene, rank, call, None)
-        } else {
-            Ok(flawed(said.column(), Flaw::BadWord))
-        };
-    }
-    if is_silent {
-        return Ok(flawed(said.column(), Flaw::NoAnswer));
-    }
-    if may_lack(call) && says_no_memory(said.again()) {
-        return Ok(Step::Goes);
-    }
-    call_at(alloc, scene, rank, call, Some(said))
 }
 
-/// What is told of a message under way.
-fn tells(alloc: Global, scene: &Scene, message: &Word, said: Rest) -> Result<Step, NoMemory> {
-    let Some(age) = scene.flights.age(message.text()) else {
+/// What is told of a message, where it is under way.
+fn tells_flight(
+    alloc: Global,
+    scene: &Scene,
+    flight: Option<&Flight>,
+    message: &Word,
+    said: &Rest,
+) -> Result<Step, NoMemory>
+    ensures { IfOk result (λ step.
+        came scene.now step ≡ tells_flight (option_copied flight.entry) message.now said.now scene.now) }
+{
+    let Some(flight) = flight else {
         return Ok(flawed(message.column(), Flaw::UnknownMessage));
     };
-    let Some(flight) = scene.flights.at(age) else {
-        return Ok(flawed(message.column(), Flaw::UnknownMessage));
-    };
-    if said.text().is_none() {
+    if is_last(said) {
         return Ok(Step::Goes);
     }
     let owed = Owed::Told(*flight.message().header());
-    said_of(
-        alloc,
-        scene,
-        said,
-        &owed,
-        flight.message().bytes().as_slice(),
-    )
+    let bytes = flight.message().bytes().as_slice();
+    let step = said_of(alloc, scene, said, &owed, bytes)?;
+    Ok(step)
+}
+
+/// What is told of a message under way.
+#[tactic(auto, unfolding(crate::specs::Steps::tells))]
+fn tells(alloc: Global, scene: &Scene, message: &Word, said: &Rest) -> Result<Step, NoMemory>
+    ensures { IfOk result (λ step. came scene.now step ≡ tells message.now said.now scene.now) }
+{
+    match scene.flights.age(message.text()) {
+        Some(age) => {
+            let step = tells_flight(alloc, scene, scene.flights.at(age), message, said)?;
+            Ok(step)
+        }
+        None => Ok(flawed(message.column(), Flaw::UnknownMessage)),
+    }
 }
 
 /// A message is lost.
-fn loses(scene: &mut Scene, message: &Word) -> Step {
-    let Some(age) = scene.flights.age(message.text()) else {
-        return flawed(message.column(), Flaw::UnknownMessage);
-    };
-    let _ = scene.flights.take(age);
-    Step::Goes
+#[tactic(auto, unfolding(crate::specs::Steps::loses))]
+fn loses(scene: &mut Scene, message: &Word) -> Step
+    ensures { came scene.new result ≡ loses message.now scene.old }
+{
+    match scene.flights.age(message.text()) {
+        Some(age) => {
+            let _ = scene.flights.take(age);
+            Step::Goes
+        }
+        None => flawed(message.column(), Flaw::UnknownMessage),
+    }
 }
 
 /// What comes of a line that is read. Where `fills` is set the answers of calls are written, and else they are judged.
+#[tactic(auto, unfolding(crate::specs::Steps::LineCame))]
 pub(crate) fn line_step(
     alloc: Global,
     scene: &mut Scene,
     fills: bool,
     line: &Line,
-) -> Result<Step, NoMemory> {
+) -> Result<Step, NoMemory>
+    ensures { IfOk result (λ step. LineCame fills line.now scene.old (came scene.new step)) }
+{
     match line {
         Line::Note => Ok(Step::Goes),
-        Line::Tells(message, said) => tells(alloc, scene, message, said.again()),
+        Line::Tells(message, said) => {
+            let step = tells(alloc, scene, message, said)?;
+            Ok(step)
+        }
         Line::Loses(message) => Ok(loses(scene, message)),
         Line::Settles => {
             settle(alloc, scene)?;
             Ok(Step::Goes)
         }
-        Line::Calls(rank, made, said) => call(alloc, scene, fills, *rank, made, said.again()),
+        Line::Calls(rank, made, said) => {
+            let step = call(alloc, scene, fills, *rank, made, said.again())?;
+            Ok(step)
+        }
     }
 }

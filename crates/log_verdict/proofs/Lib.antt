@@ -1,0 +1,3 @@
+pub mod Comings
+pub mod Pieces
+pub mod Places
