@@ -16,7 +16,7 @@ use std::process::Abort;
 use std::test::Fail;
 
 /// Three ranks with an input of three bytes each.
-const INPUT: &str = "coll 1\nranks 3\ninput a u8 3\n7 1 2\n9 3 4\n5 6 8\n";
+const INPUT: &str = "coll 2\nranks 3\ninput a u8 3\n7 1 2\n9 3 4\n5 6 8\n";
 
 /// More results than there are here.
 const MANY: usize = 1000;
@@ -71,7 +71,7 @@ fn found_of(
     shape.keeps_form();
     own_plans_fit();
     if marks.len() > MANY {
-        return Ok(Agreement::TooLarge);
+        return Err(NoMemory);
     }
     agree(alloc, plan, shape, marks)
 }
@@ -81,8 +81,7 @@ fn name_of(alloc: Global, found: &Agreement) -> Result<String, AllocError> {
     match found {
         Agreement::Same => format!(in alloc; "same"),
         Agreement::Differs(mark, _) => format!(in alloc; "differs {mark}"),
-        Agreement::Unknown(mark) => format!(in alloc; "unknown {mark}"),
-        Agreement::TooLarge => format!(in alloc; "too large"),
+        Agreement::Unknown(mark, bytes) => format!(in alloc; "unknown {mark} {bytes}"),
     }
 }
 
@@ -125,6 +124,10 @@ fn results_are_meant(rt: HostRuntime) -> Result<(), Fail> {
         "allgather a b",
         "alltoall a b",
         "scan bxor a b",
+        "exscan sum a b",
+        "scatter 2 a b",
+        "gatherv 1 a b",
+        "reducescatter max a b",
     ] {
         says(&rt, alloc, step, [1, 1, 0], "same")?;
     }
@@ -161,6 +164,6 @@ fn the_same_otherwise_is_not_known(rt: HostRuntime) -> Result<(), Fail> {
         alloc,
         "allreduce lxor a b\nallreduce lor b c",
         [1, 2, 0],
-        "unknown 0",
+        "unknown 0 0",
     )
 }

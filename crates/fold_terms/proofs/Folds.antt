@@ -145,6 +145,41 @@ one_more_member o ty old now new ms i h so_far more V =
     ∙ sym (fold-append V o ty (take i ms) (m ∷ []) (fold_of V o ty old))
     ∙ ap (λ (ns : List Member). fold_from V o ty ns (fold_of V o ty old)) (sym (take_more ms i no_member h))
 
+-- ---- two lists at once
+-- the next member of the list that the others go on from
+pub one_member_before : (o : AtomicOp) (ty : ElemType) (first now new ms : List Member) (i : ℕ) → i < length first
+    → AreMore o ty (take i first) now ms → IsMore o ty now new (get_or first i no_member).word (get_or first i no_member).times
+    → AreMore o ty (take (i + 1) first) new ms
+one_member_before o ty first now new ms i h so_far more V =
+    let m = get_or first i no_member in
+    let x = word_at V (bytes_of ty) m.word in
+    let f : ℕ → ℕ = again m.times (λ y. op o ty y x) in
+    let s = start_value o ty in
+    let begun : ℕ = fold_of V o ty (take i first) in
+    more V
+    ∙ ap f (so_far V)
+    ∙ sym (fold-again V o ty ms x m.times begun (word-below V ty m.word) (fold-below V o ty (take i first) s (start-lt o ty)))
+    ∙ ap (fold_from V o ty ms) (sym (fold-append V o ty (take i first) (m ∷ []) s))
+    ∙ ap (λ (ns : List Member). fold_from V o ty ms (fold_of V o ty ns)) (sym (take_more first i no_member h))
+
+pub first_goes_on : (o : AtomicOp) (ty : ElemType) (first second old new all : List Member) (i j k n : ℕ) → i < length first → k ≡ i + 1
+    → n ≡ j → all ≡ new → AreMore o ty (take i first) old (take j second)
+    → IsMore o ty old new (get_or first i no_member).word (get_or first i no_member).times → AreMore o ty (take k first) all (take n second)
+first_goes_on o ty first second old new all i j k n h ek en e so_far more V =
+    ap (fold_of V o ty) e
+    ∙ one_member_before o ty first old new (take j second) i h so_far more V
+    ∙ ap (λ m. fold_from V o ty (take j second) (fold_of V o ty (take m first))) (sym ek)
+    ∙ ap (λ m. fold_from V o ty (take m second) (fold_of V o ty (take k first))) (sym en)
+
+pub second_goes_on : (o : AtomicOp) (ty : ElemType) (first second old new all : List Member) (i j k n : ℕ) → j < length second → k ≡ i
+    → n ≡ j + 1 → all ≡ new → AreMore o ty (take i first) old (take j second)
+    → IsMore o ty old new (get_or second j no_member).word (get_or second j no_member).times → AreMore o ty (take k first) all (take n second)
+second_goes_on o ty first second old new all i j k n h ek en e so_far more V =
+    ap (fold_of V o ty) e
+    ∙ one_more_member o ty (take i first) old new second j h so_far more V
+    ∙ ap (λ m. fold_from V o ty (take (j + 1) second) (fold_of V o ty (take m first))) (sym ek)
+    ∙ ap (λ m. fold_from V o ty (take m second) (fold_of V o ty (take k first))) (sym en)
+
 -- ---- a word more
 pub combined_fold : (t : Table) (o : AtomicOp) (ty : ElemType) (old new ms : List Member) (s : ℕ) → AreMore o ty old new ms
     → IsFoldAt t o ty s ms → IsCombined t o ty old new s

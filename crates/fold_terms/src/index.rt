@@ -56,7 +56,8 @@ fn making_hash(making: Making) -> u64 {
 pub(crate) fn list_of(making: Making, members: &[Member]) -> usize {
     let mut hash = making_hash(making);
     for member in members {
-        hash = mixed(mixed(hash, u64::from(member.word)), member.times);
+        let times = member.times.wrapping_mul(FACTOR);
+        hash = mixed(hash, u64::from(member.word) ^ times);
     }
     (hash % LISTS as u64) as usize
 }

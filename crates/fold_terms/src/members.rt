@@ -1,6 +1,6 @@
 //! The members of a fold while it is made.
 
-ghost use Rattle.std.specs.Prelude.{◌≡◌, ◌<◌, ◌≤◌, [], ◌∷◌, ◌++◌, suc, length, get_or, set, take, drop, OnOk};
+ghost use Rattle.std.specs.Prelude.{◌≡◌, ◌<◌, ◌≤◌, ◌+◌, true, false, [], ◌∷◌, ◌++◌, suc, length, get_or, set, take, drop, IfOk, OnOk};
 ghost use Rattle.fold_terms.specs.Folds.{AreMore, IsMore};
 ghost use Rattle.fold_terms.specs.Terms.{no_member};
 
@@ -10,6 +10,9 @@ use crate::times::times_of;
 use ptl_types::{AtomicOp, ElemType};
 use std::alloc::Global;
 use std::marker::Model;
+
+/// A list with so many times more members takes them one by one.
+const FEW: usize = 16;
 
 /// The members of a fold, by rising places, each once.
 #[derive(Drop)]
@@ -51,6 +54,15 @@ impl Members {
         Members {
             list: Vec::new(alloc),
         }
+    }
+
+    /// None yet, with room for so many.
+    fn with_room(alloc: Global, count: usize) -> Result<Members, TermFault>
+        ensures { IfOk result (λ members. members ≡ []) }
+    {
+        Ok(Members {
+            list: Vec::with_capacity(alloc, count)?,
+        })
     }
 
     /// The members.
@@ -150,13 +162,20 @@ impl Members {
         }
     }
 
-    /// Combines the words of these members as many times as they say.
-    pub(crate) fn add_all(
-        &mut self,
-        op: AtomicOp,
-        ty: ElemType,
-        members: &[Member],
-    ) -> Result<(), TermFault>
+    /// Combines a word so many times more: it is that of the last member, or the new last one.
+    fn append(&mut self, op: AtomicOp, ty: ElemType, member: Member) -> Result<(), TermFault>
+        ensures { OnOk result (IsMore op ty self.old self.new member.word member.times) }
+    {
+        let end = self.list.len();
+        if end > 0 && self.list[end - 1].word == member.word {
+            self.count_up(op, ty, end - 1, member.times)
+        } else {
+            self.put(op, ty, end, member)
+        }
+    }
+
+    /// Combines the words of these members, which are few, as many times as they say.
+    fn add_each(&mut self, op: AtomicOp, ty: ElemType, members: &[Member]) -> Result<(), TermFault>
         ensures { OnOk result (AreMore op ty self.old self.new members.now) }
     {
         for member in members {
@@ -164,4 +183,61 @@ impl Members {
         }
         Ok(())
     }
+
+    /// Combines the words of these members as many times as they say. They stand by rising places.
+    pub(crate) fn add_all(
+        &mut self,
+        alloc: Global,
+        op: AtomicOp,
+        ty: ElemType,
+        members: &[Member],
+    ) -> Result<(), TermFault>
+        ensures { OnOk result (AreMore op ty self.old self.new members.now) }
+    {
+        if members.len() < self.list.len() / FEW {
+            return self.add_each(op, ty, members);
+        }
+        *self = merged(alloc, op, ty, self.list.as_slice(), members)?;
+        Ok(())
+    }
+}
+
+/// Whether the next member of the first list comes before that of the second.
+fn is_first_next(first: &[Member], i: usize, second: &[Member], j: usize) -> bool
+    requires some { i + j < length first.now + length second.now }
+    requires within { j ≤ length second.now }
+    ensures first { result ≡ true → i < length first.now }
+    ensures second { result ≡ false → j < length second.now }
+{
+    if i >= first.len() {
+        return false;
+    }
+    j >= second.len() || first[i].word <= second[j].word
+}
+
+/// The members of two lists together, each of which is by rising places.
+#[tactic(auto, using(crate::proofs::Folds::one_more_member, crate::proofs::Folds::one_member_before, crate::proofs::Folds::no_more))]
+fn merged(
+    alloc: Global,
+    op: AtomicOp,
+    ty: ElemType,
+    first: &[Member],
+    second: &[Member],
+) -> Result<Members, TermFault>
+    ensures { IfOk result (λ all. AreMore op ty first.now all second.now) }
+{
+    let total = first.len() + second.len();
+    let mut all = Members::with_room(alloc, total)?;
+    let mut i = 0usize;
+    let mut j = 0usize;
+    for _k in 0..total {
+        if is_first_next(first, i, second, j) {
+            all.append(op, ty, first[i])?;
+            i += 1;
+        } else {
+            all.append(op, ty, second[j])?;
+            j += 1;
+        }
+    }
+    Ok(all)
 }

@@ -100,6 +100,7 @@ impl Terms {
     /// Combines a fold with a word. Where that is itself a fold by the same operation its members are.
     pub fn combine(
         &self,
+        alloc: Global,
         op: AtomicOp,
         ty: ElemType,
         members: &mut Members,
@@ -108,7 +109,7 @@ impl Terms {
         ensures { OnOk result (IsCombined self.now op ty members.old members.new word) }
     {
         match self.fold_at(op, ty, word) {
-            Some(r) => members.add_all(op, ty, self.members(r)),
+            Some(r) => members.add_all(alloc, op, ty, self.members(r)),
             None => members.add(op, ty, word, 1),
         }
     }

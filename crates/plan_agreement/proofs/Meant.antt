@@ -1,10 +1,11 @@
 -- Results that are computed as in the shape's own plan are what the shape means.
-use Rattle.std.proofs.Common.{ℕ, ◌/◌, ◌%◌, ◌≡◌, ◌≤◌, ◌<◌, List, [], length, map, get_or, Option, Some, None, refl, ap, sym, subst}
+use Rattle.std.proofs.Common.{ℕ, zero, suc, take, ◌/◌, ◌%◌, ◌≡◌, ◌≤◌, ◌<◌, List, [], length, map, get_or}
+use Rattle.std.proofs.Common.{Option, Some, None, refl, ap, sym, subst}
 use Rattle.std.proofs.Common.{◌∙◌, arith}
 use Rattle.std.proofs.Common.{mod-lt, inl, inr}
 use Rattle.std.specs.Prelude.{All, MatchOption}
 use Rattle.std.proofs.lemmas.Bool.{cases_lt}
-use Rattle.std.proofs.lemmas.List.{get_or_past}
+use Rattle.std.proofs.lemmas.List.{get_or_past, take-map}
 use Rattle.coll_shape.specs.Folding.{at}
 use Rattle.coll_shape.specs.Meaning.{AreInputs, Lists, lists_of, meaning_of}
 use Rattle.coll_shape.specs.Outline.{Outline}
@@ -22,7 +23,10 @@ use Rattle.plan_terms.specs.Cells.{AreCells, Suits}
 use Rattle.plan_terms.proofs.NextCell.{suits_before}
 use Rattle.fold_terms.proofs.Runs.{get-map}
 use Rattle.mark_judge.specs.Due.{mark_at}
-use Rattle.plan_agreement.specs.Agreement.{AreAlikeTo, AreMeantTo, IsAlike, IsAlikeAt, IsAlwaysMeant, IsPlanFor, held_places}
+use Rattle.plan_agreement.specs.declared.comparing.Unlike.{Unlike}
+use Rattle.plan_agreement.specs.Agreement.{AreAlikeTo, AreMeantTo, AreNoResultsTo, IsAlike, IsAlikeAt, IsAlwaysMeant, IsFirstResult}
+use Rattle.plan_agreement.specs.Agreement.{IsFirstUnlike, IsOpenAt, IsPartAlike, IsPartAlikeAt, IsPartAlwaysMeant, IsPlanFor, IsResult}
+use Rattle.plan_agreement.specs.Agreement.{held_places}
 
 -- ---- the inputs' bytes
 get_nothing : {X : Type 0} (i : ℕ) (d : X) → get_or [] i d ≡ d
@@ -107,10 +111,69 @@ compared p o q count t u v given own wf many ranks is first second ours theirs s
   solved = solved;
 }
 
+-- ---- the first bytes
+part_at : (p : Plan) (o : Outline) (count : ℕ) (t : Table) (given own : List (List ℕ)) (b r c k : ℕ) → IsWellFormed o → IsPlanFor p o
+    → AreCompared p o count t given own → IsPartAlikeAt p o given own b r c k → (inputs : Lists) → AreInputs o inputs
+    → take k (value p inputs c) ≡ take k (at (lists_of (meaning_of o inputs) b) r)
+part_at p o count t given own b r c k wf for both alike inputs ins =
+    let some : 0 < t.ranks = subst (λ n. 0 < n) (sym both.ranks) both.some in
+    let solved = both.solved inputs (input_bytes o inputs t.ranks both.ranks some ins) in
+    let V = solved.at in
+    let many : length inputs ≡ count = ins.many ∙ sym both.many in
+    let suits : Suits p count t inputs V = record { many = many; fits = for.fits inputs ins; solution = solved.is } in
+    let suits' : Suits (plan_of o) count t inputs V = record { many = many; fits = inputs_fit o inputs wf ins; solution = solved.is } in
+    let due = held_places own (held_cell (drawing_of o).held b r) in
+    ap (take k) (sym (at_cell p count t given inputs V c both.theirs suits alike.cell))
+    ∙ take-map V k (get_or given c [])
+    ∙ ap (map V) alike.places
+    ∙ sym (take-map V k due)
+    ∙ ap (take k)
+    (at_held o count t own inputs V b r wf ins alike.buffer alike.rank both.ours suits' (held_cell (drawing_of o).held b r) refl)
+
+any_part : (p : Plan) (o : Outline) (count : ℕ) (t : Table) (given own : List (List ℕ)) (b r c k : ℕ) → IsWellFormed o → IsPlanFor p o
+    → AreCompared p o count t given own → (0 < k → IsPartAlikeAt p o given own b r c k) → (inputs : Lists) → AreInputs o inputs
+    → take k (value p inputs c) ≡ take k (at (lists_of (meaning_of o inputs) b) r)
+any_part p o count t given own b r c zero wf for both alike inputs ins = refl
+any_part p o count t given own b r c (suc k) wf for both alike inputs ins =
+    part_at p o count t given own b r c (suc k) wf for both (alike (omega arith)) inputs ins
+
+pub part_meant : (p : Plan) (o : Outline) (count : ℕ) (t : Table) (given own : List (List ℕ)) → IsWellFormed o → IsPlanFor p o
+    → AreCompared p o count t given own → (m : Mark) (k : ℕ) → IsPartAlike p o given own m k → IsPartAlwaysMeant p o m k
+part_meant p o count t given own wf for both (Result b r c) k alike = any_part p o count t given own b r c k wf for both alike
+part_meant p o count t given own wf for both (Enter s r c) k alike = λ inputs ins. tt
+part_meant p o count t given own wf for both (Leave s r c) k alike = λ inputs ins. tt
+
 -- ---- up to the first that isn't alike
-pub first_meant : (p : Plan) (o : Outline) (given own : List (List ℕ)) (ms : List Mark) (n : ℕ)
-    → ((m : Mark) → IsAlike p o given own m → IsAlwaysMeant p o m) → (first : Option ℕ)
-    → MatchOption first (AreAlikeTo p o given own ms n) (λ i. (i < n) × AreAlikeTo p o given own ms i)
-    → MatchOption first (AreMeantTo p o ms n) (λ i. (i < n) × AreMeantTo p o ms i)
-first_meant p o given own ms n means None alike = λ i h. means (mark_at ms i) (alike i h)
-first_meant p o given own ms n means (Some i) alike = (alike.0, λ j h. means (mark_at ms j) (alike.1 j h))
+pub first_meant : (p : Plan) (o : Outline) (count : ℕ) (t : Table) (given own : List (List ℕ)) → IsWellFormed o → IsPlanFor p o
+    → AreCompared p o count t given own → (ms : List Mark) (n : ℕ) → n ≡ length ms → (first : Option Unlike)
+    → MatchOption first (AreAlikeTo p o given own ms n) (IsFirstUnlike p o given own ms)
+    → MatchOption first (AreMeantTo p o ms n) (IsOpenAt p o ms)
+first_meant p o count t given own wf for both ms n e None alike =
+    λ i h. meant p o count t given own wf for both (mark_at ms i) (alike i h)
+first_meant p o count t given own wf for both ms n e (Some u) alike = record {
+  mark = alike.mark;
+  result = alike.result;
+  before = λ j h. meant p o count t given own wf for both (mark_at ms j) (alike.before j h);
+  part = part_meant p o count t given own wf for both (mark_at ms u.mark) u.bytes alike.part;
+}
+
+-- ---- with nothing to compare with
+no_result : (p : Plan) (o : Outline) (m : Mark) → (IsResult m → ⊥) → IsAlwaysMeant p o m
+no_result p o (Result b r c) not = absurd (not tt)
+no_result p o (Enter s r c) not = λ inputs ins. tt
+no_result p o (Leave s r c) not = λ inputs ins. tt
+
+none_of : (p : Plan) (o : Outline) (m : Mark) → IsPartAlwaysMeant p o m 0
+none_of p o (Result b r c) = λ inputs ins. refl
+none_of p o (Enter s r c) = λ inputs ins. tt
+none_of p o (Leave s r c) = λ inputs ins. tt
+
+pub result_open : (p : Plan) (o : Outline) (ms : List Mark) (n : ℕ) (first : Option Unlike)
+    → MatchOption first (AreNoResultsTo ms n) (IsFirstResult ms) → MatchOption first (AreMeantTo p o ms n) (IsOpenAt p o ms)
+result_open p o ms n None none = λ i h. no_result p o (mark_at ms i) (none i h)
+result_open p o ms n (Some u) is = record {
+  mark = is.mark;
+  result = is.result;
+  before = λ j h. no_result p o (mark_at ms j) (is.before j h);
+  part = subst (IsPartAlwaysMeant p o (mark_at ms u.mark)) (sym is.nothing) (none_of p o (mark_at ms u.mark));
+}

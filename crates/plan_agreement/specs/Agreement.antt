@@ -1,5 +1,5 @@
 -- What is found of a plan whose results are named, for all inputs of a shape.
-use Rattle.std.specs.Prelude.{ℕ, ◌<◌, ◌≡◌, List, Option, Some, None, [], length, get_or}
+use Rattle.std.specs.Prelude.{ℕ, ◌<◌, ◌≡◌, List, Option, Some, None, [], length, get_or, take}
 use Rattle.coll_shape.specs.Folding.{at}
 use Rattle.coll_shape.specs.Meaning.{AreInputs, Lists, lists_of, meaning_of}
 use Rattle.coll_shape.specs.Outline.{Outline}
@@ -12,7 +12,8 @@ use Rattle.plan_core.specs.Draw.{held_cell}
 use Rattle.plan_core.specs.Values.{value}
 use Rattle.shape_plans.specs.Drawing.{drawing_of}
 use Rattle.plan_agreement.specs.declared.agreement.Agreement.{Agreement}
-use Rattle.plan_agreement.specs.declared.agreement.Agreement.TheVariants.{Same, Differs, Unknown, TooLarge}
+use Rattle.plan_agreement.specs.declared.agreement.Agreement.TheVariants.{Same, Differs, Unknown}
+use Rattle.plan_agreement.specs.declared.comparing.Unlike.{Unlike}
 
 -- a sound plan for all inputs of the shape
 pub record IsPlanFor (p : Plan) (o : Outline) : Type 0 where
@@ -41,12 +42,38 @@ pub record IsShown (p : Plan) (o : Outline) (ms : List Mark) (i : ℕ) (inputs :
   pub taken : AreInputs o inputs
   pub differs : IsMeant p o inputs (mark_at ms i) → ⊥
 
+-- ---- where it isn't known
+-- the line names the cell of a result
+abbrev pub IsResult : Mark → Type 0
+IsResult (Result b r c) = Unit {0}
+IsResult (Enter s r c) = ⊥
+IsResult (Leave s r c) = ⊥
+
+-- the cell begins with the first k bytes of the list that is meant of these inputs
+abbrev pub IsPartMeant : Plan → Outline → Lists → Mark → ℕ → Type 0
+IsPartMeant p o inputs (Result b r c) k = take k (value p inputs c) ≡ take k (at (lists_of (meaning_of o inputs) b) r)
+IsPartMeant p o inputs (Enter s r c) k = Unit {0}
+IsPartMeant p o inputs (Leave s r c) k = Unit {0}
+
+abbrev pub IsPartAlwaysMeant : Plan → Outline → Mark → ℕ → Type 0
+IsPartAlwaysMeant p o m k = (inputs : Lists) → AreInputs o inputs → IsPartMeant p o inputs m k
+
+-- All results before this one are meant, and of this one the first k bytes. Of the rest it isn't known.
+pub record IsOpen (p : Plan) (o : Outline) (ms : List Mark) (i k : ℕ) : Type 0 where
+  pub mark : i < length ms
+  pub result : IsResult (mark_at ms i)
+  pub before : AreMeantTo p o ms i
+  pub part : IsPartAlwaysMeant p o (mark_at ms i) k
+
+abbrev pub IsOpenAt : Plan → Outline → List Mark → Unlike → Type 0
+IsOpenAt p o ms u = IsOpen p o ms u.mark u.bytes
+
+-- ---- what is found
 -- The same for all inputs; or not the same for these, while all results before it are; or it isn't known whether it is.
 abbrev pub Agrees : Plan → Outline → List Mark → Agreement → Type 0
 Agrees p o ms Same = AreMeantTo p o ms (length ms)
 Agrees p o ms (Differs i inputs) = IsShown p o ms i inputs
-Agrees p o ms (Unknown i) = (i < length ms) × AreMeantTo p o ms i
-Agrees p o ms TooLarge = Unit {0}
+Agrees p o ms (Unknown i k) = IsOpen p o ms i k
 
 -- ---- by the shape's own plan
 
@@ -69,3 +96,34 @@ IsAlike p o given own (Leave s r c) = Unit {0}
 
 abbrev pub AreAlikeTo : Plan → Outline → List (List ℕ) → List (List ℕ) → List Mark → ℕ → Type 0
 AreAlikeTo p o given own ms n = (i : ℕ) → i < n → IsAlike p o given own (mark_at ms i)
+
+-- its first k places are those of that cell
+pub record IsPartAlikeAt (p : Plan) (o : Outline) (given own : List (List ℕ)) (b r c k : ℕ) : Type 0 where
+  pub cell : c < length p.cells
+  pub buffer : b < length o.buffers
+  pub rank : r < o.ranks
+  pub places : take k (get_or given c []) ≡ take k (held_places own (held_cell (drawing_of o).held b r))
+
+abbrev pub IsPartAlike : Plan → Outline → List (List ℕ) → List (List ℕ) → Mark → ℕ → Type 0
+IsPartAlike p o given own (Result b r c) k = 0 < k → IsPartAlikeAt p o given own b r c k
+IsPartAlike p o given own (Enter s r c) k = Unit {0}
+IsPartAlike p o given own (Leave s r c) k = Unit {0}
+
+-- the first result that isn't alike, and how many of its bytes are
+pub record IsFirstUnlike (p : Plan) (o : Outline) (given own : List (List ℕ)) (ms : List Mark) (u : Unlike) : Type 0 where
+  pub mark : u.mark < length ms
+  pub result : IsResult (mark_at ms u.mark)
+  pub before : AreAlikeTo p o given own ms u.mark
+  pub part : IsPartAlike p o given own (mark_at ms u.mark) u.bytes
+
+-- ---- by no plan
+-- none of the first n lines names the cell of a result
+abbrev pub AreNoResultsTo : List Mark → ℕ → Type 0
+AreNoResultsTo ms n = (i : ℕ) → i < n → IsResult (mark_at ms i) → ⊥
+
+-- the first that does, of which nothing is known
+pub record IsFirstResult (ms : List Mark) (u : Unlike) : Type 0 where
+  pub mark : u.mark < length ms
+  pub result : IsResult (mark_at ms u.mark)
+  pub before : AreNoResultsTo ms u.mark
+  pub nothing : u.bytes ≡ 0

@@ -4,9 +4,9 @@ ghost use Rattle.std.specs.Prelude.{◌≡◌, ◌<◌, ◌^◌, true, None, IfO
 ghost use Rattle.coll_shape.specs.Meaning.{AreInputs};
 ghost use Rattle.shape_plans.specs.Drawing.{drawing_of, plan_of};
 ghost use Rattle.shape_plans.specs.Footprint.{refusal};
-ghost use Rattle.plan_agreement.specs.Agreement.{Agrees, AreMeantTo, IsMeant, IsPlanFor};
+ghost use Rattle.plan_agreement.specs.Agreement.{Agrees, AreMeantTo, IsMeant, IsOpenAt, IsPlanFor};
 
-use crate::comparing::first_unlike;
+use crate::comparing::{Unlike, first_result, first_unlike};
 use crate::witness::witness;
 use coll_meaning::buffers_of;
 use coll_shape::{Inputs, Shape};
@@ -29,10 +29,9 @@ pub enum Agreement {
     Same,
     /// This one isn't for these inputs. Each before it is for all inputs.
     Differs(u32, Inputs),
-    /// Each before this one is for all inputs. Of this one neither was found.
-    Unknown(u32),
-    /// The shape's own plan is refused, or there is too much to compare.
-    TooLarge,
+    /// Each before this one is for all inputs, and of this one so many of its first bytes are what the shape means of them. Of the rest
+    /// neither was found.
+    Unknown(u32, u64),
 }
 
 /// Whether two lists aren't the same.
@@ -72,13 +71,13 @@ fn search(
     plan: &Plan,
     shape: &Shape,
     marks: &[Mark],
-    mark: u32,
+    unknown: Unlike,
 ) -> Result<Agreement, NoMemory>
     requires fits { IsPlanFor plan.now shape.now }
-    requires mark { mark < length marks.now }
-    requires before { AreMeantTo plan.now shape.now marks.now mark }
+    requires unknown { IsOpenAt plan.now shape.now marks.now unknown }
     ensures { IfOk result (λ found. Agrees plan.now shape.now marks.now found) }
 {
+    let mark = unknown.mark;
     for kind in 0..TRIES {
         let inputs = witness(alloc, shape, kind)?;
         let found = differs(alloc, plan, shape, &inputs, marks[mark as usize])?;
@@ -86,7 +85,7 @@ fn search(
             return Ok(Agreement::Differs(mark, inputs));
         }
     }
-    Ok(Agreement::Unknown(mark))
+    Ok(Agreement::Unknown(mark, unknown.bytes))
 }
 
 /// The bytes of the longest list of an input.
@@ -117,14 +116,14 @@ fn unlike(
     shape: &Shape,
     drawn: &DrawnShape,
     marks: &[Mark],
-) -> Result<Option<u32>, TermFault>
+) -> Result<Option<Unlike>, TermFault>
     requires fits { IsPlanFor plan.now shape.now }
     requires accepted { refusal shape.now ≡ None }
     requires plan { drawn.now.plan ≡ plan_of shape.now }
     requires held { drawn.now.held ≡ (drawing_of shape.now).held }
     requires few_marks { length marks.now < 2 ^ 32 }
     ensures { IfOk result (λ found. MatchOption found (AreMeantTo plan.now shape.now marks.now (length marks.now))
-        (λ i. (i < length marks.now) × AreMeantTo plan.now shape.now marks.now i)) }
+        (IsOpenAt plan.now shape.now marks.now)) }
 {
     shape.keeps_form();
     let ranks = shape.ranks();
@@ -136,23 +135,32 @@ fn unlike(
     Ok(first_unlike(plan, shape, &given, &own, &drawn.held, marks))
 }
 
-/// What is found where this is the first mark whose cell isn't computed as the shape's own plan computes it.
+/// What is found where this is the first mark of whose cell it isn't known.
 fn by_first(
     alloc: Global,
     plan: &Plan,
     shape: &Shape,
     marks: &[Mark],
-    first: Option<u32>,
+    first: Option<Unlike>,
 ) -> Result<Agreement, NoMemory>
     requires fits { IsPlanFor plan.now shape.now }
     requires first { MatchOption first (AreMeantTo plan.now shape.now marks.now (length marks.now))
-        (λ i. (i < length marks.now) × AreMeantTo plan.now shape.now marks.now i) }
+        (IsOpenAt plan.now shape.now marks.now) }
     ensures { IfOk result (λ found. Agrees plan.now shape.now marks.now found) }
 {
     match first {
         None => Ok(Agreement::Same),
-        Some(mark) => search(alloc, plan, shape, marks, mark),
+        Some(unknown) => search(alloc, plan, shape, marks, unknown),
     }
+}
+
+/// What is found where there is nothing to compare with.
+fn by_none(alloc: Global, plan: &Plan, shape: &Shape, marks: &[Mark]) -> Result<Agreement, NoMemory>
+    requires fits { IsPlanFor plan.now shape.now }
+    requires few_marks { length marks.now < 2 ^ 32 }
+    ensures { IfOk result (λ found. Agrees plan.now shape.now marks.now found) }
+{
+    by_first(alloc, plan, shape, marks, first_result(marks))
 }
 
 /// What is found by a comparison with the shape's own plan.
@@ -173,13 +181,14 @@ fn against(
     match unlike(alloc, plan, shape, drawn, marks) {
         Ok(found) => by_first(alloc, plan, shape, marks, found),
         Err(TermFault::NoMemory) => Err(NoMemory),
-        Err(_) => Ok(Agreement::TooLarge),
+        Err(_) => by_none(alloc, plan, shape, marks),
     }
 }
 
 /// Compares the results that are named with what the shape means, for all inputs. A result is the same where its bytes are computed from
 /// the inputs' bytes as in the shape's own plan, up to the order and grouping of operands, and to operands that an operation may meet
-/// again. Where it isn't, inputs are looked for that show that the result isn't what is meant.
+/// again. Where it isn't, inputs are looked for that show that the result isn't what is meant; so are they for the first result where the
+/// shape's own plan is refused or there is too much to compare.
 ///
 /// It takes about twelve bytes of memory for each byte of both plans' cells, and more for what is combined.
 ///
@@ -199,6 +208,6 @@ pub fn agree(
     match drawn_shape(alloc, shape) {
         Ok(drawn) => against(alloc, plan, shape, &drawn, marks),
         Err(CompileFault::NoMemory) => Err(NoMemory),
-        Err(_) => Ok(Agreement::TooLarge),
+        Err(_) => by_none(alloc, plan, shape, marks),
     }
 }

@@ -1,15 +1,25 @@
 //! Results compared by what their bytes are computed from.
 
-ghost use Rattle.std.specs.Prelude.{◌≡◌, ◌<◌, true, MatchOption, length};
+ghost use Rattle.std.specs.Prelude.{◌≡◌, ◌<◌, true, false, MatchOption, length, take};
 ghost use Rattle.plan_core.specs.Draw.{held_cell};
 ghost use Rattle.shape_plans.specs.Drawing.{drawing_of};
-ghost use Rattle.plan_agreement.specs.Agreement.{AreAlikeTo, IsAlike, held_places};
+ghost use Rattle.plan_agreement.specs.Agreement.{AreAlikeTo, AreNoResultsTo, IsAlike, IsFirstResult, IsFirstUnlike};
+ghost use Rattle.plan_agreement.specs.Agreement.{IsPartAlike, IsResult, held_places};
 
 use coll_shape::Shape;
 use given_lines::Mark;
 use plan_core::{BufferCells, Plan};
 use plan_terms::CellPlaces;
 use ptl_types::Rank;
+
+/// A result whose cell isn't computed as the cell is that holds its buffer.
+#[derive(Clone, Copy)]
+pub(crate) struct Unlike {
+    /// The number of its line.
+    pub(crate) mark: u32,
+    /// How many of its first bytes are computed alike.
+    pub(crate) bytes: u64,
+}
 
 /// The places of the cell of the shape's own plan that holds a buffer at a rank; none, where no cell does.
 fn due_places<'a>(
@@ -52,7 +62,8 @@ pub(crate) fn is_alike(
     mark: Mark,
 ) -> bool
     requires held { held.now ≡ (drawing_of shape.now).held }
-    ensures { result ≡ true → IsAlike plan.now shape.now given.now own.now mark }
+    ensures alike { result ≡ true → IsAlike plan.now shape.now given.now own.now mark }
+    ensures unlike { result ≡ false → IsResult mark }
 {
     match mark {
         Mark::Result { buffer, rank, cell } => {
@@ -65,6 +76,42 @@ pub(crate) fn is_alike(
     }
 }
 
+/// How many places two lists have before the first that isn't the same.
+fn same_places(a: &[u32], b: &[u32]) -> usize
+    ensures { take result a.now ≡ take result b.now }
+{
+    let both = a.len().min(b.len());
+    for i in 0..both {
+        if a[i] != b[i] {
+            return i;
+        }
+    }
+    both
+}
+
+/// How many of the first bytes of the cell of a mark, where it is a result's, are computed as those of the cell that holds its buffer.
+fn alike_bytes(
+    plan: &Plan,
+    shape: &Shape,
+    given: &CellPlaces,
+    own: &CellPlaces,
+    held: &BufferCells,
+    mark: Mark,
+) -> u64
+    requires held { held.now ≡ (drawing_of shape.now).held }
+    ensures { IsPartAlike plan.now shape.now given.now own.now mark result }
+{
+    match mark {
+        Mark::Result { buffer, rank, cell } => {
+            if !is_known(plan, shape, buffer, rank, cell) {
+                return 0;
+            }
+            same_places(given.cell(cell), due_places(shape, own, held, buffer, rank)) as u64
+        }
+        _ => 0,
+    }
+}
+
 /// The first mark whose cell isn't computed so.
 pub(crate) fn first_unlike(
     plan: &Plan,
@@ -73,15 +120,42 @@ pub(crate) fn first_unlike(
     own: &CellPlaces,
     held: &BufferCells,
     marks: &[Mark],
-) -> Option<u32>
+) -> Option<Unlike>
     requires held { held.now ≡ (drawing_of shape.now).held }
     requires few { length marks.now < 4294967296 }
     ensures { MatchOption result (AreAlikeTo plan.now shape.now given.now own.now marks.now (length marks.now))
-        (λ i. (i < length marks.now) × AreAlikeTo plan.now shape.now given.now own.now marks.now i) }
+        (IsFirstUnlike plan.now shape.now given.now own.now marks.now) }
 {
     for i in 0..marks.len() {
         if !is_alike(plan, shape, given, own, held, marks[i]) {
-            return Some(i as u32);
+            return Some(Unlike {
+                mark: i as u32,
+                bytes: alike_bytes(plan, shape, given, own, held, marks[i]),
+            });
+        }
+    }
+    None
+}
+
+/// Whether a mark names the cell of a result.
+fn is_result(mark: Mark) -> bool
+    ensures result { result ≡ true → IsResult mark }
+    ensures other { result ≡ false → IsResult mark → ⊥ }
+{
+    matches!(mark, Mark::Result { .. })
+}
+
+/// The first mark that names the cell of a result, of which nothing is known.
+pub(crate) fn first_result(marks: &[Mark]) -> Option<Unlike>
+    requires { length marks.now < 4294967296 }
+    ensures { MatchOption result (AreNoResultsTo marks.now (length marks.now)) (IsFirstResult marks.now) }
+{
+    for i in 0..marks.len() {
+        if is_result(marks[i]) {
+            return Some(Unlike {
+                mark: i as u32,
+                bytes: 0,
+            });
         }
     }
     None

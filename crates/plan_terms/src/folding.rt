@@ -52,7 +52,7 @@ fn land_elements(
     let size = ty.size() as usize;
     for i in 0..folds.len() {
         let word = terms.word_of(alloc, element(places, i, size))?;
-        terms.combine(op, ty, &mut folds[i], word)?;
+        terms.combine(alloc, op, ty, &mut folds[i], word)?;
     }
     Ok(())
 }

@@ -1,8 +1,8 @@
 -- Both plans are evaluated over one table.
-use Rattle.std.proofs.Common.{◌+◌, ◌<◌, ◌^◌, ◌∙◌, ◌-◌, length, ap, sym, subst}
+use Rattle.std.proofs.Common.{◌+◌, ◌<◌, ◌^◌, ◌∙◌, ◌-◌, length, refl, ap, sym, subst}
 use Rattle.plan_core.specs.Plan.{Plan}
 use Rattle.plan_agreement.proofs.Lists.{own_fit}
-use Rattle.plan_agreement.proofs.Meant.{compared, first_meant, meant}
+use Rattle.plan_agreement.proofs.Meant.{compared, first_meant}
 use Rattle.plan_agreement.proofs.agreement.unlike.Goals as goal
 
 pub cell_places-requires-clause-few : goal.cell_places-requires-clause-few
@@ -44,5 +44,5 @@ returns c =
     c.keeps_form.ensures.shape c.input_count-count.ensures.value (c.in_ok-terms.ensures ∙ c.ranks-ranks.ensures.value) c.requires.plan
     c.cell_places.ensures.keeps c.cell_places-2.ensures.keeps c.in_ok-own.ensures.are c.in_ok-given.ensures.are
     c.are_solved.ensures in
-    first_meant p o given own ms (length ms) (meant p o count v given own c.keeps_form.ensures.shape c.requires.fits both)
-    c.first_unlike.result c.first_unlike.ensures
+    first_meant p o count v given own c.keeps_form.ensures.shape c.requires.fits both ms (length ms) refl c.first_unlike.result
+    c.first_unlike.ensures

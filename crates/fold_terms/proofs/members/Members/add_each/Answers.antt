@@ -1,5 +1,5 @@
 use Rattle.fold_terms.proofs.Folds.{one_more_member}
-use Rattle.fold_terms.proofs.members.Members.add_all.Goals as goal
+use Rattle.fold_terms.proofs.members.Members.add_each.Goals as goal
 
 pub loop-member-preserved : goal.loop-member-preserved
 loop-member-preserved c =
