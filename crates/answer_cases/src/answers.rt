@@ -1,7 +1,6 @@
 //! Texts, and the line that each must give.
 
-use given_verdicts::{answer_line, answer_of};
-use ptl_types::NoMemory;
+use crate::saying::says;
 use std::alloc::Global;
 use std::process::Abort;
 use std::test::Fail;
@@ -35,19 +34,6 @@ const LAST_LINK: &str = "link 7 6 0 1 7 0 put\n";
 const DONE: &str = "done 0 4\ndone 1 4\n";
 
 const RESULTS: &str = "result b 0 6\nresult b 1 7\n";
-
-/// The line that is written of a text.
-fn said(alloc: Global, text: &str) -> Result<Vec<u8>, NoMemory> {
-    let answer = answer_of(alloc, text.as_bytes())?;
-    answer_line(alloc, &answer)
-}
-
-/// Stops the test where another line is written.
-fn says(rt: &impl Abort, alloc: Global, text: &str, wanted: &str) -> Result<(), Fail> {
-    let line = said(alloc, text)?;
-    assert_eq!(rt; line.as_slice(), wanted.as_bytes());
-    Ok(())
-}
 
 /// Stops the test where another line is written of the description with a plan whose last cell, last link, done counters and results
 /// are these.

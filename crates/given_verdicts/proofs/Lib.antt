@@ -3,3 +3,4 @@ pub mod Lengths
 pub mod Reading
 pub mod Wording
 pub mod Answering
+pub mod Flawless

@@ -21,7 +21,7 @@ use Rattle.given_verdicts.specs.declared.answer.TextRefusal.TheVariants as texts
 use Rattle.given_verdicts.specs.declared.answer.GivenCause.{GivenCause}
 use Rattle.given_verdicts.specs.declared.answer.GivenCause.TheVariants as causes
 use Rattle.given_verdicts.specs.declared.answer.GivenAnswer.{GivenAnswer}
-use Rattle.given_verdicts.specs.declared.answer.GivenAnswer.TheVariants.{Holds, Fails, Refused}
+use Rattle.given_verdicts.specs.declared.answer.GivenAnswer.TheVariants.{Holds, Fails, Unknown, Refused}
 
 -- ---- each name by its word
 
@@ -70,15 +70,20 @@ name_word (texts.Plan name) = given_word name
 
 -- ---- the line
 
+-- an element of a buffer of this name at a rank
+abbrev pub value_words : List ℕ → ℕ → ℕ → List (List ℕ)
+value_words name r place = codes "Value" ∷ name ∷ decimal r ∷ decimal place ∷ []
+
 abbrev pub cause_words : GivenCause → List (List ℕ)
 cause_words (causes.Plan cause) = plan_word cause ∷ []
 cause_words (causes.Cell cause) = cell_word cause ∷ []
 cause_words (causes.Link cause) = link_word cause ∷ []
 cause_words (causes.Mark flaw) = mark_word flaw ∷ []
-cause_words (causes.Value name r place) = codes "Value" ∷ name ∷ decimal r ∷ decimal place ∷ []
+cause_words (causes.Value name r place) = value_words name r place
 
 -- the word of what is answered, the number of the line, and why
 abbrev pub answer_line : GivenAnswer → List ℕ
 answer_line Holds = line (codes "holds" ∷ [])
 answer_line (Fails n cause) = line (codes "fails" ∷ decimal n ∷ cause_words cause)
+answer_line (Unknown n name r place) = line (codes "unknown" ∷ decimal n ∷ value_words name r place)
 answer_line (Refused n name) = line (codes "refused" ∷ decimal n ∷ name_word name ∷ [])

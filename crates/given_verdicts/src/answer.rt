@@ -1,8 +1,8 @@
 //! The answers on a given plan.
 
-use coll_lang::Refusal;
+use coll_lang::{Description, Refusal};
 use coll_shape::Name;
-use given_lines::GivenRefusal;
+use given_lines::{GivenPlan, GivenRefusal};
 use mark_judge::MarkFlaw;
 use plan_judge::{CellCause, LinkCause, PlanCause};
 use ptl_types::Rank;
@@ -38,10 +38,19 @@ pub enum GivenCause {
     },
 }
 
+/// A result whose cell holds another list than the description means.
+#[derive(Debug, Drop)]
+pub struct WrongResult {
+    /// Its line, counted from 1.
+    pub line: u64,
+    /// Which list it is, and where it differs.
+    pub cause: GivenCause,
+}
+
 /// What is said of a text.
 #[derive(Debug, Drop)]
 pub enum GivenAnswer {
-    /// The plan is right for the inputs of its description.
+    /// The plan is right for the inputs that it was judged for.
     Holds,
     /// It isn't.
     Fails {
@@ -50,6 +59,17 @@ pub enum GivenAnswer {
         /// Why.
         cause: GivenCause,
     },
+    /// Whether it is right for all inputs wasn't found, for the cell of a result. Of given inputs this is never said.
+    Unknown {
+        /// The result's line, counted from 1.
+        line: u64,
+        /// The buffer's name.
+        name: Name,
+        /// The rank.
+        rank: Rank,
+        /// The place of the first element of which it wasn't found, from 0.
+        place: u64,
+    },
     /// The text is refused.
     Refused {
         /// The line at fault, counted from 1; 0 where no line is to blame.
@@ -57,4 +77,25 @@ pub enum GivenAnswer {
         /// Why.
         name: TextRefusal,
     },
+}
+
+/// A description and a plan for it, neither of which has a flaw, nor have the lines after the plan's links. What its results hold is
+/// still to be seen.
+#[derive(Drop)]
+pub struct FlawlessText {
+    /// The line with which the plan's text begins, counted from 1.
+    pub line: u32,
+    /// The description, which is no choice text.
+    pub description: Description,
+    /// The plan, and what its text says of it.
+    pub given: GivenPlan,
+}
+
+/// What a text shows before the results of its plan are looked at.
+#[derive(Drop)]
+pub enum Judged {
+    /// This answer, whatever the inputs.
+    Answered(GivenAnswer),
+    /// No flaw.
+    Flawless(FlawlessText),
 }

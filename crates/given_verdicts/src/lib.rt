@@ -4,12 +4,15 @@
 
 mod answer;
 mod differing;
+mod for_inputs;
 mod judging;
 mod naming;
 mod places;
 mod results;
 mod saying;
 
-pub use answer::{GivenAnswer, GivenCause, TextRefusal};
-pub use judging::{LONGEST_GIVEN, answer_of};
+pub use answer::{FlawlessText, GivenAnswer, GivenCause, Judged, TextRefusal, WrongResult};
+pub use for_inputs::{answer_of, is_large, wrong_for};
+pub use judging::{LONGEST_GIVEN, judge_text, too_large};
+pub use results::{element_size, name_of};
 pub use saying::answer_line;

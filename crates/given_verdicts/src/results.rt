@@ -3,10 +3,10 @@
 ghost use Rattle.std.specs.Prelude.{◌≡◌, ◌<◌, ◌+◌, ◌-◌, ◌^◌, [], IfOk, get_or, length};
 ghost use Rattle.ptl_types.specs.Operations.{bytes_of};
 ghost use Rattle.coll_shape.specs.Outline.{buffer_at};
-ghost use Rattle.given_verdicts.specs.Answers.{result_flaw, results_flaw, unlike, wrong_result};
+ghost use Rattle.given_verdicts.specs.Answers.{first_wrong, unlike, wrong_list, wrong_result};
 ghost use Rattle.given_verdicts.specs.Differences.{difference_from};
 
-use crate::answer::{GivenAnswer, GivenCause};
+use crate::answer::{GivenCause, WrongResult};
 use crate::differing::difference;
 use coll_meaning::Buffers;
 use coll_shape::{Name, Shape};
@@ -28,8 +28,8 @@ fn held_in(values: &CellValues, cell: u32) -> &[u8]
     }
 }
 
-/// The bytes of an element of a buffer.
-fn element_size(shape: &Shape, buffer: u32) -> u64
+/// The bytes of an element of a buffer; 1, where there is no such buffer.
+pub fn element_size(shape: &Shape, buffer: u32) -> u64
     ensures value { result ≡ bytes_of (buffer_at shape.now buffer).ty }
     ensures some { 0 < result }
 {
@@ -39,8 +39,12 @@ fn element_size(shape: &Shape, buffer: u32) -> u64
     }
 }
 
-/// The name of a buffer.
-fn name_of(alloc: Global, shape: &Shape, buffer: u32) -> Result<Name, AllocError>
+/// A copy of a buffer's name; of none, where there is no such buffer.
+///
+/// # Errors
+///
+/// There was no memory.
+pub fn name_of(alloc: Global, shape: &Shape, buffer: u32) -> Result<Name, AllocError>
     ensures { IfOk result (λ name. name ≡ (buffer_at shape.now buffer).name) }
 {
     match shape.buffers().get(buffer as usize) {
@@ -70,14 +74,14 @@ fn unlike(
 }
 
 /// What is wrong with what a named cell holds, if it is that of a result.
-fn wrong_result(
+fn wrong_list(
     alloc: Global,
     shape: &Shape,
     values: &CellValues,
     meant: &Buffers,
     mark: Mark,
 ) -> Result<Option<GivenCause>, AllocError>
-    ensures { IfOk result (λ cause. cause ≡ wrong_result shape.now values.now meant.now mark) }
+    ensures { IfOk result (λ cause. cause ≡ wrong_list shape.now values.now meant.now mark) }
 {
     match mark {
         Mark::Result { buffer, rank, cell } => {
@@ -88,8 +92,8 @@ fn wrong_result(
     }
 }
 
-/// The answer where a named cell shows one.
-fn result_flaw(
+/// What is wrong with what a named cell holds, and its line.
+fn wrong_result(
     alloc: Global,
     shape: &Shape,
     first: u32,
@@ -97,40 +101,40 @@ fn result_flaw(
     values: &CellValues,
     meant: &Buffers,
     mark: u32,
-) -> Result<Option<GivenAnswer>, AllocError>
+) -> Result<Option<WrongResult>, AllocError>
     requires at_most { length given.now.plan.cells + length given.now.plan.links < 2 ^ 32 - 1 }
     requires few_marks { length given.now.marks < 2 ^ 32 }
     requires mark { mark < length given.now.marks }
-    ensures { IfOk result (λ flaw. flaw ≡ result_flaw first given.now.plan shape.now values.now meant.now given.now.marks mark) }
+    ensures { IfOk result (λ wrong. wrong ≡ wrong_result first given.now.plan shape.now values.now meant.now given.now.marks mark) }
 {
     let marks = given.marks();
-    match wrong_result(alloc, shape, values, meant, marks[mark as usize])? {
+    match wrong_list(alloc, shape, values, meant, marks[mark as usize])? {
         None => Ok(None),
-        Some(cause) => Ok(Some(GivenAnswer::Fails {
+        Some(cause) => Ok(Some(WrongResult {
             line: line_of(first, given.plan(), marks, MarkFlaw::BadResult { mark }),
             cause,
         })),
     }
 }
 
-/// The answer of the first named cell that shows one, in the order of their lines.
-pub(crate) fn results_flaw(
+/// The first named cell that holds another list than is meant, in the order of their lines.
+pub(crate) fn first_wrong(
     alloc: Global,
     shape: &Shape,
     first: u32,
     given: &GivenPlan,
     values: &CellValues,
     meant: &Buffers,
-) -> Result<Option<GivenAnswer>, AllocError>
+) -> Result<Option<WrongResult>, AllocError>
     requires at_most { length given.now.plan.cells + length given.now.plan.links < 2 ^ 32 - 1 }
     requires few_marks { length given.now.marks < 2 ^ 32 }
-    ensures { IfOk result (λ flaw. flaw ≡ results_flaw first given.now.plan shape.now values.now meant.now given.now.marks) }
+    ensures { IfOk result (λ wrong. wrong ≡ first_wrong first given.now.plan shape.now values.now meant.now given.now.marks) }
 {
     let count = given.marks().len() as u32;
     for mark in 0..count {
-        let flaw = result_flaw(alloc, shape, first, given, values, meant, mark)?;
-        if flaw.is_some() {
-            return Ok(flaw);
+        let wrong = wrong_result(alloc, shape, first, given, values, meant, mark)?;
+        if wrong.is_some() {
+            return Ok(wrong);
         }
     }
     Ok(None)

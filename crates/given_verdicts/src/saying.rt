@@ -4,7 +4,7 @@ ghost use Rattle.std.specs.Prelude.{List, ℕ, ◌≡◌, ◌∷◌, [], IfOk, c
 ghost use Rattle.std.specs.Borrow.{Bor};
 ghost use Rattle.std.specs.Fmt.{decimal};
 ghost use Rattle.coll_text.specs.Text.{line};
-ghost use Rattle.given_verdicts.specs.Saying.{answer_line, cause_words};
+ghost use Rattle.given_verdicts.specs.Saying.{answer_line, cause_words, value_words};
 
 use crate::answer::{GivenAnswer, GivenCause};
 use crate::naming::{cell_word, link_word, mark_word, name_word, plan_word};
@@ -33,22 +33,23 @@ fn plain_line(alloc: Global, number: u64, word: &[u8]) -> Result<Vec<u8>, AllocE
     line_of(alloc, b"fails", &[digits.format(number).as_bytes(), word])
 }
 
-/// The line of a plan that fails since a buffer of this name has another list at a rank.
+/// The line, after this first word, of an element of a buffer of this name at a rank.
 fn value_line(
     alloc: Global,
+    word: &[u8],
     number: u64,
     name: &[u8],
     rank: u32,
     place: u64,
 ) -> Result<Vec<u8>, AllocError>
     ensures { IfOk result (λ text. text.items ≡
-        line (codes "fails" ∷ decimal number ∷ codes "Value" ∷ name.now ∷ decimal rank ∷ decimal place ∷ [])) }
+        line (word.now ∷ decimal number ∷ value_words name.now rank place)) }
 {
     let (mut first, mut second, mut third) = (Buffer::new(), Buffer::new(), Buffer::new());
     let number = first.format(number).as_bytes();
     let rank = second.format(rank).as_bytes();
     let place = third.format(place).as_bytes();
-    line_of(alloc, b"fails", &[number, b"Value", name, rank, place])
+    line_of(alloc, word, &[number, b"Value", name, rank, place])
 }
 
 /// The line of a plan that fails.
@@ -61,7 +62,7 @@ fn fails_line(alloc: Global, number: u64, cause: &GivenCause) -> Result<Vec<u8>,
         GivenCause::Link(cause) => plain_line(alloc, number, link_word(*cause)),
         GivenCause::Mark(flaw) => plain_line(alloc, number, mark_word(*flaw)),
         GivenCause::Value { name, rank, place } => {
-            value_line(alloc, number, name.as_slice(), *rank, *place)
+            value_line(alloc, b"fails", number, name.as_slice(), *rank, *place)
         }
     }
 }
@@ -81,11 +82,18 @@ fn said(alloc: Global, answer: &GivenAnswer) -> Result<Vec<u8>, AllocError>
     match answer {
         GivenAnswer::Holds => line_of(alloc, b"holds", &[]),
         GivenAnswer::Fails { line, cause } => fails_line(alloc, *line, cause),
+        GivenAnswer::Unknown {
+            line,
+            name,
+            rank,
+            place,
+        } => value_line(alloc, b"unknown", *line, name.as_slice(), *rank, *place),
         GivenAnswer::Refused { line, name } => refused_line(alloc, *line, name_word(*name)),
     }
 }
 
-/// The line in which an answer is written, with its LF: `holds`, `fails LINE CAUSE` or `refused LINE NAME`.
+/// The line in which an answer is written, with its LF: `holds`, `fails LINE CAUSE`, `unknown LINE Value NAME RANK PLACE` or
+/// `refused LINE NAME`.
 ///
 /// # Errors
 ///

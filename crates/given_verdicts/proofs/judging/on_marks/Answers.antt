@@ -9,8 +9,8 @@ use Rattle.given_verdicts.proofs.judging.on_marks.Goals as goal
 
 pub judge_marks-requires-clause-sound : goal.judge_marks-requires-clause-sound
 judge_marks-requires-clause-sound c =
-    let d = c.args.d.now in
-    let p = c.args.given.now.plan in
+    let d = c.args.d in
+    let p = c.args.given.plan in
     let inputs = c.shape-shape.ensures.readable.given in
     let g : IsGiven p d.inputs =
     c.judged_plans.ensures p d.inputs (lengths_of d.shape) c.requires.flawless
@@ -20,17 +20,10 @@ judge_marks-requires-clause-sound c =
 pub judge_marks-requires-clause-few_marks : goal.judge_marks-requires-clause-few_marks
 judge_marks-requires-clause-few_marks c = rw c.marks-marks.ensures c.requires.few_marks
 
-pub on_size-requires-clause-given : goal.on_size-requires-clause-given
-on_size-requires-clause-given c =
-    let d = c.args.d.now in
-    let p = c.args.given.now.plan in
-    c.judged_plans.ensures p d.inputs (lengths_of d.shape) c.requires.flawless
-    (input_lists d.shape d.inputs p.ranks c.requires.ranks c.shape-shape.ensures.readable.given)
-
 pub line_of-requires-clause-at_most : goal.line_of-requires-clause-at_most
 line_of-requires-clause-at_most c =
-    let d = c.args.d.now in
-    let p = c.args.given.now.plan in
+    let d = c.args.d in
+    let p = c.args.given.plan in
     let g : IsGiven p d.inputs =
     c.judged_plans.ensures p d.inputs (lengths_of d.shape) c.requires.flawless
     (input_lists d.shape d.inputs p.ranks c.requires.ranks c.shape-shape.ensures.readable.given) in
@@ -41,13 +34,13 @@ line_of-requires-clause-few_marks c = rw c.marks-marks.ensures c.requires.few_ma
 
 pub returns-in-None : goal.returns-in-None
 returns-in-None c =
-    unmarked c.args.first c.args.d.now c.args.given.now c.on_size.result
+    unmarked c.args.first c.args.d c.args.given
     (rw (c.plan-plan.ensures, c.shape-shape.ensures.shape, c.done.ensures, c.marks-marks.ensures)
-    at (sym c.in_ok-judge_marks.ensures ∙ c.in-None.is)) c.on_size.ensures
+    at (sym c.in_ok-judge_marks.ensures ∙ c.in-None.is))
 
 pub returns-in-Some : goal.returns-in-Some
 returns-in-Some c =
-    marked c.args.first c.args.d.now c.args.given.now c.in-Some.flaw c.line_of.result
+    marked c.args.first c.args.d c.args.given c.in-Some.flaw c.line_of.result
     (rw (c.plan-plan.ensures, c.shape-shape.ensures.shape, c.done.ensures, c.marks-marks.ensures)
     at (sym c.in_ok-judge_marks.ensures ∙ c.in-Some.is))
     (rw (c.plan-plan.ensures, c.marks-marks.ensures) at c.line_of.ensures)

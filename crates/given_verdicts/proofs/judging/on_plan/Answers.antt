@@ -10,13 +10,13 @@ on_marks-requires-clause-flawless c =
 
 pub returns-in-None : goal.returns-in-None
 returns-in-None c =
-    clear c.args.first c.args.d.now c.args.given.now c.on_marks.result
+    clear c.args.first c.args.d c.args.given c.on_marks.result
     (rw (c.plan-plan.ensures, c.as_slice.ensures.value, c.in_ok-lengths.ensures, c.shape.ensures.shape)
     at (sym c.in_ok-judge.ensures ∙ c.in-None.is)) c.on_marks.ensures
 
-pub returns : goal.returns
-returns c =
-    flawed c.args.first c.args.d.now c.args.given.now c.in-Some.flaw c.flaw_line.result c.cause_of.result
+pub returns-in-Some : goal.returns-in-Some
+returns-in-Some c =
+    flawed c.args.first c.args.d c.args.given c.in-Some.flaw c.flaw_line.result c.cause_of.result
     (rw (c.plan-plan.ensures, c.as_slice.ensures.value, c.in_ok-lengths.ensures, c.shape.ensures.shape)
     at (sym c.in_ok-judge.ensures ∙ c.in-Some.is))
     (rw c.plan-plan.ensures at c.flaw_line.ensures) c.cause_of.ensures

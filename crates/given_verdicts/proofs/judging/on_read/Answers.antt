@@ -10,10 +10,10 @@ on_plan-requires-clause-ranks c = rw c.shape.ensures.shape at c.in-Ok.ensures.ra
 pub returns-in-Ok : goal.returns-in-Ok
 returns-in-Ok c =
     IfOk-weaker c.on_plan.result _ _
-    (λ a h. h ∙ ap (on_read c.args.first c.args.d.now) (sym (rw c.shape.ensures.shape at c.in-Ok.ensures.read))) c.on_plan.ensures
+    (λ a h. h ∙ ap (on_read c.args.first c.args.d) (sym (rw c.shape.ensures.shape at c.in-Ok.ensures.read))) c.on_plan.ensures
 
 pub returns-in-Err-Refused : goal.returns-in-Err-Refused
 returns-in-Err-Refused c =
     rw c.in-Err-Refused.field-0-is
-    (ap (on_read c.args.first c.args.d.now)
+    (ap (on_read c.args.first c.args.d)
     (sym (rw (c.in-Err-Refused.field-0-is, c.shape.ensures.shape) at c.in-Err-Refused.ensures.read)))

@@ -1,8 +1,0 @@
-use Rattle.std.proofs.Common.{ℕ, ◌≡◌, ◌<◌, None}
-use Rattle.given_verdicts.specs.Answers.{result_flaw}
-use Rattle.given_verdicts.proofs.results.results_flaw.Given as goal
-
--- none of those before shows one
-abbrev pub invariant-loop-mark : goal.invariant-loop-mark
-invariant-loop-mark l =
-    (j : ℕ) → j < l.mark → result_flaw l.first l.given.plan l.shape l.values l.meant l.given.marks j ≡ None
