@@ -24,17 +24,18 @@ use Rattle.schedule_compiler.specs.Schedules.{scheduled}
 use Rattle.cuts.specs.cells.Cells.{AreCellsInOrder, AreValuesAt}
 use Rattle.cuts.specs.histories.System.{Histories}
 use Rattle.cuts.specs.view.Slots.{Slots}
-use Rattle.flawless_plans.specs.Flawless.{AreNamedBarriersKept, AreNamedResults, AreResultsIn, IsFlawless, input_lengths}
+use Rattle.given_verdicts.specs.Answers.{lengths_of}
+use Rattle.verdict_laws.specs.Flawless.{AreNamedBarriersKept, AreNamedResults, AreResultsIn, IsFlawless}
 
-length_inputs : (o : Outline) → length (input_lengths o) ≡ o.inputs
-length_inputs o = length-table (λ b. list_bytes (buffer_at o b)) o.inputs (input_lengths o) refl
+length_inputs : (o : Outline) → length (lengths_of o) ≡ o.inputs
+length_inputs o = length-table (λ b. list_bytes (buffer_at o b)) o.inputs (lengths_of o) refl
 
 module _ (p : Plan) (o : Outline) (said : List ℕ) (ms : List Mark) (flawless : IsFlawless p o said ms) where
   pub sound : SoundPlan p o.inputs
-  sound = subst (SoundPlan p) (length_inputs o) (none_sound p (input_lengths o) flawless.plan).0
+  sound = subst (SoundPlan p) (length_inputs o) (none_sound p (lengths_of o) flawless.plan).0
 
   pub guarded : AreGuarded p o.inputs
-  guarded = subst (AreGuarded p) (length_inputs o) (none_sound p (input_lengths o) flawless.plan).2
+  guarded = subst (AreGuarded p) (length_inputs o) (none_sound p (lengths_of o) flawless.plan).2
 
   pub sound_for : (inputs : Inputs) → AreInputs o inputs → SoundPlan p (length inputs)
   sound_for inputs given = subst (SoundPlan p) (sym given.many) sound
@@ -48,7 +49,7 @@ module _ (p : Plan) (o : Outline) (said : List ℕ) (ms : List Mark) (flawless :
       let r_lt = mod_below i p.ranks (omega (arith, some)) in
       let same = flawless.ranks in
       given.long (i / p.ranks) (i % p.ranks) b_lt (omega (arith, r_lt, same))
-      ∙ sym ((none_sound p (input_lengths o) flawless.plan).1 i (subst (λ n. i < n * p.ranks) (sym (length_inputs o)) few)
+      ∙ sym ((none_sound p (lengths_of o) flawless.plan).1 i (subst (λ n. i < n * p.ranks) (sym (length_inputs o)) few)
       ∙ get-row (λ b. list_bytes (buffer_at o b)) o.inputs (i / p.ranks) 0 b_lt)
 
   -- ---- lines
@@ -58,7 +59,7 @@ module _ (p : Plan) (o : Outline) (said : List ℕ) (ms : List Mark) (flawless :
   pub marked : AreMarked p o said ms
   marked = judged_right p o said ms rising flawless.lines
 
-  fits : (m : Mark) → In m ms → DoesFit p o (due_of m) (cell_of m)
+  pub fits : (m : Mark) → In m ms → DoesFit p o (due_of m) (cell_of m)
   fits m h = let i = get_or-In m ms no_mark h in subst (λ (x : Mark). DoesFit p o (due_of x) (cell_of x)) i.2 (marked.fit i.0 i.1)
 
   pub can_run : (h : HeldCells) → length p.links < 2 ^ 26 → AreNamedResults p ms h → CanRun (scheduled p h o.inputs)

@@ -1,8 +1,8 @@
 -- By the laws of plans, whose conditions it meets.
 use Rattle.std.proofs.Common.{◌∙◌, ap, sym, Some}
 use Rattle.ni_model.specs.Counts.{successes}
-use Rattle.flawless_plans.proofs.Conditions.{barriers_kept, fit, marked, results_in, sound_for}
-use Rattle.flawless_plans.proofs.flawless_plans_end.Goals as goal
+use Rattle.verdict_laws.proofs.Conditions.{barriers_kept, fit, marked, results_in, sound_for}
+use Rattle.verdict_laws.proofs.flawless_plans_end.Goals as goal
 
 pub returns : goal.returns
 returns c = record {

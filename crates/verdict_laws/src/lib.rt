@@ -1,5 +1,6 @@
-//! What holds of a given plan in which nothing is at fault: it meets the conditions under which all ranks run to their end, its
-//! barriers are kept, and its results are the values of their cells.
+//! What a verdict on a given plan tells its user. A plan in which nothing is at fault meets the conditions under which all ranks run to
+//! their end, its barriers are kept, and its results are the values of their cells; where these are what the description means, the plan
+//! is right in every cut and at the end of every interleaving.
 #![tactic(auto)]
 
 ghost use Rattle.std.specs.Prelude.{ℕ, List, Some, ◌≡◌, ◌<◌, ◌^◌, get_or, length};
@@ -8,6 +9,10 @@ ghost use Rattle.ni_model.specs.Tables.{lookup};
 ghost use Rattle.coll_shape.specs.Meaning.{AreInputs};
 ghost use Rattle.coll_shape.specs.Outline.{Outline};
 ghost use Rattle.given_lines.specs.declared.given.Mark.{Mark};
+ghost use Rattle.given_lines.specs.Given.{Given};
+ghost use Rattle.given_verdicts.specs.Answers.{answer_of};
+ghost use Rattle.given_verdicts.specs.declared.answer.GivenAnswer.TheVariants.{Holds};
+ghost use Rattle.general_verdicts.specs.General.{IsGeneralAnswer};
 ghost use Rattle.plan_core.specs.Draw.{HeldCells};
 ghost use Rattle.plan_core.specs.Plan.{Plan};
 ghost use Rattle.plan_core.specs.Sound.{AreInputsOf, SoundPlan};
@@ -21,10 +26,14 @@ ghost use Rattle.cuts.specs.histories.Plans.{IsComplete, system_of};
 ghost use Rattle.cuts.specs.histories.System.{Histories, state_at};
 ghost use Rattle.cuts.specs.interleavings.Interleaving.{IsReachedIn, IsStillButStrays};
 ghost use Rattle.cuts.specs.view.Slots.{Slots, done_ct};
-ghost use Rattle.flawless_plans.specs.Flawless.{AreNamedBarriersKept, AreNamedResults, AreResultsIn, IsFlawless};
+ghost use Rattle.verdict_laws.specs.Flawless.{AreNamedBarriersKept, AreNamedMeant, AreNamedResults, AreResultsIn, IsFlawless};
+ghost use Rattle.verdict_laws.specs.Right.{IsRightFor};
+ghost use Rattle.verdict_laws.specs.Verdicts.{IsRightForAll, IsRightGiven};
 
+use coll_lang::reads_exactly;
 use cuts::cells::{cells_hold_values, cells_in_order};
-use cuts::interleavings::strays_change_no_end;
+use cuts::done::{done_ranks, released_ranks};
+use cuts::interleavings::{interleavings_end, strays_change_no_end};
 
 /// A plan in which nothing is at fault, for a description, meets the conditions of all that is proved of plans: it is sound for as many
 /// inputs as the description has, all inputs of the description's shape are inputs of it, each of their cells is reached after its
@@ -63,4 +72,37 @@ pub fn flawless_plans_end()
     strays_change_no_end();
     cells_hold_values();
     cells_in_order();
+}
+
+/// A plan in which nothing is at fault, for a description, and whose results are what the description means of these inputs, is right for
+/// them: all that its user may rely on holds, in every cut and at the end of every interleaving.
+pub fn flawless_plans_are_right()
+    ensures { (o : Outline) (g : Given) (inputs : Inputs) → IsFlawless g.plan o g.done g.marks → AreInputs o inputs →
+        AreNamedMeant o g inputs → IsRightFor o g inputs }
+{
+    flawless_plans_can_run();
+    flawless_plans_end();
+    interleavings_end();
+    cells_hold_values();
+    cells_in_order();
+    done_ranks();
+    released_ranks();
+}
+
+/// The answer that a plan holds, for the inputs of its description, tells that it is right for them: the text is that of a description
+/// and of a plan for it, which can run, and all that the plan's user may rely on holds of it with these inputs.
+pub fn given_verdicts_are_right()
+    ensures { (bytes : List ℕ) → answer_of bytes ≡ Holds → IsRightGiven bytes }
+{
+    reads_exactly();
+    flawless_plans_are_right();
+}
+
+/// The answer that a plan holds, for all inputs of its description's shape, tells that it is right for each of them: the text is that of a
+/// description and of a plan for it, which can run, and all that the plan's user may rely on holds of it whatever the inputs.
+pub fn general_verdicts_are_right()
+    ensures { (bytes : List ℕ) → IsGeneralAnswer bytes Holds → IsRightForAll bytes }
+{
+    reads_exactly();
+    flawless_plans_are_right();
 }

@@ -1,11 +1,13 @@
 -- A given plan in which nothing is at fault, and what then holds of its ranks.
-use Rattle.std.specs.Prelude.{ℕ, ◌≡◌, ◌<◌, List, Some, None, map}
+use Rattle.std.specs.Prelude.{ℕ, ◌≡◌, ◌<◌, List, Some, None}
 use Rattle.ptl_types.specs.Elements.{part}
-use Rattle.coll_shape.specs.Outline.{Outline, buffer_at, list_bytes}
+use Rattle.coll_shape.specs.Outline.{Outline}
 use Rattle.given_lines.specs.declared.given.Mark.{Mark}
 use Rattle.given_lines.specs.declared.given.Mark.TheVariants.{Result, Enter, Leave}
+use Rattle.given_lines.specs.Given.{Given}
+use Rattle.given_verdicts.specs.Answers.{lengths_of}
 use Rattle.mark_judge.specs.Judged.{marks_judged}
-use Rattle.number_lists.specs.Numbers.{from_to}
+use Rattle.plan_agreement.specs.Agreement.{IsMeant}
 use Rattle.plan_calls.specs.Calls.{cell_start}
 use Rattle.plan_core.specs.Draw.{HeldCells, held_cell}
 use Rattle.plan_core.specs.Members.{In}
@@ -16,15 +18,11 @@ use Rattle.cuts.specs.histories.Plans.{CounterReached}
 use Rattle.cuts.specs.histories.System.{Histories}
 use Rattle.cuts.specs.view.Slots.{Slots}
 
--- the bytes of a list of each input
-abbrev pub input_lengths : Outline → List ℕ
-input_lengths o = map (λ b. list_bytes (buffer_at o b)) (from_to 0 o.inputs)
-
 -- Nothing is at fault in a plan of as many ranks as a description has: not in the plan itself, which takes lists of the lengths of the
 -- description's inputs and guards them, nor in where done counters are said to stand and in the lines that name cells.
 pub record IsFlawless (p : Plan) (o : Outline) (said : List ℕ) (ms : List Mark) : Type 0 where
   pub ranks : p.ranks ≡ o.ranks
-  pub plan : judged p (input_lengths o) ≡ None
+  pub plan : judged p (lengths_of o) ≡ None
   pub lines : marks_judged p o said ms ≡ None
 
 -- the cells that the lines `result` name, each for its buffer and rank
@@ -41,3 +39,7 @@ AreNamedBarriersKept p ms inputs slots w =
 abbrev pub AreResultsIn : Plan → List Mark → Inputs → (ℕ → List ℕ) → Type 0
 AreResultsIn p ms inputs memory =
     (b r c : ℕ) → In (Result b r c) ms → part (cell_start p c) (cell p c).length (memory r) ≡ value p inputs c
+
+-- in the end the cell of each result holds what the description means of these inputs
+abbrev pub AreNamedMeant : Outline → Given → Inputs → Type 0
+AreNamedMeant o g inputs = (m : Mark) → In m g.marks → IsMeant g.plan o inputs m

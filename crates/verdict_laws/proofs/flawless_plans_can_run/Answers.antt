@@ -1,6 +1,6 @@
 -- By `Conditions`.
-use Rattle.flawless_plans.proofs.Conditions.{can_run, fit, guarded, sound}
-use Rattle.flawless_plans.proofs.flawless_plans_can_run.Goals as goal
+use Rattle.verdict_laws.proofs.Conditions.{can_run, fit, guarded, sound}
+use Rattle.verdict_laws.proofs.flawless_plans_can_run.Goals as goal
 
 pub returns : goal.returns
 returns c = record {

@@ -1,0 +1,3 @@
+pub mod Flawless
+pub mod Right
+pub mod Verdicts
