@@ -3,9 +3,8 @@
 
 mod reading;
 mod sessions;
-mod status;
 mod top;
 mod writing;
 
-pub use status::Status;
+pub use run_text::Status;
 pub use top::log_main;

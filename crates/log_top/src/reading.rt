@@ -1,11 +1,10 @@
 //! A log, line by line, from a source.
 
 use crate::sessions::Session;
-use crate::status::Status;
 use coll_text::cut;
 use log_lines::LONGEST_LINE;
 use port_io::{Sink, Source};
-use run_text::PIECE;
+use run_text::{PIECE, Status};
 use std::alloc::Global;
 
 /// Takes a line that may have begun in `begun`, where nothing stands afterwards.

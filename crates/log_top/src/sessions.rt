@@ -1,11 +1,10 @@
 //! What is done with the lines of a log.
 
-use crate::status::Status;
 use crate::writing::{filled_line, note_of, served_text, verdict_text};
 use log_verdict::{Judge, Taken, Verdict};
 use port_io::{Failed, Sink};
 use ptl_types::NoMemory;
-use run_text::Pieces;
+use run_text::{Pieces, Status};
 use std::alloc::Global;
 
 /// What is asked for.

@@ -2,8 +2,8 @@
 
 use crate::reading::take_all;
 use crate::sessions::{Mode, Session, written};
-use crate::status::Status;
 use port_io::{Sink, Source};
+use run_text::Status;
 use std::alloc::Global;
 
 const USAGE: &[u8] = b"usage: portals_log judge | fill | serve [any-order]\n";

@@ -1,7 +1,10 @@
 pub mod Digits
+pub mod Ended
+pub mod Fronts
 pub mod Numbering
 pub mod Refusing
 pub mod Spaced
 pub mod Sums
 pub mod Taking
+pub mod Told
 pub mod Wording

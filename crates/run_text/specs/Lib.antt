@@ -1,8 +1,10 @@
+pub mod Ending
 pub mod Lines
 pub mod Made
 pub mod Orders
 pub mod Plans
 pub mod Putting
+pub mod ReadText
 pub mod Refused
 pub mod Summary
 pub mod Worded

@@ -250,7 +250,9 @@ fn put_links<K: Sink>(out: &mut Pieces, sink: &mut K, plan: &Plan) -> Result<(),
 }
 
 /// Adds the line of each rank's counter of what is done.
-fn put_done<K: Sink, T: PlanTables>(
+///
+/// At `Failed` the count of the sink's faults rose, and a beginning of the text stands. It takes no memory.
+pub fn put_done<K: Sink, T: PlanTables>(
     out: &mut Pieces,
     sink: &mut K,
     tables: &T,
@@ -278,7 +280,9 @@ fn put_head<K: Sink>(out: &mut Pieces, sink: &mut K, plan: &Plan) -> Result<(), 
 }
 
 /// Adds the lines of a plan's size, its cells and its links.
-fn put_drawn<K: Sink>(out: &mut Pieces, sink: &mut K, plan: &Plan) -> Result<(), Failed>
+///
+/// At `Failed` the count of the sink's faults rose, and a beginning of the text stands. It takes no memory.
+pub fn put_drawn<K: Sink>(out: &mut Pieces, sink: &mut K, plan: &Plan) -> Result<(), Failed>
     requires { length plan.now.cells + length plan.now.links < 2 ^ 32 }
     ensures { Puts (K.outflow sink.old) (K.outflow sink.new) out.old out.new (drawn_text plan.now) result }
 {

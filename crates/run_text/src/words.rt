@@ -14,7 +14,7 @@ use port_io::{Failed, Sink};
 
 /// A word of a line.
 #[derive(Clone, Copy)]
-pub(crate) enum Word {
+pub enum Word {
     /// A number.
     Number(u64),
     /// A word that stands as it is.
@@ -79,7 +79,9 @@ fn put_all<K: Sink>(out: &mut Pieces, sink: &mut K, words: &[Word]) -> Result<()
 }
 
 /// Adds a line: a first word and the others, parted by one space.
-pub(crate) fn put_line<K: Sink>(
+///
+/// At `Failed` the count of the sink's faults rose, and a beginning of the text stands. It takes no memory.
+pub fn put_line<K: Sink>(
     out: &mut Pieces,
     sink: &mut K,
     first: &[u8],

@@ -1,25 +1,30 @@
-//! The answers of the program.
+//! How a call of a program ends.
+
+ghost use Rattle.std.specs.Prelude.{◌≡◌};
+ghost use Rattle.run_text.specs.Ending.{number_of};
 
 /// How a call of the program ended. Each has a number, with which the process ends.
 #[derive(Clone, Copy, Debug, PartialEq, Eq)]
 pub enum Status {
-    /// All was read and written: each answer of the log is what is owed, or was filled in.
+    /// The source was read to its end, the whole result was written, and the sink was finished.
     Done,
-    /// The words are no command. The source is unread.
+    /// The words are no command. The source is unread, and the usage line was written.
     Usage,
-    /// An answer differs, or the text isn't a log.
+    /// The text is refused, and the line that says why was written.
     Refused,
-    /// The source failed.
+    /// The source failed. Nothing was written.
     ReadFault,
     /// The sink failed. A beginning of the text that was due was written.
     WriteFault,
-    /// There was no memory.
+    /// There was no memory. Nothing was written.
     NoMemory,
 }
 
 impl Status {
     /// The number with which the process ends.
-    pub fn number(&self) -> u8 {
+    pub fn number(&self) -> u8
+        ensures { result ≡ number_of self.now }
+    {
         match self {
             Status::Done => 0,
             Status::Usage => 2,
