@@ -1,1 +1,3 @@
+pub mod Explained
 pub mod Owed
+pub mod Texts

@@ -1,8 +1,15 @@
-//! The program that judges plans, over any source and any sink: words in, a status out.
+//! The program that draws and judges plans, over any source and any sink: words in, a status out.
 #![tactic(auto)]
 
+mod drawing;
+mod judging;
+mod saying;
 mod top;
 mod words;
+mod writing;
 
+pub use judging::write_answer;
+pub use run_text::Status;
+pub use saying::say_beside;
 pub use top::plan_main;
 pub use words::PlanRequest;

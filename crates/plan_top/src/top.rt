@@ -1,25 +1,26 @@
 //! The whole program.
 
-ghost use Rattle.std.specs.Prelude.{◌≡◌, List, ℕ, Some, None, [], map, string_bytes};
-ghost use Rattle.given_verdicts.specs.Answers.{answer_of};
-ghost use Rattle.run_text.specs.Putting.{EndsWith};
-ghost use Rattle.portals_top.specs.Answered.{IsTold};
-ghost use Rattle.portals_top.specs.Written.{Written};
-ghost use Rattle.plan_top.specs.Owed.{PlanAnswered, owed, owed_given, plan_request, status_of};
-ghost use Rattle.plan_top.specs.declared.words.PlanRequest.TheVariants.{VerifyGiven};
+ghost use Rattle.std.specs.Prelude.{List, ℕ, ◌≢◌, Some, map, string_bytes};
+ghost use Rattle.run_text.specs.Ending.{IsTold, Written};
+ghost use Rattle.plan_top.specs.Explained.{Explained};
+ghost use Rattle.plan_top.specs.Owed.{Answers, PlanAnswered, owed_usage, plan_request};
 
+use crate::drawing::draw_text;
+use crate::judging::{judge_for_all, judge_given};
+use crate::saying::say_beside;
 use crate::words::{PlanRequest, plan_request};
-use given_verdicts::{GivenAnswer, LONGEST_GIVEN, answer_line, answer_of};
-use port_io::{Failed, Sink, Source};
-use portals_top::{ReadError, Status, read_text};
-use run_text::{Pieces, write_short};
+use port_io::{Sink, Source};
+use run_text::{ReadError, Status, read_text, write_short};
 use std::alloc::Global;
+use text_notes::notes::Printable;
+use verdict_laws::{general_verdicts_are_right, given_verdicts_are_right};
 
-const USAGE: &[u8] = b"usage: portals_plan verify given\n";
+const USAGE: &[u8] =
+    b"usage: portals_plan draw | verify | verify given | once | sim X | run W | trace W | steady W\n";
 
 /// Writes the usage line.
 fn usage<K: Sink>(sink: &mut K) -> Status
-    ensures { Written (owed None []) (K.outflow sink.old) (K.outflow sink.new) result }
+    ensures { Written owed_usage (K.outflow sink.old) (K.outflow sink.new) result }
 {
     match write_short(sink, USAGE) {
         Ok(()) => Status::Usage,
@@ -27,75 +28,91 @@ fn usage<K: Sink>(sink: &mut K) -> Status
     }
 }
 
-/// The status with which an answer is written.
-fn status_of(answer: &GivenAnswer) -> Status
-    ensures { result ≡ status_of answer.now }
+/// Answers a text that was read.
+fn answer_text<K: Sink>(
+    alloc: Global,
+    request: PlanRequest,
+    text: &[u8],
+    sink: &mut K,
+    told: &mut Option<Printable>,
+) -> Status
+    ensures answers { Answers (Some request) text.now (K.outflow sink.old) (K.outflow sink.new) result }
+    ensures no_read { result ≢ Status.ReadFault }
 {
-    match answer {
-        GivenAnswer::Holds => Status::Done,
-        _ => Status::Refused,
+    match request {
+        PlanRequest::Draw => draw_text(alloc, text, sink, told),
+        PlanRequest::Verify => judge_for_all(alloc, text, sink, told),
+        PlanRequest::VerifyGiven => judge_given(alloc, text, sink, told),
     }
 }
 
-/// Writes a line, and finishes the sink.
-fn write_line<K: Sink>(out: &mut Pieces, sink: &mut K, line: &[u8]) -> Result<(), Failed>
-    requires { out.old ≡ [] }
-    ensures { EndsWith (K.outflow sink.old) (K.outflow sink.new) line.now result }
-{
-    out.put(sink, line)?;
-    out.end(sink)
-}
-
-/// Answers a description with a plan after it.
-fn judged_text<K: Sink>(alloc: Global, text: &[u8], sink: &mut K) -> Status
-    ensures { Written (owed_given (answer_of text.now)) (K.outflow sink.old) (K.outflow sink.new) result }
-{
-    let Ok(mut out) = Pieces::open(alloc) else {
-        return Status::NoMemory;
-    };
-    let Ok(answer) = answer_of(alloc, text) else {
-        return Status::NoMemory;
-    };
-    let Ok(line) = answer_line(alloc, &answer) else {
-        return Status::NoMemory;
-    };
-    match write_line(&mut out, sink, line.as_slice()) {
-        Ok(()) => status_of(&answer),
-        Err(_) => Status::WriteFault,
-    }
-}
-
-/// Reads a description with a plan and answers it.
-fn read_and_judge<S: Source, K: Sink>(alloc: Global, source: &mut S, sink: &mut K) -> Status
+/// Reads a text and answers it.
+fn read_and_answer<S: Source, K: Sink>(
+    alloc: Global,
+    request: PlanRequest,
+    source: &mut S,
+    sink: &mut K,
+    told: &mut Option<Printable>,
+) -> Status
     ensures { (bytes : List ℕ) × IsTold (S.inflow source.old).left bytes
-        × PlanAnswered (Some VerifyGiven) bytes (S.inflow source.old) (S.inflow source.new)
+        × PlanAnswered (Some request) bytes (S.inflow source.old) (S.inflow source.new)
         (K.outflow sink.old) (K.outflow sink.new) result }
 {
-    match read_text(alloc, LONGEST_GIVEN, source) {
-        Ok(text) => judged_text(alloc, text.as_slice(), sink),
+    given_verdicts_are_right();
+    general_verdicts_are_right();
+    match read_text(alloc, request.longest(), source) {
+        Ok(text) => answer_text(alloc, request, text.as_slice(), sink, told),
         Err(ReadError::Failed) => Status::ReadFault,
         Err(ReadError::NoMemory) => Status::NoMemory,
     }
 }
 
-/// The whole program: reads what the words ask for from the source, writes the line that is owed to the sink, and answers how it ended.
-/// The words are those of the command line without the program's name.
-///
-/// `verify given` reads a description and a plan after it, and writes whether the plan is right for the inputs of the description. All
-/// other words get the usage line, and leave the source unread. Of a source that doesn't tell its bytes there are bytes for which all
-/// this holds; of a sink that doesn't tell what it took nothing is said of the text.
-pub fn plan_main<S: Source, K: Sink>(
+/// The whole program but what is said on standard error. A note of what is refused or fails is kept.
+fn answered<S: Source, K: Sink>(
     alloc: Global,
     words: &[String],
     source: &mut S,
     sink: &mut K,
+    told: &mut Option<Printable>,
 ) -> Status
     ensures { (bytes : List ℕ) × IsTold (S.inflow source.old).left bytes
         × PlanAnswered (plan_request (map string_bytes words.now)) bytes (S.inflow source.old) (S.inflow source.new)
         (K.outflow sink.old) (K.outflow sink.new) result }
 {
     match plan_request(words) {
-        Some(PlanRequest::VerifyGiven) => read_and_judge(alloc, source, sink),
+        Some(request) => read_and_answer(alloc, request, source, sink, told),
         None => usage(sink),
     }
+}
+
+/// The whole program: reads what the words ask for from the source, writes the text that is owed to the sink, and answers how it ended.
+/// The words are those of the command line without the program's name.
+///
+/// `draw` reads a description, and writes the plan that it is compiled to, with the cells of its results and those at which its barriers
+/// are entered and left; nothing is run. `verify` reads a description and a plan after it, and writes whether the plan is right for all
+/// inputs of the description's shape; `verify given` does so for the inputs of the description. All other words get the usage line, and
+/// leave the source unread. Of a source that doesn't tell its bytes there are bytes for which all this holds; of a sink that doesn't tell
+/// what it took nothing is said of the text.
+///
+/// Where `holds` is answered, the plan is right: in every order of starts, deliveries and firings all ranks end complete, with what the
+/// description means as results (`IsRightForAll`, `IsRightGiven`).
+///
+/// What a person is to know stands in `notes`: beside a result nothing, beside what is refused or fails the line of a note, where there is
+/// one, beside the usage line a line for each form, and beside a fault or want of memory a line. What fails there changes nothing.
+pub fn plan_main<S: Source, K: Sink, N: Sink>(
+    alloc: Global,
+    words: &[String],
+    source: &mut S,
+    sink: &mut K,
+    notes: &mut N,
+) -> Status
+    ensures answers { (bytes : List ℕ) × IsTold (S.inflow source.old).left bytes
+        × PlanAnswered (plan_request (map string_bytes words.now)) bytes (S.inflow source.old) (S.inflow source.new)
+        (K.outflow sink.old) (K.outflow sink.new) result }
+    ensures explained { Explained result (N.outflow notes.old) (N.outflow notes.new) }
+{
+    let mut told = None;
+    let status = answered(alloc, words, source, sink, &mut told);
+    say_beside(notes, status, told);
+    status
 }

@@ -1,0 +1,4 @@
+pub mod Apart
+pub mod Cells
+pub mod Marked
+pub mod Named

@@ -1,0 +1,7 @@
+use Rattle.shape_plans.specs.Footprint.{refusal}
+use Rattle.plan_top.proofs.Plans.{plan_owed}
+use Rattle.plan_top.proofs.drawing.draw_shape.Goals as goal
+
+pub returns-in-Ok : goal.returns-in-Ok
+returns-in-Ok g c =
+    plan_owed c.args.shape.now (refusal c.args.shape.now) _ c.in-Ok.ensures.0 c.in-Ok.ensures.1 _ _ _ c.write_drawn.ensures
