@@ -86,4 +86,13 @@ impl GivenPlan {
     {
         self.marks.as_slice()
     }
+
+    /// The plan, where each rank's done counter is said to stand when it is done, and the cells of the results and barriers.
+    pub fn into_parts(self) -> (Plan, Vec<u64>, Vec<Mark>)
+        ensures plan { result.0 ≡ self.plan }
+        ensures done { result.1.items ≡ self.done }
+        ensures marks { result.2.items ≡ self.marks }
+    {
+        (self.plan, self.done, self.marks)
+    }
 }

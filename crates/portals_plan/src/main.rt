@@ -1,9 +1,8 @@
-//! The program: the words of the command line, standard input and standard output.
+//! The program: the words of the command line and the three standard streams.
 #![tactic(auto)]
 
-use plan_top::plan_main;
+use given_top::{Status, given_main};
 use port_io::{StdSink, StdSource};
-use portals_top::Status;
 use std::alloc::AllocError;
 use std::env;
 use std::process::ExitCode;
@@ -26,6 +25,14 @@ fn main(rt: HostRuntime) -> ExitCode {
     };
     let mut source = StdSource::new(rt.reader());
     let mut sink = StdSink::new(std::io::writer(&rt));
-    let status = plan_main(rt.alloc(), words.as_slice(), &mut source, &mut sink);
-    ExitCode::from(status.number())
+    let mut notes = StdSink::new(rt.stderr());
+    let run = given_main(
+        &rt,
+        rt.alloc(),
+        words.as_slice(),
+        &mut source,
+        &mut sink,
+        &mut notes,
+    );
+    ExitCode::from(run.status.number())
 }

@@ -14,19 +14,22 @@ use Rattle.run_text.specs.Plans.{plan_text}
 use Rattle.worlds.specs.World.{WorldState}
 use Rattle.plan_choice.specs.World.{ChoiceState}
 use Rattle.portals_top.specs.declared.ran.Ran.{Ran}
-use Rattle.portals_top.specs.declared.status.Status.{Status}
-use Rattle.portals_top.specs.declared.status.Status.TheVariants.{Done, Usage, Refused, ReadFault, WriteFault, NoMemory}
+use Rattle.run_text.specs.declared.status.Status.{Status}
+use Rattle.run_text.specs.declared.status.Status.TheVariants.{Done, Usage, Refused, ReadFault, WriteFault, NoMemory}
 use Rattle.portals_top.specs.declared.words.Command.{Command}
 use Rattle.portals_top.specs.declared.words.Command.TheVariants.{Execute, Plan}
-use Rattle.portals_top.specs.declared.words.Mode.{Mode}
-use Rattle.portals_top.specs.declared.words.Mode.TheVariants.{Once, Sim, Run, Trace, Steady}
-use Rattle.portals_top.specs.Due.{done, due, due_chosen, due_compiled, due_described, due_in_mode, due_of, excess_name, refused, step_line}
+use Rattle.job_runs.specs.declared.modes.Mode.{Mode}
+use Rattle.job_runs.specs.declared.modes.Mode.TheVariants.{Once, Sim, Run, Trace, Steady}
+use Rattle.run_text.specs.Ending.{IsTold, Leaves, MayAnswer, Stands, Written, done, refused}
+use Rattle.run_text.specs.Refused.{step_line}
+use Rattle.portals_top.specs.Due.{due, due_chosen, due_compiled, due_described, due_in_mode, due_of, excess_name}
 use Rattle.portals_top.specs.declared.words.Task.{Task}
 use Rattle.portals_top.specs.Formats.{read_as}
 use Rattle.portals_top.specs.Left.{nothing_ran}
-use Rattle.portals_top.specs.Answered.{IsTold, MayAnswer, Stands, Leaves, LeavesOf, HandsBack, Answered}
-use Rattle.portals_top.specs.Written.{Written}
-use Rattle.portals_top.proofs.Told.{Told, read-long, same-read, short-text, told-any}
+use Rattle.portals_top.specs.Answered.{LeavesOf, HandsBack, Answered}
+use Rattle.run_text.proofs.Ended.{leaves, stays}
+use Rattle.run_text.proofs.Told.{Told, short-text, told-any}
+use Rattle.portals_top.proofs.Alike.{read-long, same-read}
 
 done-short : (task : Task) (ran : Ran) (text : List ℕ) → (due_of task.command ran (read_as task.format text)).status ≡ Done →
     length text ≤ LONGEST_TEXT
@@ -34,17 +37,6 @@ done-short task ran text done =
     short-text LONGEST_TEXT text (λ long.
     let refused : Refused ≡ Done = subst (λ r. (due_of task.command ran r).status ≡ Done) (read-long task.format text long) done in
     absurd (cc))
-
--- what stays in the source
-pub leaves : (longest : ℕ) (owed status : Status) (text : List ℕ) (source source' : Inflow)
-    (told : Told longest source.left source'.left text)
-    → (owed ≡ Done → length text ≤ longest) → MayAnswer status owed → Leaves status source' (drop (longest + 1) told.bytes)
-leaves longest owed Done text source source' told short allowed = (told.rest, told.nothing (short allowed))
-leaves longest owed Usage text source source' told short allowed = told.rest
-leaves longest owed Refused text source source' told short allowed = told.rest
-leaves longest owed ReadFault text source source' told short allowed = tt
-leaves longest owed WriteFault text source source' told short allowed = told.rest
-leaves longest owed NoMemory text source source' told short allowed = tt
 
 -- after a text was read, and answered
 pub answered-read : (task : Task) (text : List ℕ) (source source' : Inflow) (sink sink' : Outflow) (ran : Ran) (status : Status)
@@ -126,15 +118,6 @@ answered-no_memory task source source' sink =
         world = refl;
       },
     )
-
-stays : (status : Status) (source : Inflow) (bytes : List ℕ) → IsTold source.left bytes → MayAnswer status Usage →
-    Leaves status source bytes
-stays Done source bytes told allowed = absurd (cc)
-stays Usage source bytes told allowed = told
-stays Refused source bytes told allowed = told
-stays ReadFault source bytes told allowed = tt
-stays WriteFault source bytes told allowed = told
-stays NoMemory source bytes told allowed = tt
 
 no-world-usage : (leaves : Ran → Type 0) (status : Status) → MayAnswer status Usage → HandsBack status Usage leaves nothing_ran
 no-world-usage leaves Done allowed = absurd (cc)

@@ -13,25 +13,27 @@ use Rattle.portals_top.specs.declared.begun.Begun.{Begun}
 use Rattle.portals_top.specs.declared.begun.Begun.TheVariants as begun
 use Rattle.portals_top.specs.declared.begun.Crew.{Crew}
 use Rattle.portals_top.specs.declared.ran.Ran.{Ran}
-use Rattle.portals_top.specs.declared.status.Status.{Status}
-use Rattle.portals_top.specs.declared.status.Status.TheVariants.{Done, Usage, Refused, ReadFault, WriteFault, NoMemory}
+use Rattle.run_text.specs.declared.status.Status.{Status}
+use Rattle.run_text.specs.declared.status.Status.TheVariants.{Done, Usage, Refused, ReadFault, WriteFault, NoMemory}
 use Rattle.portals_top.specs.declared.words.Command.{Command}
 use Rattle.portals_top.specs.declared.words.Command.TheVariants.{Execute, Plan}
-use Rattle.portals_top.specs.declared.words.Mode.{Mode}
-use Rattle.portals_top.specs.declared.words.Mode.TheVariants.{Run}
+use Rattle.job_runs.specs.declared.modes.Mode.{Mode}
+use Rattle.job_runs.specs.declared.modes.Mode.TheVariants.{Run}
 use Rattle.portals_top.specs.declared.words.Request.{Request}
 use Rattle.portals_top.specs.declared.words.Request.TheVariants.{Do, Large}
 use Rattle.portals_top.specs.declared.words.Task.{Task}
-use Rattle.portals_top.specs.Answered.{Answered, HandsBack, Leaves, LeavesDescribed, LeavesOf, LeavesWorld, Stands}
+use Rattle.run_text.specs.Ending.{Leaves, Stands, Written, done}
+use Rattle.portals_top.specs.Answered.{Answered, HandsBack, LeavesDescribed, LeavesOf, LeavesWorld}
 use Rattle.portals_top.specs.Begun.{Begins, BeginsCall, IsLeft, IsLeftLarge, IsLeftOf, IsLeftOfDescribed, IsLeftRun, mode_of}
 use Rattle.portals_top.specs.Checked.{AnswersTo}
-use Rattle.portals_top.specs.Due.{done, due_compiled, due_described, due_of, mode_text, unread}
+use Rattle.portals_top.specs.Due.{due_compiled, due_described, due_of, mode_text, unread}
 use Rattle.portals_top.specs.Formats.{read_as}
 use Rattle.portals_top.specs.Large.{Summed, summary_text}
 use Rattle.portals_top.specs.Left.{nothing_ran}
-use Rattle.portals_top.specs.Written.{Written}
-use Rattle.portals_top.proofs.Answering.{answered-read, leaves}
-use Rattle.portals_top.proofs.Told.{Told, read-long, same-read, short-text}
+use Rattle.run_text.proofs.Ended.{leaves}
+use Rattle.portals_top.proofs.Answering.{answered-read}
+use Rattle.run_text.proofs.Told.{Told, short-text}
+use Rattle.portals_top.proofs.Alike.{read-long, same-read}
 
 -- a text that is left to workers isn't refused, so it isn't too long
 left-short : (task : Task) (text : List ℕ) (crew : Crew) (job : ShapeJobOf) → IsLeftOf task.command (read_as task.format text) crew job

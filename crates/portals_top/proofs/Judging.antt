@@ -14,16 +14,16 @@ use Rattle.cuts.specs.declared.orders.Verdict.TheVariants.{Holds, Fails}
 use Rattle.shape_plans.specs.Footprint.{Refused as Excessive, refusal}
 use Rattle.run_text.specs.Putting.{Ends, FailsWithin}
 use Rattle.worlds.specs.World.{WorldState}
-use Rattle.portals_top.specs.declared.status.Status.{Status}
-use Rattle.portals_top.specs.declared.status.Status.TheVariants.{Done, Usage, Refused, ReadFault, WriteFault, NoMemory}
+use Rattle.run_text.specs.declared.status.Status.{Status}
+use Rattle.run_text.specs.declared.status.Status.TheVariants.{Done, Usage, Refused, ReadFault, WriteFault, NoMemory}
 use Rattle.portals_top.specs.declared.words.Command.{Command}
-use Rattle.portals_top.specs.Answered.{IsTold, MayAnswer, Stands}
+use Rattle.run_text.specs.Ending.{IsTold, MayAnswer, Stands, Written}
 use Rattle.portals_top.specs.Checked.{Checked, FindsFor, FindsIn, Found, IsVerdictOn, Judges, due_checked, due_judged, due_verdict}
 use Rattle.portals_top.specs.Due.{due_compiled}
 use Rattle.portals_top.specs.Left.{nothing_ran}
-use Rattle.portals_top.specs.Written.{Written}
-use Rattle.portals_top.proofs.Answering.{leaves}
-use Rattle.portals_top.proofs.Told.{Told, check-long, same-check, short-text, told-any}
+use Rattle.run_text.proofs.Ended.{leaves}
+use Rattle.run_text.proofs.Told.{Told, short-text, told-any}
+use Rattle.portals_top.proofs.Alike.{check-long, same-check}
 
 -- ---- a verdict
 pub verdict-written : (v : Verdict) (status : Status) (sink sink' : Outflow) → status ≡ (due_verdict (Some v)).status

@@ -1,15 +1,13 @@
+pub mod Alike
 pub mod Answering
 pub mod Beginning
-pub mod Fronts
 pub mod Interleavings
 pub mod Judging
 pub mod OneText
 pub mod OneChoiceText
-pub mod Reaching
 pub mod Rests
 pub mod Spellings
 pub mod StepNames
 pub mod Steps
 pub mod Summing
-pub mod Told
 pub mod Telling

@@ -27,12 +27,12 @@ use Rattle.plan_choice.specs.World.{ChoiceState, histories_in, nic_in, value_in}
 use Rattle.portals_top.specs.declared.ran.Ran.{Ran}
 use Rattle.portals_top.specs.declared.words.Command.{Command}
 use Rattle.portals_top.specs.declared.words.Command.TheVariants.{Execute}
-use Rattle.portals_top.specs.declared.words.Mode.TheVariants.{Sim}
+use Rattle.job_runs.specs.declared.modes.Mode.TheVariants.{Sim}
 use Rattle.portals_top.specs.Answered.{LeavesChoice, LeavesDescribed, LeavesOf, RunLeaves}
 use Rattle.portals_top.specs.Choosing.{choice_orders_of, choice_steps, values_of, values_text}
 use Rattle.portals_top.specs.Due.{due, due_compiled, due_described, due_of}
 use Rattle.portals_top.specs.OneText.{IsChoosing, choosers_of, run_lines, run_orders, run_values, sim_task}
-use Rattle.portals_top.specs.Runs.{word}
+use Rattle.job_runs.specs.Runs.{word}
 use Rattle.portals_top.proofs.OneText.{same-orders, same-text}
 
 -- a choice text has as many ranks and steps as a run may have

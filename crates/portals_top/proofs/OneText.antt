@@ -28,12 +28,12 @@ use Rattle.worlds.specs.World.{WorldState, histories_in}
 use Rattle.worlds.proofs.Ends.{given_slots, slots_given}
 use Rattle.portals_top.specs.declared.ran.Ran.{Ran}
 use Rattle.portals_top.specs.declared.words.Command.TheVariants.{Execute}
-use Rattle.portals_top.specs.declared.words.Mode.TheVariants.{Sim}
+use Rattle.job_runs.specs.declared.modes.Mode.TheVariants.{Sim}
 use Rattle.portals_top.specs.Answered.{LeavesDescribed, LeavesOf, LeavesRun, LeavesWorld, RunLeaves}
 use Rattle.portals_top.specs.Due.{due, due_compiled, due_described, due_of, orders_of}
 use Rattle.portals_top.specs.Headline.{ranks_of}
 use Rattle.portals_top.specs.OneText.{IsPlanned, run_orders, sim_task}
-use Rattle.portals_top.specs.Runs.{word}
+use Rattle.job_runs.specs.Runs.{word}
 
 -- the texts of orders that agree at each rank
 pub same-orders : (n : ℕ) (f g : ℕ → List LocalStep) → ((r : ℕ) → r < n → f r ≡ g r) → order_text n f ≡ order_text n g

@@ -6,55 +6,23 @@ use Rattle.coll_shape.specs.Outline.{Outline}
 use Rattle.coll_shape.specs.Meaning.{Lists}
 use Rattle.coll_lang.specs.declared.fault.Refusal.{Refusal}
 use Rattle.coll_lang.specs.Program.{Chosen, Program}
-use Rattle.run_text.specs.Putting.{Ends, FailsWithin}
 use Rattle.worlds.specs.World.{WorldState}
 use Rattle.plan_choice.specs.World.{ChoiceState}
+use Rattle.job_runs.specs.Runs.{IsInOrder, IsOfSteady, IsOfWorkers, IsReachedWorld}
 use Rattle.portals_top.specs.declared.ran.Ran.{Ran}
-use Rattle.portals_top.specs.declared.status.Status.{Status}
-use Rattle.portals_top.specs.declared.status.Status.TheVariants.{Done, Usage, Refused, ReadFault, WriteFault, NoMemory}
-use Rattle.portals_top.specs.declared.words.Mode.{Mode}
-use Rattle.portals_top.specs.declared.words.Mode.TheVariants.{Once, Sim, Run, Trace, Steady}
+use Rattle.run_text.specs.declared.status.Status.{Status}
+use Rattle.run_text.specs.declared.status.Status.TheVariants.{Done, Usage, Refused, ReadFault, WriteFault, NoMemory}
+use Rattle.job_runs.specs.declared.modes.Mode.{Mode}
+use Rattle.job_runs.specs.declared.modes.Mode.TheVariants.{Once, Sim, Run, Trace, Steady}
 use Rattle.portals_top.specs.declared.words.Command.{Command}
 use Rattle.portals_top.specs.declared.words.Command.TheVariants.{Execute, Plan}
 use Rattle.portals_top.specs.declared.words.Task.{Task}
 use Rattle.portals_top.specs.Choosing.{IsChoiceInOrder, IsChoiceRun}
+use Rattle.run_text.specs.Ending.{Leaves, MayAnswer, Stands}
 use Rattle.portals_top.specs.Due.{due, unread}
 use Rattle.portals_top.specs.Formats.{read_as}
 use Rattle.portals_top.specs.Left.{nothing_ran}
-use Rattle.portals_top.specs.Runs.{IsInOrder, IsOfSteady, IsOfWorkers, IsReachedWorld, IsRun}
-
--- These are the bytes, where they are told.
-abbrev pub IsTold : Option (List ℕ) → List ℕ → Type 0
-IsTold None bytes = Unit {0}
-IsTold (Some told) bytes = told ≡ bytes
-
--- Which status may be answered where which one is owed: it is the owed one, or there was a fault or no memory. Only a command
--- reads and takes memory.
-abbrev pub MayAnswer : Status → Status → Type 0
-MayAnswer Done owed = owed ≡ Done
-MayAnswer Usage owed = owed ≡ Usage
-MayAnswer Refused owed = owed ≡ Refused
-MayAnswer ReadFault owed = owed ≢ Usage
-MayAnswer WriteFault owed = Unit {0}
-MayAnswer NoMemory owed = owed ≢ Usage
-
--- What stands in the sink: the whole text, finished; at a fault of the sink a beginning of it, and else nothing.
-abbrev pub Stands : Status → Outflow → Outflow → List ℕ → Type 0
-Stands Done sink sink' text = Ends sink sink' text
-Stands Usage sink sink' text = Ends sink sink' text
-Stands Refused sink sink' text = Ends sink sink' text
-Stands ReadFault sink sink' text = sink' ≡ sink
-Stands WriteFault sink sink' text = FailsWithin sink sink' text
-Stands NoMemory sink sink' text = sink' ≡ sink
-
--- What stays in the source, where it tells that. Nothing is said of a source that failed, or where there was no memory.
-abbrev pub Leaves : Status → Inflow → List ℕ → Type 0
-Leaves Done source' rest = IsTold source'.left rest × IsTold source'.left []
-Leaves Usage source' rest = IsTold source'.left rest
-Leaves Refused source' rest = IsTold source'.left rest
-Leaves ReadFault source' rest = Unit {0}
-Leaves WriteFault source' rest = IsTold source'.left rest
-Leaves NoMemory source' rest = Unit {0}
+use Rattle.portals_top.specs.Runs.{IsRun}
 
 -- Whether a world ran as a mode asks for: on one thread it is one to which steps led, and `sim` chooses their order. Of workers it is as
 -- many as are asked for, and what they left is made to its end.

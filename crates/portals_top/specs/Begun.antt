@@ -13,21 +13,22 @@ use Rattle.portals_top.specs.declared.begun.Begun.TheVariants as begun
 use Rattle.portals_top.specs.declared.begun.Crew.{Crew}
 use Rattle.portals_top.specs.declared.begun.Crew.TheVariants as crews
 use Rattle.portals_top.specs.declared.ran.Ran.{Ran}
-use Rattle.portals_top.specs.declared.status.Status.TheVariants.{Done}
-use Rattle.portals_top.specs.declared.words.Mode.{Mode}
-use Rattle.portals_top.specs.declared.words.Mode.TheVariants.{Run, Trace, Steady}
+use Rattle.run_text.specs.declared.status.Status.TheVariants.{Done}
+use Rattle.job_runs.specs.declared.modes.Mode.{Mode}
+use Rattle.job_runs.specs.declared.modes.Mode.TheVariants.{Run, Trace, Steady}
 use Rattle.portals_top.specs.declared.words.Command.{Command}
 use Rattle.portals_top.specs.declared.words.Command.TheVariants.{Execute, Plan}
 use Rattle.portals_top.specs.declared.words.Task.{Task}
 use Rattle.portals_top.specs.declared.words.Request.{Request}
 use Rattle.portals_top.specs.declared.words.Request.TheVariants.{Do, Large}
-use Rattle.portals_top.specs.Answered.{HandsBack, Leaves}
+use Rattle.run_text.specs.Ending.{Due, Leaves, Written}
+use Rattle.portals_top.specs.Answered.{HandsBack}
 use Rattle.portals_top.specs.Checked.{AnswersTo}
-use Rattle.portals_top.specs.Due.{Due, unread}
+use Rattle.portals_top.specs.Due.{unread}
 use Rattle.portals_top.specs.Formats.{read_as}
 use Rattle.portals_top.specs.Left.{nothing_ran}
-use Rattle.portals_top.specs.Words.{CanAnswer, HasWorkers}
-use Rattle.portals_top.specs.Written.{Written}
+use Rattle.job_runs.specs.Modes.{HasWorkers}
+use Rattle.portals_top.specs.Words.{CanAnswer}
 
 -- the mode in which these workers run
 abbrev pub mode_of : Crew → Mode

@@ -19,16 +19,17 @@ use Rattle.shape_plans.specs.Drawing.{plan_of}
 use Rattle.shape_plans.specs.Footprint.{Refused as Excessive, refusal}
 use Rattle.order_check.specs.Listing.{lists_of}
 use Rattle.run_text.specs.Orders.{fails_line}
-use Rattle.portals_top.specs.declared.status.Status.{Status}
-use Rattle.portals_top.specs.declared.status.Status.TheVariants.{Done, Usage, Refused, ReadFault, WriteFault, NoMemory}
+use Rattle.run_text.specs.declared.status.Status.{Status}
+use Rattle.run_text.specs.declared.status.Status.TheVariants.{Done, Usage, Refused, ReadFault, WriteFault, NoMemory}
 use Rattle.portals_top.specs.declared.ran.Ran.{Ran}
 use Rattle.portals_top.specs.declared.words.Request.{Request}
 use Rattle.portals_top.specs.declared.words.Request.TheVariants.{Do, Large, Check}
-use Rattle.portals_top.specs.Answered.{Answered, Leaves, MayAnswer, Stands}
-use Rattle.portals_top.specs.Due.{Due, done, excess_name, refused, step_line}
+use Rattle.run_text.specs.Ending.{Due, Leaves, MayAnswer, Stands, Written, done, refused}
+use Rattle.portals_top.specs.Answered.{Answered}
+use Rattle.run_text.specs.Refused.{step_line}
+use Rattle.portals_top.specs.Due.{excess_name}
 use Rattle.portals_top.specs.Large.{Summed}
 use Rattle.portals_top.specs.Left.{nothing_ran}
-use Rattle.portals_top.specs.Written.{Written}
 
 abbrev pub holds_line : List ℕ
 holds_line = line (codes "holds" ∷ [])

@@ -11,7 +11,7 @@ use Rattle.run_text.specs.Lines.{rest_line, value_line}
 use Rattle.run_text.specs.Orders.{order_text}
 use Rattle.plan_choice.specs.ranks.Seats.{kinds_of}
 use Rattle.plan_choice.specs.World.{ChoiceState, IsDecidedWorld, IsStanding, histories_in, ranks_in, steps_in, value_in}
-use Rattle.portals_top.specs.Runs.{word}
+use Rattle.job_runs.specs.Runs.{word}
 
 -- A choice world of n ranks and of this text's steps, at rest: no step is left; each done counter stands at the number of steps, each
 -- elect names one rank at every rank, and the results of each tickets are the numbers of the ranks, each once.

@@ -1,5 +1,5 @@
 -- What the program owes for its words and the bytes that it is given.
-use Rattle.std.specs.Prelude.{ℕ, ◌+◌, ◌*◌, List, [], ◌∷◌, ◌++◌, length, map, Option, Some, None, Result, Ok, Err, drop, codes}
+use Rattle.std.specs.Prelude.{ℕ, ◌+◌, ◌*◌, List, [], ◌∷◌, ◌++◌, length, Option, Some, None, Result, Ok, Err, drop, codes}
 use Rattle.std.specs.Prelude.{if◌then◌else◌}
 use Rattle.coll_text.specs.Text.{line}
 use Rattle.coll_shape.specs.Outline.{Outline}
@@ -8,20 +8,19 @@ use Rattle.coll_lang.specs.declared.fault.Refusal.{Refusal}
 use Rattle.coll_lang.specs.declared.fault.Refusal.TheVariants.{TooMany, TooLarge, OneThread}
 use Rattle.coll_lang.specs.Program.{Chosen, Program}
 use Rattle.coll_lang.specs.declared.whole.TheConstants.{LONGEST_TEXT}
-use Rattle.cuts.specs.orders.Taking.{listed}
 use Rattle.shape_plans.specs.Drawing.{plan_of}
 use Rattle.shape_plans.specs.Footprint.{Excess, Refused as Excessive, refusal}
 use Rattle.shape_plans.specs.Footprint.Excess.{Links, Bytes}
+use Rattle.run_text.specs.Ending.{Due, done, refused}
 use Rattle.run_text.specs.Lines.{result_text}
-use Rattle.run_text.specs.Orders.{order_text}
 use Rattle.run_text.specs.Plans.{plan_text}
-use Rattle.run_text.specs.Refused.{refusal_line}
-use Rattle.worlds.specs.World.{WorldState, histories_in}
+use Rattle.run_text.specs.Refused.{step_line}
+use Rattle.worlds.specs.World.{WorldState}
+use Rattle.job_runs.specs.Orders.{orders_in}
 use Rattle.plan_choice.specs.World.{ChoiceState}
-use Rattle.portals_top.specs.declared.status.Status.{Status}
-use Rattle.portals_top.specs.declared.status.Status.TheVariants.{Done, Usage, Refused, ReadFault, WriteFault, NoMemory}
-use Rattle.portals_top.specs.declared.words.Mode.{Mode}
-use Rattle.portals_top.specs.declared.words.Mode.TheVariants.{Once, Sim, Run, Trace, Steady}
+use Rattle.run_text.specs.declared.status.Status.TheVariants.{Done, Usage, Refused}
+use Rattle.job_runs.specs.declared.modes.Mode.{Mode}
+use Rattle.job_runs.specs.declared.modes.Mode.TheVariants.{Once, Sim, Run, Trace, Steady}
 use Rattle.portals_top.specs.declared.words.Command.{Command}
 use Rattle.portals_top.specs.declared.words.Command.TheVariants.{Execute, Plan}
 use Rattle.portals_top.specs.declared.words.Task.{Task}
@@ -32,23 +31,6 @@ use Rattle.portals_top.specs.Formats.{read_as}
 abbrev pub usage_line : List ℕ
 usage_line = line (codes "usage: portals_run once | sim X | plan | run W | trace W | large K W | check | steady W | json W" ∷ [])
 
--- the status that is owed, which is Done, Usage or Refused, and the text
-pub record Due : Type 0 where
-  pub status : Status
-  pub text : List ℕ
-
-abbrev pub done : List ℕ → Due
-done text = record { status = Done; text = text }
-
--- a line counted from 1, or 0 for the whole text, and why
-abbrev pub refused : ℕ → Refusal → Due
-refused number name = record { status = Refused; text = refusal_line number name }
-
--- The line of step k, both counted as they are: after the two lines of the head stand `complete remote`, where it is said, a line
--- for each group, and for each input a line and one for each rank.
-abbrev pub step_line : Outline → ℕ → ℕ
-step_line o k = 3 + (if o.remote then 1 else 0) + length o.groups + o.inputs * (o.ranks + 1) + k
-
 -- too many links, too many bytes
 abbrev pub excess_name : Excess → Refusal
 excess_name Links = TooMany
@@ -57,7 +39,7 @@ excess_name Bytes = TooLarge
 -- the steps that each rank of a world made
 abbrev pub orders_of : Option WorldState → List ℕ
 orders_of None = []
-orders_of (Some w) = order_text w.schedule.plan.ranks (λ r. map listed (histories_in w r))
+orders_of (Some w) = orders_in w
 
 -- What is written of a run, which leaves a world.
 abbrev pub mode_text : Mode → Outline → Lists → Option WorldState → List ℕ
@@ -109,12 +91,3 @@ due (Some t) bytes ran = due_of t.command ran (read_as t.format bytes)
 abbrev pub unread : Option Task → List ℕ → List ℕ
 unread None bytes = bytes
 unread (Some t) bytes = drop (LONGEST_TEXT + 1) bytes
-
--- the number with which the program ends
-abbrev pub number_of : Status → ℕ
-number_of Done = 0
-number_of Usage = 2
-number_of Refused = 3
-number_of ReadFault = 4
-number_of WriteFault = 5
-number_of NoMemory = 6

@@ -1,17 +1,17 @@
 -- What is said on standard error beside the answer.
-use Rattle.std.specs.Prelude.{ℕ, ◌≡◌, List, [], ◌∷◌, ◌++◌, Option, Some, None, Result, Ok, Err, IsSomeAnd}
-use Rattle.port_io.specs.declared.ends.Failed.{Failed}
-use Rattle.port_io.specs.Ends.{Appends, Outflow}
+use Rattle.std.specs.Prelude.{ℕ, ◌≡◌, List, [], ◌∷◌, ◌++◌, Option, Some, None, IsSomeAnd}
+use Rattle.port_io.specs.Ends.{Outflow}
 use Rattle.coll_lang.specs.declared.fault.Refusal.{Refusal}
 use Rattle.coll_lang.specs.declared.fault.ParseFault.{ParseFault}
 use Rattle.coll_lang.specs.declared.fault.ParseFault.TheVariants as faults
 use Rattle.text_notes.specs.notes.Causes.{name_of}
 use Rattle.text_notes.specs.notes.Notes.{note_text}
-use Rattle.text_notes.specs.notes.Shown.{AreNotes, IsNote}
+use Rattle.text_notes.specs.notes.Shown.{IsNote}
 use Rattle.text_notes.specs.declared.notes.note.Note.{Note}
 use Rattle.text_notes.specs.declared.notes.note.About.{About}
 use Rattle.text_notes.specs.declared.notes.note.About.TheVariants as abouts
 use Rattle.text_notes.specs.Places.{IsNamed}
+use Rattle.note_lines.specs.Said.{Begins, BeginsNotes}
 use Rattle.run_text.specs.Orders.{fails_line}
 use Rattle.run_text.specs.Putting.{Ends}
 use Rattle.run_text.specs.Refused.{refusal_line}
@@ -19,8 +19,8 @@ use Rattle.cuts.specs.declared.orders.Verdict.{Verdict}
 use Rattle.cuts.specs.declared.orders.Verdict.TheVariants.{Holds, Fails}
 use Rattle.portals_top.specs.declared.begun.Begun.{Begun}
 use Rattle.portals_top.specs.declared.begun.Begun.TheVariants as begun
-use Rattle.portals_top.specs.declared.status.Status.{Status}
-use Rattle.portals_top.specs.declared.status.Status.TheVariants.{Done, Usage, Refused, ReadFault, WriteFault, NoMemory}
+use Rattle.run_text.specs.declared.status.Status.{Status}
+use Rattle.run_text.specs.declared.status.Status.TheVariants.{Done, Usage, Refused, ReadFault, WriteFault, NoMemory}
 
 -- the line on standard output beside which a note stands
 abbrev pub answer_to : ℕ → About → List ℕ
@@ -58,29 +58,6 @@ Points line name told = IsSomeAnd told (λ note. (note.line ≡ line) × IsNamed
 abbrev pub PointsAt : ParseFault → Option Note → Type 0
 PointsAt (faults.Refused line name) told = Points line name told
 PointsAt faults.NoMemory told = Unit {0}
-
--- The sink took a beginning of the text.
-pub record Begins (old new : Outflow) (text : List ℕ) : Type 0 where
-  pub out : List ℕ
-  pub rest : List ℕ
-  pub whole : text ≡ out ++ rest
-  pub appended : Appends old.taken new.taken out
-
--- The sink took a beginning of lines of notes.
-pub record BeginsNotes (old new : Outflow) : Type 0 where
-  pub text : List ℕ
-  pub notes : AreNotes text
-  pub begun : Begins old new text
-
--- The sink took lines of notes.
-pub record TakesNotes (old new : Outflow) : Type 0 where
-  pub text : List ℕ
-  pub notes : AreNotes text
-  pub appended : Appends old.taken new.taken text
-
-abbrev pub SaysAll : Outflow → Outflow → Result (Unit {0}) Failed → Type 0
-SaysAll old new (Ok done) = TakesNotes old new
-SaysAll old new (Err failed) = BeginsNotes old new
 
 -- the line of a note, or a beginning of it
 pub record SaysNote (old new : Outflow) (note : Note) : Type 0 where

@@ -6,14 +6,13 @@ use Rattle.port_io.specs.Counts.{Rose}
 use Rattle.port_io.specs.Ends.{Inflow, Outflow}
 use Rattle.run_text.specs.Summary.{summary_of}
 use Rattle.shape_plans.specs.Drawing.{plan_of}
-use Rattle.portals_top.specs.declared.status.Status.{Status}
-use Rattle.portals_top.specs.declared.status.Status.TheVariants.{Done, WriteFault}
+use Rattle.run_text.specs.declared.status.Status.{Status}
+use Rattle.run_text.specs.declared.status.Status.TheVariants.{Done, WriteFault}
 use Rattle.portals_top.specs.declared.ran.Ran.{Ran}
 use Rattle.portals_top.specs.declared.words.Command.TheVariants.{Execute}
-use Rattle.portals_top.specs.declared.words.Mode.TheVariants.{Run}
+use Rattle.job_runs.specs.declared.modes.Mode.TheVariants.{Run}
 use Rattle.portals_top.specs.Answered.{HandsBack, LeavesWorld}
-use Rattle.portals_top.specs.Due.{done}
-use Rattle.portals_top.specs.Written.{Written}
+use Rattle.run_text.specs.Ending.{Written, done}
 
 -- the summary of the description that this number chooses: the size of its plan, and of each buffer that is printed the sum of what it
 -- means

@@ -9,8 +9,6 @@ pub mod Formats
 pub mod Headline
 pub mod Large
 pub mod OneText
-pub mod ReadText
 pub mod Resting
 pub mod Runs
 pub mod Words
-pub mod Written

@@ -14,7 +14,7 @@ use Rattle.run_text.specs.Lines.{rest_line, value_line}
 use Rattle.run_text.specs.Orders.{order_text}
 use Rattle.shape_plans.specs.Footprint.{refusal}
 use Rattle.portals_top.specs.declared.words.Command.TheVariants.{Execute}
-use Rattle.portals_top.specs.declared.words.Mode.TheVariants.{Sim}
+use Rattle.job_runs.specs.declared.modes.Mode.TheVariants.{Sim}
 use Rattle.portals_top.specs.declared.words.Task.{Task}
 use Rattle.portals_top.specs.Words.{text_task}
 

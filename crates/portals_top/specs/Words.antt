@@ -2,8 +2,9 @@
 use Rattle.std.specs.Prelude.{ℕ, ◌<◌, List, [], ◌∷◌, Option, Some, None, codes, if◌then◌else◌, option_map}
 use Rattle.std.specs.Str.{bytes_eq}
 use Rattle.coll_text.specs.Text.{number_between}
-use Rattle.portals_top.specs.declared.words.Mode.{Mode}
-use Rattle.portals_top.specs.declared.words.Mode.TheVariants.{Once, Sim, Run, Trace, Steady}
+use Rattle.job_runs.specs.Modes.{HasWorkers, seed_of, workers_of}
+use Rattle.job_runs.specs.declared.modes.Mode.{Mode}
+use Rattle.job_runs.specs.declared.modes.Mode.TheVariants.{Once, Sim, Run, Trace, Steady}
 use Rattle.portals_top.specs.declared.words.Command.{Command}
 use Rattle.portals_top.specs.declared.words.Command.TheVariants.{Execute, Plan}
 use Rattle.portals_top.specs.declared.words.Format.TheVariants.{Text, Json}
@@ -11,13 +12,7 @@ use Rattle.portals_top.specs.declared.words.Task.{Task}
 use Rattle.portals_top.specs.declared.words.Request.{Request}
 use Rattle.portals_top.specs.declared.words.Request.TheVariants.{Do, Large, Check}
 
--- Numbers in their one spelling: a seed below 2^64, a number of workers, and the number that chooses generated values.
-abbrev pub seed_of : List ℕ → Option ℕ
-seed_of word = number_between 0 18446744073709551615 word
-
-abbrev pub workers_of : List ℕ → Option ℕ
-workers_of word = number_between 1 16 word
-
+-- the number that chooses generated values, in its one spelling
 abbrev pub chosen_of : List ℕ → Option ℕ
 chosen_of word = number_between 0 65535 word
 
@@ -70,14 +65,6 @@ request (word ∷ []) = one_word word
 request (word ∷ number ∷ []) = two_words word number
 request (word ∷ number ∷ workers ∷ []) = three_words word number workers
 request (word ∷ number ∷ workers ∷ other ∷ words) = None
-
--- There is a worker, and the number that chooses generated values is in its range.
-abbrev pub HasWorkers : Mode → Type 0
-HasWorkers Once = Unit {0}
-HasWorkers (Sim seed) = Unit {0}
-HasWorkers (Run workers) = 0 < workers
-HasWorkers (Trace workers) = 0 < workers
-HasWorkers (Steady workers) = 0 < workers
 
 -- how many threads read a text for a command: the workers who are to run it, and else one
 abbrev pub readers_of : Command → ℕ

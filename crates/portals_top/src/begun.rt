@@ -1,6 +1,6 @@
 //! How far a call comes by one thread.
 
-use crate::status::Status;
+use run_text::Status;
 use schedule_compiler::ShapeJob;
 
 /// The workers that run a description, how they find the end, and what is written of the run.

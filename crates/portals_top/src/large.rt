@@ -3,22 +3,20 @@
 ghost use Rattle.std.specs.Prelude.{◌≡◌, ◌<◌, IfOk};
 ghost use Rattle.coll_lang.specs.Generated.{generated};
 ghost use Rattle.portals_top.specs.Answered.{HandsBack, LeavesWorld};
-ghost use Rattle.portals_top.specs.Due.{done};
+ghost use Rattle.run_text.specs.Ending.{Written, done};
 ghost use Rattle.portals_top.specs.Large.{summary_text};
 ghost use Rattle.portals_top.specs.Left.{nothing_ran};
-ghost use Rattle.portals_top.specs.Written.{Written};
 
-use crate::host::Host;
 use crate::ran::Ran;
 use crate::running::run_by_workers;
-use crate::status::Status;
-use crate::words::{Command, Mode};
+use crate::words::Command;
 use crate::writing::{Results, status_of, write_sums};
 use coll_lang::generated;
+use job_runs::{Host, Mode};
 use port_io::Sink;
 use ptl_types::NoMemory;
 use rank_threads::Gate;
-use run_text::Pieces;
+use run_text::{Pieces, Status};
 use schedule_compiler::{CompileFault, ShapeJob, compile};
 use std::alloc::Global;
 use std::sync::Wait;

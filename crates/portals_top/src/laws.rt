@@ -12,7 +12,7 @@ ghost use Rattle.portals_top.specs.Answered.{RunLeaves};
 ghost use Rattle.portals_top.specs.Due.{due};
 ghost use Rattle.portals_top.specs.Headline.{ranks_of};
 ghost use Rattle.portals_top.specs.OneText.{IsChoosing, IsPlanned, choosers_of, run_orders, run_values, sim_task};
-ghost use Rattle.portals_top.specs.Runs.{word};
+ghost use Rattle.job_runs.specs.Runs.{word};
 
 /// What `sim X` writes of any bytes is a function of the words and the bytes, whatever world the call leaves.
 pub fn sim_owes_one_text_of_any_bytes()

@@ -1,14 +1,12 @@
 //! The plan that a description is compiled to.
 
 ghost use Rattle.run_text.specs.Plans.{plan_text};
-ghost use Rattle.portals_top.specs.Due.{done};
-ghost use Rattle.portals_top.specs.Written.{Written};
+ghost use Rattle.run_text.specs.Ending.{Written, done};
 
-use crate::status::Status;
 use plan_core::Plan;
 use port_io::Sink;
 use ptl_types::Rank;
-use run_text::{Pieces, PlanTables, write_plan};
+use run_text::{Pieces, PlanTables, Status, write_plan};
 use schedule_compiler::done::CountedPlan;
 use std::alloc::Global;
 

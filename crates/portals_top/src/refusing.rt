@@ -1,68 +1,27 @@
 //! Why a text is refused.
 
-ghost use Rattle.std.specs.Prelude.{◌≡◌, ◌<◌, [], Err, None, Option, length};
+ghost use Rattle.std.specs.Prelude.{◌≡◌, ◌<◌, Err, None, Option, length};
 ghost use Rattle.coll_shape.specs.Meaning.{Lists};
 ghost use Rattle.shape_plans.specs.Footprint.{refusal};
 ghost use Rattle.schedule_compiler.specs.Answers.{Compiles};
 ghost use Rattle.worlds.specs.World.{WorldState};
-ghost use Rattle.run_text.specs.Refused.{refusal_line};
-ghost use Rattle.run_text.specs.Putting.{EndsWith};
-ghost use Rattle.portals_top.specs.Due.{due_compiled, refused, step_line};
+ghost use Rattle.run_text.specs.Refused.{step_line};
+ghost use Rattle.run_text.specs.Ending.{Written, refused};
+ghost use Rattle.portals_top.specs.Due.{due_compiled};
 ghost use Rattle.text_notes.specs.notes.Causes.{name_of};
 ghost use Rattle.text_notes.specs.Places.{IsNamed};
 ghost use Rattle.portals_top.specs.Explained.{Tells};
-ghost use Rattle.portals_top.specs.Written.{Written};
 
-use crate::status::Status;
 use crate::words::Command;
 use coll_lang::Refusal;
 use coll_shape::Shape;
-use port_io::{Failed, Sink};
-use run_text::{Pieces, refusal_line};
+use port_io::Sink;
+use run_text::{Status, refuse, step_line};
 use schedule_compiler::CompileFault;
 use shape_plans::{MOST_BYTES, MOST_LINKS};
 use std::alloc::Global;
 use text_notes::notes::{About, Cause, Excess, Limit, Note};
 use text_notes::plain_note;
-
-/// The line on which a step stands, counted from 1.
-fn step_line(shape: &Shape, step: u32) -> u32
-    requires { step < length shape.now.steps }
-    ensures { result ≡ step_line shape.now step }
-{
-    shape.keeps_form();
-    let ranks = shape.ranks();
-    let options = if shape.remote() { 1 } else { 0 };
-    let inputs = shape.input_count() * (ranks + 1);
-    3 + options + shape.group_count() + inputs + step
-}
-
-/// Writes why a text is refused, and finishes the sink.
-fn write_refusal<K: Sink>(
-    out: &mut Pieces,
-    sink: &mut K,
-    line: u32,
-    name: Refusal,
-) -> Result<(), Failed>
-    requires { out.old ≡ [] }
-    ensures { EndsWith (K.outflow sink.old) (K.outflow sink.new) (refusal_line line name) result }
-{
-    refusal_line(out, sink, line, name)?;
-    out.end(sink)
-}
-
-/// Refuses a text in one of its lines, or as a whole, which is line 0.
-pub(crate) fn refuse<K: Sink>(alloc: Global, sink: &mut K, line: u32, name: Refusal) -> Status
-    ensures { Written (refused line name) (K.outflow sink.old) (K.outflow sink.new) result }
-{
-    let Ok(mut out) = Pieces::open(alloc) else {
-        return Status::NoMemory;
-    };
-    match write_refusal(&mut out, sink, line, name) {
-        Ok(()) => Status::Refused,
-        Err(_) => Status::WriteFault,
-    }
-}
 
 /// Refuses a text, as `refuse` does, and keeps the note of it.
 pub(crate) fn refuse_with<K: Sink>(

@@ -1,96 +1,47 @@
 //! Running a job, and writing what the world then holds.
 
-ghost use Rattle.std.specs.Prelude.{◌≡◌, ◌<◌, ◌^◌, All, IfOk, None, Some, length};
-ghost use Rattle.coll_shape.specs.Meaning.{AreInputs};
-ghost use Rattle.coll_shape.specs.WellFormed.{IsWellFormed};
-ghost use Rattle.cuts.specs.orders.Chosen.{first_scene};
-ghost use Rattle.rest_probe.specs.Waves.{IsFor};
-ghost use Rattle.schedule_compiler.specs.Schedules.{schedule_of};
-ghost use Rattle.shape_plans.specs.Footprint.{refusal};
-ghost use Rattle.turn_table.specs.Hands.{IsFree, parts_of};
-ghost use Rattle.worlds.specs.Later.{IsLater};
-ghost use Rattle.worlds.specs.Standing.{IsStanding};
-ghost use Rattle.worlds.specs.World.{scene_in};
+ghost use Rattle.std.specs.Prelude.{◌≡◌, ◌<◌, IfOk, None, Some};
 ghost use Rattle.portals_top.specs.Answered.{HandsBack, LeavesRun, LeavesWorld};
 ghost use Rattle.portals_top.specs.Begun.{Begins, IsLeft, mode_of};
-ghost use Rattle.portals_top.specs.Due.{done, mode_text};
+ghost use Rattle.run_text.specs.Ending.{Written, done};
+ghost use Rattle.portals_top.specs.Due.{mode_text};
 ghost use Rattle.portals_top.specs.Left.{nothing_ran};
-ghost use Rattle.portals_top.specs.Runs.{IsInOrder, IsOfSteady, IsOfWorkers, IsReachedWorld, IsRested, IsRun};
-ghost use Rattle.portals_top.specs.Words.{HasWorkers};
-ghost use Rattle.portals_top.specs.Written.{Written};
+ghost use Rattle.job_runs.specs.Runs.{IsInOrder, IsOfSteady, IsOfWorkers, IsReachedWorld};
+ghost use Rattle.portals_top.specs.Runs.{IsRun};
+ghost use Rattle.job_runs.specs.Modes.{HasWorkers};
 
 use crate::begun::{Begun, Crew};
-use crate::drawing::Words;
-use crate::host::Host;
 use crate::ran::Ran;
-use crate::status::Status;
-use crate::words::{Command, Mode};
-use crate::writing::{Results, status_of, write_ordered, write_run};
+use crate::words::Command;
+use crate::writing::{Results, status_of, write_run};
+use job_runs::{Host, Mode, write_ordered};
 use port_io::Sink;
 use ptl_types::NoMemory;
-use rank_threads::{Fabric, Gate, Hand, SpentWires, run_keeping, run_steady};
-use rest_probe::Wave;
-use run_text::{Pieces, write_result};
+use rank_threads::{Gate, SpentWires};
+use run_text::{Pieces, Status, write_result};
 use schedule_compiler::ShapeJob;
 use std::alloc::Global;
 use std::sync::Wait;
 use std::thread::Threads;
-use worlds::{World, runs_by_words};
-
-/// What holds of a world whatever was done with it.
-fn recall_standing(world: &World)
-    ensures { IsStanding world.now }
-{
-    let _ = world.enabled();
-}
-
-/// What holds of every job of a shape.
-fn recall_job(job: &ShapeJob)
-    ensures formed { IsWellFormed job.now.shape }
-    ensures accepted { refusal job.now.shape ≡ None }
-    ensures inputs { AreInputs job.now.shape job.now.inputs }
-{
-    let _ = job.job();
-}
-
-/// Makes all that is left of a world of a job.
-fn finished(world: World, job: &ShapeJob) -> World
-    requires own { world.spare ≡ 0 }
-    requires schedule { world.schedule ≡ schedule_of job.now.shape }
-    requires inputs { world.inputs ≡ job.now.inputs }
-    ensures run { IsRun job.now.shape job.now.inputs result }
-    ensures reached { scene_in world ≡ first_scene → IsReachedWorld result }
-    ensures later { IsLater world result }
-{
-    let mut world = world;
-    recall_job(job);
-    world.run_to_rest();
-    recall_standing(&world);
-    world
-}
+use worlds::World;
 
 /// Runs a job on one thread in the program's own order.
 fn run_once(alloc: Global, job: &ShapeJob) -> Result<World, NoMemory>
     ensures { IfOk result (λ w. IsRun job.now.shape job.now.inputs w × IsReachedWorld w) }
 {
-    let world = World::open(alloc, job.job())?;
-    Ok(finished(world, job))
+    let world = job_runs::run_once(alloc, job.job())?;
+    Ok(world)
 }
 
 /// Runs a job on one thread in the order that the words of a generator choose.
 fn run_chosen(alloc: Global, job: &ShapeJob, seed: u64) -> Result<World, NoMemory>
     ensures { IfOk result (λ w. IsRun job.now.shape job.now.inputs w × (IsReachedWorld w × IsInOrder seed w)) }
 {
-    let mut world = World::open(alloc, job.job())?;
-    let mut words = Words::of(seed);
-    world.run_chosen(&mut words);
-    runs_by_words::<Words>();
-    recall_standing(&world);
+    let world = job_runs::run_chosen(alloc, job.job(), seed)?;
     Ok(world)
 }
 
-/// Runs a job by workers on threads; what they leave is made at the end. Where no thread can be started, the call does a worker's
-/// part itself. The wires that they used are handed over beside the world.
+/// Runs a job by workers on threads; what they leave is made at the end.
 pub(crate) fn run_by_workers<R: Threads + Wait + Sync, G: Gate>(
     host: &Host<R, G>,
     workers: u32,
@@ -99,37 +50,11 @@ pub(crate) fn run_by_workers<R: Threads + Wait + Sync, G: Gate>(
     requires { 0 < workers }
     ensures { IfOk result (λ left. IsRun job.now.shape job.now.inputs left.0 × IsOfWorkers workers left.0) }
 {
-    let (fabric, hands) = Fabric::open(host.rt, host.alloc, job.job(), workers, &host.gate)?;
-    let (world, spent) = run_keeping(host.rt, fabric, hands);
-    let world = finished(world, job);
-    Ok((world, spent))
+    let left = job_runs::run_by_workers(host, workers, job.job())?;
+    Ok(left)
 }
 
-/// Lets a worker for each hand make steps until a wave of probes has found rest, and closes the fabric. Its wires come beside the world.
-fn close_steady<R: Threads + Wait + Sync, G: Gate + Drop>(
-    rt: &R,
-    fabric: Fabric<G>,
-    hands: Vec<Hand>,
-    wave: Wave,
-) -> (World, SpentWires)
-    requires hands { All (λ h. IsFree fabric.turns h) hands.items }
-    requires all { parts_of hands.items ≡ 2 ^ 32 }
-    requires nonempty { 0 < length hands.items }
-    requires at_most { length hands.items < 2 ^ 32 }
-    requires lanes { IsFor fabric.job.schedule.plan wave }
-    ensures schedule { result.0.schedule ≡ fabric.job.schedule }
-    ensures inputs { result.0.inputs ≡ fabric.job.inputs }
-    ensures own { result.0.spare ≡ 0 }
-    ensures rested { IsRested fabric (length hands.items) result.0 }
-{
-    let mut hands = hands;
-    let mut wave = wave;
-    run_steady(rt, &fabric, &mut hands, &mut wave);
-    fabric.close_at_rest(rt, hands, wave)
-}
-
-/// Runs a job by workers on threads that leave nothing. Where no thread can be started, the call does a worker's part itself. The wires
-/// that they used are handed over beside the world.
+/// Runs a job by workers on threads that leave nothing.
 fn run_steadily<R: Threads + Wait + Sync, G: Gate>(
     host: &Host<R, G>,
     workers: u32,
@@ -138,11 +63,8 @@ fn run_steadily<R: Threads + Wait + Sync, G: Gate>(
     requires { 0 < workers }
     ensures { IfOk result (λ left. IsRun job.now.shape job.now.inputs left.0 × IsOfSteady workers left.0) }
 {
-    let own = job.job();
-    let wave = Wave::open(host.alloc, own.schedule())?;
-    let (fabric, hands) = Fabric::open(host.rt, host.alloc, own, workers, &host.gate)?;
-    let (world, spent) = close_steady(host.rt, fabric, hands, wave);
-    Ok((finished(world, job), spent))
+    let left = job_runs::run_steadily(host, workers, job.job())?;
+    Ok(left)
 }
 
 /// Runs a job on one thread in the program's own order, writes its results, and hands back the world.
@@ -184,7 +106,7 @@ fn sim<K: Sink>(alloc: Global, job: &ShapeJob, seed: u64, sink: &mut K, ran: &mu
         world: &world,
         shape: job.shape(),
     };
-    let written = write_ordered(&mut out, sink, &results);
+    let written = write_ordered(&mut out, sink, &results, &world);
     ran.world = Some(world);
     status_of(written)
 }

@@ -1,37 +1,12 @@
 //! The words of the command line.
 
 ghost use Rattle.std.specs.Prelude.{◌≡◌, map, string_bytes, IfSome};
-ghost use Rattle.portals_top.specs.Words.{CanAnswer, chosen_of, json_of, large_of, request, run_of, seed_of, sim_of, steady_of, text_task};
-ghost use Rattle.portals_top.specs.Words.{trace_of, workers_of};
+ghost use Rattle.job_runs.specs.Modes.{seed_of, workers_of};
+ghost use Rattle.portals_top.specs.Words.{CanAnswer, chosen_of, json_of, large_of, request, run_of, sim_of, steady_of, text_task};
+ghost use Rattle.portals_top.specs.Words.{trace_of};
 
 use coll_text::{long_number, number_between};
-
-/// How a description is run, and what is written of the run.
-#[derive(Clone, Copy, Debug, PartialEq, Eq)]
-pub enum Mode {
-    /// On one thread in the program's own order. The results are written.
-    Once,
-    /// On one thread in the order that the words of a generator choose. The results and the order are written.
-    Sim {
-        /// What the generator is seeded by.
-        seed: u64,
-    },
-    /// By workers on threads. The results are written.
-    Run {
-        /// How many workers there are, from 1 to 16.
-        workers: u32,
-    },
-    /// By workers on threads. The results and the order of each rank's steps are written.
-    Trace {
-        /// How many workers there are, from 1 to 16.
-        workers: u32,
-    },
-    /// By workers on threads that go on until a wave of probes has found rest. The results are written.
-    Steady {
-        /// How many workers there are, from 1 to 16.
-        workers: u32,
-    },
-}
+use job_runs::Mode;
 
 /// What is done with a description.
 #[derive(Clone, Copy, Debug, PartialEq, Eq)]

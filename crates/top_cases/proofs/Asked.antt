@@ -5,7 +5,7 @@ use Rattle.json_lang.specs.declared.fault.JsonRefusal.TheVariants.{BadForm, BadJ
 use Rattle.portals_top.specs.declared.words.Command.{Command}
 use Rattle.portals_top.specs.declared.words.Command.TheVariants.{Execute, Plan}
 use Rattle.portals_top.specs.declared.words.Format.TheVariants.{Json, Text}
-use Rattle.portals_top.specs.declared.words.Mode.TheVariants.{Once, Run, Sim, Steady, Trace}
+use Rattle.job_runs.specs.declared.modes.Mode.TheVariants.{Once, Run, Sim, Steady, Trace}
 use Rattle.portals_top.specs.declared.words.Request.{Request}
 use Rattle.portals_top.specs.declared.words.Request.TheVariants.{Check, Do, Large}
 use Rattle.portals_top.specs.Formats.{json_refusal}

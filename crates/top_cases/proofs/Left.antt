@@ -17,8 +17,8 @@ use Rattle.shape_plans.proofs.Final.{fine-shape}
 use Rattle.cuts.specs.cells.Cells.{result_in}
 use Rattle.schedule_compiler.specs.Schedules.{ScheduleOf}
 use Rattle.worlds.specs.World.{AreSlots, WorldState, histories_in, memory_in, ranks_in, steps_in}
-use Rattle.portals_top.specs.declared.status.Status.TheVariants.{Done, NoMemory, ReadFault, Refused, Usage, WriteFault}
-use Rattle.portals_top.specs.Answered.{MayAnswer}
+use Rattle.run_text.specs.declared.status.Status.TheVariants.{Done, NoMemory, ReadFault, Refused, Usage, WriteFault}
+use Rattle.run_text.specs.Ending.{MayAnswer}
 use Rattle.portals_top.specs.Checked.{due_checked, due_verdict}
 use Rattle.portals_top.specs.Runs.{IsRun}
 

@@ -7,11 +7,13 @@ use Rattle.coll_lang.specs.declared.fault.Refusal.TheVariants.{BadRanks, OneThre
 use Rattle.coll_lang.specs.Program.{Chosen}
 use Rattle.shape_plans.specs.Footprint.Excess.{Bytes, Links}
 use Rattle.portals_top.specs.declared.ran.Ran.{Ran}
-use Rattle.portals_top.specs.declared.status.Status.TheVariants.{Done, NoMemory, ReadFault, Refused, Usage, WriteFault}
+use Rattle.run_text.specs.declared.status.Status.TheVariants.{Done, NoMemory, ReadFault, Refused, Usage, WriteFault}
 use Rattle.portals_top.specs.declared.words.Command.TheVariants.{Execute, Plan}
 use Rattle.portals_top.specs.declared.words.Format.TheVariants.{Json}
-use Rattle.portals_top.specs.declared.words.Mode.TheVariants.{Once, Run, Sim, Steady, Trace}
-use Rattle.portals_top.specs.Due.{due, due_chosen, due_compiled, due_in_mode, due_of, excess_name, number_of, step_line, unread}
+use Rattle.job_runs.specs.declared.modes.Mode.TheVariants.{Once, Run, Sim, Steady, Trace}
+use Rattle.run_text.specs.Ending.{number_of}
+use Rattle.run_text.specs.Refused.{step_line}
+use Rattle.portals_top.specs.Due.{due, due_chosen, due_compiled, due_in_mode, due_of, excess_name, unread}
 
 abbrev ends : List ℕ → List ℕ
 ends bytes = bytes ++ 10 ∷ []

@@ -4,7 +4,7 @@ use Rattle.plan_choice.specs.ranks.Seats.{kind_of}
 use Rattle.portals_top.specs.Answered.{LeavesChosen}
 use Rattle.portals_top.specs.declared.ran.Ran.{Ran}
 use Rattle.portals_top.specs.declared.words.Command.TheVariants.{Execute}
-use Rattle.portals_top.specs.declared.words.Mode.TheVariants.{Once}
+use Rattle.job_runs.specs.declared.modes.Mode.TheVariants.{Once}
 use Rattle.portals_top.proofs.Rests.{handed-of, written-of}
 use Rattle.portals_top.proofs.choosing.once.Goals as goal
 

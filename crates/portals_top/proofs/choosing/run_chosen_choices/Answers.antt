@@ -5,8 +5,8 @@ use Rattle.cuts.specs.histories.System.{System}
 use Rattle.cuts.specs.orders.Chosen.{first_scene}
 use Rattle.worlds.specs.Runs.{Running, chosen_run}
 use Rattle.plan_choice.specs.World.{ranks_in, scene_in}
-use Rattle.portals_top.specs.Runs.{after_words, chosen_number, generator, word, words_left}
-use Rattle.portals_top.proofs.Rests.{seeded}
+use Rattle.job_runs.specs.Runs.{after_words, chosen_number, generator, word, words_left}
+use Rattle.job_runs.proofs.Rests.{seeded}
 use Rattle.portals_top.proofs.choosing.run_chosen_choices.Goals as goal
 
 pub returns : goal.returns

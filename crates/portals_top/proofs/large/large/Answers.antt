@@ -3,7 +3,7 @@ use Rattle.coll_lang.specs.Generated.{generated}
 use Rattle.portals_top.specs.Answered.{LeavesWorld}
 use Rattle.portals_top.specs.declared.ran.Ran.{Ran}
 use Rattle.portals_top.specs.declared.words.Command.TheVariants.{Execute}
-use Rattle.portals_top.specs.declared.words.Mode.TheVariants.{Run}
+use Rattle.job_runs.specs.declared.modes.Mode.TheVariants.{Run}
 use Rattle.portals_top.proofs.Rests.{handed-of, resting-of, written-of}
 use Rattle.portals_top.proofs.large.large.Goals as goal
 

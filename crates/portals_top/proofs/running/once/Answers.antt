@@ -2,7 +2,7 @@ use Rattle.std.proofs.Common.{None, ap}
 use Rattle.portals_top.specs.Answered.{LeavesWorld}
 use Rattle.portals_top.specs.declared.ran.Ran.{Ran}
 use Rattle.portals_top.specs.declared.words.Command.TheVariants.{Execute}
-use Rattle.portals_top.specs.declared.words.Mode.TheVariants.{Once}
+use Rattle.job_runs.specs.declared.modes.Mode.TheVariants.{Once}
 use Rattle.portals_top.proofs.Rests.{handed-of, resting-of, same-mode, written-of}
 use Rattle.portals_top.proofs.running.once.Goals as goal
 

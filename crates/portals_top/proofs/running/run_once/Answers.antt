@@ -1,15 +1,10 @@
-use Rattle.std.proofs.Common.{◌∙◌, ap}
+use Rattle.std.proofs.Common.{subst}
 use Rattle.schedule_compiler.specs.Jobs.{JobOf}
+use Rattle.job_runs.specs.Runs.{IsJobRun}
+use Rattle.portals_top.proofs.Rests.{run-of}
 use Rattle.portals_top.proofs.running.run_once.Goals as goal
 
-pub finished-requires : goal.finished-requires
-finished-requires c =
-    let opened = c.in_ok-world.ensures in
-    let same = c.job.ensures.value in record {
-      own = opened.spare;
-      schedule = opened.schedule ∙ ap (λ (j : JobOf). j.schedule) same;
-      inputs = opened.inputs ∙ ap (λ (j : JobOf). j.inputs) same;
-    }
-
 pub returns : goal.returns
-returns c = (c.finished.ensures.run, c.finished.ensures.reached c.in_ok-world.ensures.scene)
+returns c =
+    let run = subst (λ (j : JobOf). IsJobRun j c.in_ok-world.world) c.job.ensures.value c.in_ok-world.ensures.0 in
+    (run-of _ _ _ c.job.ensures.formed c.job.ensures.accepted c.job.ensures.inputs run, c.in_ok-world.ensures.1)

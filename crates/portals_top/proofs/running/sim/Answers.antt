@@ -2,12 +2,12 @@ use Rattle.std.proofs.Common.{Some, ap}
 use Rattle.portals_top.specs.Answered.{LeavesWorld}
 use Rattle.portals_top.specs.declared.ran.Ran.{Ran}
 use Rattle.portals_top.specs.declared.words.Command.TheVariants.{Execute}
-use Rattle.portals_top.specs.declared.words.Mode.TheVariants.{Sim}
+use Rattle.job_runs.specs.declared.modes.Mode.TheVariants.{Sim}
 use Rattle.portals_top.proofs.Rests.{handed-of, resting-of, same-mode, written-of}
 use Rattle.portals_top.proofs.running.sim.Goals as goal
 
-pub write_ordered-written-requires-clause-resting : goal.write_ordered-written-requires-clause-resting
-write_ordered-written-requires-clause-resting g c =
+pub write_ordered-written-requires-clause-gives : goal.write_ordered-written-requires-clause-gives
+write_ordered-written-requires-clause-gives g c =
     resting-of _ _ _ _ c.in-Ok-run_chosen.ensures.0 c.shape.ensures.value
 
 pub returns : goal.returns

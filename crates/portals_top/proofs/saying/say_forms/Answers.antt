@@ -1,4 +1,4 @@
-use Rattle.portals_top.proofs.Telling.{says_stops}
+use Rattle.note_lines.proofs.Lines.{says_stops}
 use Rattle.portals_top.proofs.saying.say_forms.Goals as goal
 
 pub returns-in_err-say : goal.returns-in_err-say

@@ -1,4 +1,4 @@
-use Rattle.portals_top.proofs.Told.{told-read}
+use Rattle.run_text.proofs.Told.{told-read}
 use Rattle.portals_top.proofs.Answering.{answered-failed, answered-no_memory}
 use Rattle.portals_top.proofs.Beginning.{begun-read}
 use Rattle.coll_lang.specs.declared.whole.TheConstants.{LONGEST_TEXT}

@@ -1,4 +1,4 @@
-use Rattle.portals_top.proofs.Told.{told-read}
+use Rattle.run_text.proofs.Told.{told-read}
 use Rattle.portals_top.proofs.Judging.{checked-failed, checked-no_memory, checked-read}
 use Rattle.order_lines.specs.declared.checking.TheConstants.{LONGEST_CHECK}
 use Rattle.portals_top.proofs.top.read_and_check.Goals as goal

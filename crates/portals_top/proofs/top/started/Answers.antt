@@ -1,7 +1,7 @@
 use Rattle.std.proofs.Common.{sym, ◌∙◌, refl}
 use Rattle.portals_top.proofs.Answering.{answered-usage}
 use Rattle.portals_top.proofs.Beginning.{summed-no_memory}
-use Rattle.portals_top.proofs.Told.{told-any}
+use Rattle.run_text.proofs.Told.{told-any}
 use Rattle.portals_top.proofs.Telling.{usage_tells}
 use Rattle.portals_top.proofs.top.started.Goals as goal
 

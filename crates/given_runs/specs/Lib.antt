@@ -1,0 +1,2 @@
+pub mod GivenJobs
+pub mod GivenRuns

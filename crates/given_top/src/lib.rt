@@ -1,0 +1,9 @@
+//! The program that draws, judges and runs plans that anybody made, over any source and any sinks: words in, a status out.
+#![tactic(auto)]
+
+mod running;
+mod top;
+
+pub use given_runs::GivenRun;
+pub use plan_top::Status;
+pub use top::given_main;

@@ -1,8 +1,0 @@
-use Rattle.run_text.proofs.Taking.{EndsWith-then, EndsWith-stops}
-use Rattle.portals_top.proofs.refusing.write_refusal.Goals as goal
-
-pub returns-in_err-refusal_line : goal.returns-in_err-refusal_line
-returns-in_err-refusal_line g c = EndsWith-stops _ _ _ _ c.from_residual.ensures.0 (rw c.requires at c.in_err-refusal_line.ensures)
-
-pub returns : goal.returns
-returns g c = EndsWith-then _ _ _ _ _ _ (rw c.requires at c.in_ok-refusal_line.ensures) c.end.ensures.ends

@@ -1,5 +1,0 @@
-use Rattle.portals_top.specs.Explained.{TakesNotes}
-use Rattle.portals_top.proofs.saying.say_each.Given as goal
-
-abbrev pub invariant-loop-form : goal.invariant-loop-form
-invariant-loop-form g l = TakesNotes (g.N.Sink.outflow l.fn.notes) (g.N.Sink.outflow l.notes)
