@@ -32,7 +32,7 @@ counted t f x xs = at (t x)
     at true = sum_by-cons f x (filter t xs)
     at false = omega arith
 
-sum-parted : (t u v : ℕ → Bool) (f : ℕ → ℕ) → ((i : ℕ) → cond (t i) (f i) 0 + cond (u i) (f i) 0 ≡ cond (v i) (f i) 0) → (xs : List ℕ) →
+pub sum-parted : (t u v : ℕ → Bool) (f : ℕ → ℕ) → ((i : ℕ) → cond (t i) (f i) 0 + cond (u i) (f i) 0 ≡ cond (v i) (f i) 0) → (xs : List ℕ) →
     sum_by f (filter t xs) + sum_by f (filter u xs) ≡ sum_by f (filter v xs)
 sum-parted t u v f parted [] = refl
 sum-parted t u v f parted (x ∷ xs) =
@@ -45,7 +45,7 @@ sum-parted t u v f parted (x ∷ xs) =
 
 -- ---- one rank more
 -- a link from rank s counts once: below k, or at k
-once : (s k n : ℕ) → cond (nat_lt s k) n 0 + cond (s == k) n 0 ≡ cond (nat_lt s (k + 1)) n 0
+pub once : (s k n : ℕ) → cond (nat_lt s k) n 0 + cond (s == k) n 0 ≡ cond (nat_lt s (k + 1)) n 0
 once s k n = at (nat_lt s k) refl (s == k) refl
   where
     at : (a : Bool) → nat_lt s k ≡ a → (b : Bool) → (s == k) ≡ b → cond (nat_lt s k) n 0 + cond (s == k) n 0 ≡ cond (nat_lt s (k + 1)) n 0
@@ -70,7 +70,7 @@ once s k n = at (nat_lt s k) refl (s == k) refl
         omega (arith, x, y, w)
 
 -- and so does a link that carries a message to r; others count nowhere
-once-to : (m t : Bool) (s k n : ℕ) → cond ((m && t) && nat_lt s k) n 0 + cond (m && ((s == k) && t)) n 0 ≡ cond
+pub once-to : (m t : Bool) (s k n : ℕ) → cond ((m && t) && nat_lt s k) n 0 + cond (m && ((s == k) && t)) n 0 ≡ cond
     ((m && t) && nat_lt s (k + 1)) n 0
 once-to false t s k n = refl
 once-to true true s k n = ap (λ b. cond (nat_lt s k) n 0 + cond b n 0) (and-true (s == k)) ∙ once s k n

@@ -8,4 +8,5 @@ mod receipts;
 mod tasks;
 
 pub use installing::install;
+pub use receipts::bytes_to;
 pub use tasks::task_of;

@@ -25,7 +25,7 @@ pub(crate) fn receipts_of(schedule: &Schedule, r: Rank, table: &RankTable) -> u6
 }
 
 /// How many bytes these messages have together. Answers carry none.
-pub(crate) fn bytes_to(schedule: &Schedule, r: Rank) -> u64
+pub fn bytes_to(schedule: &Schedule, r: Rank) -> u64
     requires { r < schedule.now.plan.ranks }
     ensures { result ≡ sum_by (λ l. (link schedule.now.plan l).length) (links_to schedule.now.plan r) }
 {

@@ -1,0 +1,6 @@
+pub mod Status
+pub mod Refused
+pub mod Opening
+pub mod Runs
+pub mod Notes
+pub mod Owed

@@ -1,0 +1,41 @@
+-- A rank that can take frames.
+use Rattle.std.specs.Prelude.{ℕ, ◌≡◌, ◌<◌, List, [], length, sum_by, map}
+use Rattle.coll_lang.specs.Program.{Program}
+use Rattle.shape_plans.specs.Drawing.{plan_of}
+use Rattle.number_lists.specs.Numbers.{from_to}
+use Rattle.ptl_types.specs.declared.headers.Lane.TheVariants.{Request, Answer}
+use Rattle.plan_core.specs.Plan.{Plan, link}
+use Rattle.plan_core.specs.Values.{Inputs}
+use Rattle.plan_calls.specs.Areas.{links_to}
+use Rattle.plan_calls.specs.Lanes.{lane_messages}
+use Rattle.cuts.specs.view.Calls.{prepare}
+use Rattle.cuts.specs.view.Slots.{Slots}
+use Rattle.rank_node.specs.Handles.{Agrees}
+use Rattle.rank_node.specs.Node.{IsNode}
+use Rattle.rank_node.specs.Plans.{IsCompiledFor}
+use Rattle.rank_frames.specs.Due.{Dues}
+use Rattle.rank_frames.specs.Place.{PlaceState}
+use Rattle.rank_lines.specs.Rank.{IsDescribed}
+use Rattle.rank_process.specs.declared.opening.Opened.{Opened}
+
+-- what comes to rank r in a whole run of a plan
+pub record IsDueTo (p : Plan) (r : ℕ) (d : Dues) : Type 0 where
+  pub requests : d.requests ≡ map (λ s. lane_messages p s r Request) (from_to 0 p.ranks)
+  pub answers : d.answers ≡ map (λ s. lane_messages p s r Answer) (from_to 0 p.ranks)
+  pub bytes : d.bytes ≡ sum_by (λ l. (link p l).length) (links_to p r)
+
+-- rank r, which has done nothing
+pub record IsPlaceOf (p : Plan) (inputs : Inputs) (r : ℕ) (x : PlaceState) : Type 0 where
+  pub me : x.me ≡ r
+  pub compiled : IsCompiledFor p inputs r x.node.task
+  pub nothing : x.node.diary.locals ≡ []
+  pub first : (k : Slots) → Agrees k x.node.kept → x.node.nic ≡ prepare p inputs k r
+  pub due : IsDueTo p r x.due
+
+-- the rank of a text, and what it prints
+pub record IsOpened (text : List ℕ) (r : ℕ) (x : Opened) : Type 0 where
+  pub program : Program
+  pub described : IsDescribed text program
+  pub rank : r < program.shape.ranks
+  pub place : IsPlaceOf (plan_of program.shape) program.inputs r x.place
+  pub prints : x.prints ≡ record { shape = program.shape; rank = r }

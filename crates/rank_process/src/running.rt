@@ -1,0 +1,66 @@
+//! The run of a rank.
+
+ghost use Rattle.std.specs.Prelude.{ℕ, List, [], ◌≡◌, map};
+ghost use Rattle.rank_node.specs.Copies.{listed};
+ghost use Rattle.rank_node.specs.Node.{IsNode};
+ghost use Rattle.rank_process.specs.Opening.{IsOpened};
+ghost use Rattle.rank_process.specs.Owed.{Closes, owed};
+ghost use Rattle.rank_process.specs.Runs.{RunsAs};
+
+use crate::opening::Opened;
+use crate::printing::write_end;
+use crate::status::{Status, status_of};
+use port_io::{Sink, Source};
+use rank_frames::{Place, take_frames};
+use run_text::Pieces;
+use std::alloc::Global;
+
+/// What holds of a place whatever was done with it.
+fn recall_place(place: &Place)
+    ensures node { IsNode place.now.node }
+    ensures listed { map listed place.now.node.diary.locals ≡ place.now.node.diary.steps }
+{
+    place.node().recall_history();
+}
+
+/// Writes what a rank that is over owes.
+fn close<K: Sink>(out: &mut Pieces, sink: &mut K, opened: &Opened) -> Status
+    requires { out.old ≡ [] }
+    ensures { Closes result (K.outflow sink.old) (K.outflow sink.new) (owed opened.now) }
+{
+    let node = opened.place.node();
+    let written = write_end(
+        out,
+        sink,
+        &opened.prints,
+        node.nic().memory(),
+        node.history(),
+    );
+    match written {
+        Ok(()) => Status::Ended,
+        Err(_) => Status::WriteFault,
+    }
+}
+
+/// Takes frames until the rank is over, and writes what it then owes.
+pub(crate) fn run<S: Source, K: Sink>(
+    alloc: Global,
+    opened: Opened,
+    source: &mut S,
+    sink: &mut K,
+) -> Status
+    requires { opened.place.node.diary.locals ≡ [] }
+    ensures { (text : List ℕ) (r : ℕ) → IsOpened text r opened →
+        RunsAs text r result (S.inflow source.old).left (S.inflow source.new).left (K.outflow sink.old) (K.outflow sink.new) }
+{
+    let mut opened = opened;
+    let Ok(mut out) = Pieces::open(alloc) else {
+        return Status::NoMemory;
+    };
+    let taken = take_frames(alloc, &mut opened.place, source, sink);
+    recall_place(&opened.place);
+    match taken {
+        Ok(()) => close(&mut out, sink, &opened),
+        Err(stop) => status_of(stop),
+    }
+}

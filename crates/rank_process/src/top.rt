@@ -1,0 +1,63 @@
+//! The whole program over any source and any sinks.
+
+ghost use Rattle.std.specs.Prelude.{length};
+ghost use Rattle.rank_process.specs.Notes.{Says, note_of};
+ghost use Rattle.rank_process.specs.Runs.{Does, IsAsked};
+
+use crate::first::read_first;
+use crate::notes::say;
+use crate::opening::open;
+use crate::refusing::refuse;
+use crate::running::run;
+use crate::status::Status;
+use port_io::{Sink, Source};
+use std::alloc::Global;
+
+/// The whole program but what is said on standard error.
+fn answered<S: Source, K: Sink>(
+    alloc: Global,
+    words: &[String],
+    source: &mut S,
+    sink: &mut K,
+) -> Status
+    ensures does { Does result (S.inflow source.old) (S.inflow source.new) (K.outflow sink.old) (K.outflow sink.new) }
+    ensures asked { IsAsked result (length words.now) }
+{
+    if !words.is_empty() {
+        return Status::Usage;
+    }
+    let first = match read_first(alloc, source) {
+        Ok(first) => first,
+        Err(status) => return refuse(alloc, sink, status),
+    };
+    match open(alloc, first) {
+        Ok(opened) => run(alloc, opened, source, sink),
+        Err(status) => refuse(alloc, sink, status),
+    }
+}
+
+/// The whole program: one rank of a job. It takes no words. From the source comes a first frame, which has the rank's number and the
+/// text of a description, and then the mark of the start and the messages to the rank; to the sink go the frames of the messages that
+/// it makes, and at its end a mark, its lines and the line of its steps.
+///
+/// `Ended`: what was written are the frames of the messages of a legal history of this rank, in order, then the mark, and exactly the
+/// rank's lines and steps of that history; the rank has started, nothing is ready, and all that its lanes carry has come. `Frame`: a
+/// frame is refused, by which nothing was done. `Refused`: the mark and the line that says why were written. `WrongRank` and `Usage`:
+/// nothing was written. `ReadFault`, `WriteFault` and `NoMemory`: it broke off, and a beginning of what was due was written.
+///
+/// Beside each status but `Ended` a line stands in `notes`, if that doesn't fail.
+pub fn rank_main<S: Source, K: Sink, N: Sink>(
+    alloc: Global,
+    words: &[String],
+    source: &mut S,
+    sink: &mut K,
+    notes: &mut N,
+) -> Status
+    ensures does { Does result (S.inflow source.old) (S.inflow source.new) (K.outflow sink.old) (K.outflow sink.new) }
+    ensures asked { IsAsked result (length words.now) }
+    ensures says { Says (note_of result) (N.outflow notes.old) (N.outflow notes.new) }
+{
+    let status = answered(alloc, words, source, sink);
+    say(notes, status);
+    status
+}
