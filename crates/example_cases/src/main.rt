@@ -1,12 +1,14 @@
-//! The examples, run: what each description of data/ gives under `once` is what the file beside it says, and what each in JSON
-//! stands for is the description of the same name. The logs of logs/ are judged.
+//! The examples, run: what each description of data/ gives under `once` is what the file beside it says, the plan that is drawn of it
+//! holds for its inputs, and what each in JSON stands for is the description of the same name. The logs of logs/ are judged.
 #![tactic(auto)]
 
 mod comparing;
+mod drawn;
 mod folder;
 mod logs;
 
 use comparing::{Found, lines_of_json, once_gives};
+use drawn::print_drawn;
 use folder::names;
 use logs::judge_logs;
 use std::{fs, io};
@@ -51,6 +53,7 @@ fn main(rt: HostRuntime) -> io::Result<()> {
             let (text, wanted) = (pair.text.as_slice(), pair.wanted.as_slice());
             let found = once_gives(&rt, rt.alloc(), text, wanted);
             print_found(&rt, name, found, pair.other.as_str())?;
+            print_drawn(&rt, &rt, name, text, wanted)?;
         } else if let Some(stem) = name.strip_suffix(".json") {
             print_json(&rt, name, stem)?;
         }
