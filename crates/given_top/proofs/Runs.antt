@@ -55,17 +55,19 @@ no_memory mode judged sink run is =
     (record {
       written = record { allowed = run_owes mode judged None; no_read = λ is. absurd (cc); text = refl };
       world = λ is. absurd (cc);
+      world_at_fault = λ is. absurd (cc);
     })
 
 pub answered : (mode : Mode) (answer : GivenAnswer) (sink sink' : Outflow) (status : Status) (run : GivenRun)
     → Written (owed_given answer) sink sink' status → run ≡ record { status = status; world = None; spent = None }
     → RanText mode (Answered answer) sink sink' run
 answered mode answer sink sink' status run written is =
-    subst (λ (r : GivenRun). RanText mode (Answered answer) sink sink' r) (sym is) (record { written = written; world = λ done. refl })
+    subst (λ (r : GivenRun). RanText mode (Answered answer) sink sink' r) (sym is)
+    (record { written = written; world = λ done. refl; world_at_fault = λ fault. refl })
 
 pub flawless : (mode : Mode) (t : FlawlessText) (sink sink' : Outflow) (run : GivenRun)
     → IsGivenRun mode t.description.shape (job_of t) sink sink' run → RanText mode (Flawless t) sink sink' run
-flawless mode t sink sink' run is = record { written = is.written; world = is.world }
+flawless mode t sink sink' run is = record { written = is.written; world = is.world; world_at_fault = is.world_at_fault }
 
 -- ---- the whole
 
@@ -89,6 +91,7 @@ answered_read mode text source source' sink sink' run told ran =
       allowed = r.written.allowed;
       text = r.written.text;
       world = r.world;
+      world_at_fault = r.world_at_fault;
       read_fault = λ is. absurd (r.written.no_read is);
       write_fault = rose_at sink sink' run.status _ r.written.text;
       rest =
@@ -108,6 +111,7 @@ failed mode source source' sink run rose is =
             allowed = run_owes mode (judged_text any.0) None;
             text = refl;
             world = λ is. absurd (cc);
+            world_at_fault = λ is. absurd (cc);
             read_fault = λ is. rose;
             write_fault = λ is. absurd (cc);
             rest = tt;
@@ -126,6 +130,7 @@ without_memory mode source source' sink run is =
             allowed = run_owes mode (judged_text any.0) None;
             text = refl;
             world = λ is. absurd (cc);
+            world_at_fault = λ is. absurd (cc);
             read_fault = λ is. absurd (cc);
             write_fault = λ is. absurd (cc);
             rest = tt;

@@ -36,12 +36,14 @@ LeavesIn mode (Flawless t) w = LeavesGiven mode (job_of t) w
 pub record RanText (mode : Mode) (judged : Judged) (sink sink' : Outflow) (run : GivenRun) : Type 0 where
   pub written : Written (owed_run mode judged run.world) sink sink' run.status
   pub world : run.status ≡ Done → LeavesIn mode judged run.world
+  pub world_at_fault : run.status ≡ WriteFault → LeavesIn mode judged run.world
 
 -- All that holds after a call that runs a plan as a mode asks for it, the source having these bytes.
 pub record RunAnswered (mode : Mode) (bytes : List ℕ) (source source' : Inflow) (sink sink' : Outflow) (run : GivenRun) : Type 0 where
   pub allowed : MayAnswer run.status (owed_run mode (judged_text bytes) run.world).status
   pub text : Stands run.status sink sink' (owed_run mode (judged_text bytes) run.world).text
   pub world : run.status ≡ Done → LeavesIn mode (judged_text bytes) run.world
+  pub world_at_fault : run.status ≡ WriteFault → LeavesIn mode (judged_text bytes) run.world
   pub read_fault : run.status ≡ ReadFault → Rose source.faults source'.faults
   pub write_fault : run.status ≡ WriteFault → Rose sink.faults sink'.faults
   pub rest : Leaves run.status source' (drop (LONGEST_GIVEN + 1) bytes)
