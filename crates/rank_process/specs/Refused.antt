@@ -1,5 +1,5 @@
 -- Why a description is refused, and what a rank does that can't begin.
-use Rattle.std.specs.Prelude.{ℕ, ◌+◌, ◌*◌, ◌≡◌, ◌≤◌, ◌<◌, ◌⊎◌, List, [], ◌++◌, Option, Some, None, Result, Ok, Err, length, if◌then◌else◌}
+use Rattle.std.specs.Prelude.{ℕ, ◌≡◌, ◌≤◌, ◌<◌, ◌⊎◌, List, [], ◌++◌, Option, Some, None, Result, Ok, Err}
 use Rattle.coll_lang.specs.Language.{read}
 use Rattle.coll_lang.specs.Program.{Chosen, Program}
 use Rattle.coll_lang.specs.declared.fault.Refusal.{Refusal}
@@ -10,15 +10,10 @@ use Rattle.shape_plans.specs.Footprint.{Excess, Refused as Excessive, refusal}
 use Rattle.shape_plans.specs.Footprint.Excess.{Links, Bytes}
 use Rattle.port_io.specs.Ends.{GivesFront, Outflow}
 use Rattle.run_text.specs.Putting.{Ends, FailsWithin}
-use Rattle.run_text.specs.Refused.{refusal_line}
+use Rattle.run_text.specs.Refused.{refusal_line, step_line}
 use Rattle.rank_frames.specs.Frames.{frame, head, mark}
 use Rattle.rank_process.specs.declared.status.Status.{Status}
 use Rattle.rank_process.specs.declared.status.Status.TheVariants.{Ended, Usage, WrongRank, Refused, ReadFault, WriteFault, NoMemory, Frame}
-
--- The line of step k, both counted as they are: after the two lines of the head stand `complete remote`, where it is said, a line
--- for each group, and for each input a line and one for each rank.
-abbrev pub step_line : Outline → ℕ → ℕ
-step_line o k = 3 + (if o.remote then 1 else 0) + length o.groups + o.inputs * (o.ranks + 1) + k
 
 -- too many links, too many bytes
 abbrev pub excess_name : Excess → Refusal

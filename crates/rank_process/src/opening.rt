@@ -12,7 +12,6 @@ ghost use Rattle.rank_process.specs.Refused.{FailsToOpen, FailsToPlan, FailsToRe
 
 use crate::first::First;
 use crate::lanes::due_to;
-use crate::refusing::step_line;
 use crate::status::Status;
 use coll_lang::{Description, ParseFault, Refusal, parse};
 use coll_shape::{Inputs, Shape};
@@ -20,6 +19,7 @@ use ptl_types::{NoMemory, Rank};
 use rank_frames::Place;
 use rank_lines::Prints;
 use rank_tasks::install;
+use run_text::step_line;
 use schedule_compiler::{CompileFault, Job, Schedule, compile, shape_job};
 use std::alloc::Global;
 

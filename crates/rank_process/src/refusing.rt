@@ -1,30 +1,17 @@
 //! Why a description is refused.
 
-ghost use Rattle.std.specs.Prelude.{◌≡◌, ◌<◌, ◌++◌, [], length};
+ghost use Rattle.std.specs.Prelude.{◌≡◌, ◌++◌, []};
 ghost use Rattle.run_text.specs.Putting.{EndsWith};
 ghost use Rattle.run_text.specs.Refused.{refusal_line};
 ghost use Rattle.rank_frames.specs.Frames.{mark};
-ghost use Rattle.rank_process.specs.Refused.{Refuses, step_line};
+ghost use Rattle.rank_process.specs.Refused.{Refuses};
 
 use crate::printing::end_mark;
 use crate::status::Status;
 use coll_lang::Refusal;
-use coll_shape::Shape;
 use port_io::{Failed, Sink};
 use run_text::{Pieces, refusal_line};
 use std::alloc::Global;
-
-/// The line on which a step stands, counted from 1.
-pub(crate) fn step_line(shape: &Shape, step: u32) -> u32
-    requires { step < length shape.now.steps }
-    ensures { result ≡ step_line shape.now step }
-{
-    shape.keeps_form();
-    let ranks = shape.ranks();
-    let options = if shape.remote() { 1 } else { 0 };
-    let inputs = shape.input_count() * (ranks + 1);
-    3 + options + shape.group_count() + inputs + step
-}
 
 /// Adds the mark of the end and the line of a refusal, and finishes the sink.
 pub(crate) fn write_refusal<K: Sink>(
