@@ -5,12 +5,19 @@ use port_io::{StdSink, StdSource};
 use rank_process::{Status, rank_main};
 use std::alloc::AllocError;
 use std::env;
+use std::io::ErrorKind;
 use std::process::ExitCode;
 
-/// The words of the command line after the program's name.
+/// The words of the command line after the program's name; one, where one of them is no UTF-8.
 fn words_in(rt: &HostRuntime) -> Result<Vec<String>, AllocError> {
-    let Ok(args) = env::args(rt) else {
-        return Err(AllocError);
+    let args = match env::args(rt) {
+        Ok(args) => args,
+        Err(error) if error.kind() == ErrorKind::InvalidData => {
+            let mut words = Vec::new(rt.alloc());
+            words.push(String::from_str(rt.alloc(), "?")?)?;
+            return Ok(words);
+        }
+        Err(_) => return Err(AllocError),
     };
     let mut words = Vec::new(rt.alloc());
     for word in args.skip(1) {
