@@ -8,7 +8,7 @@ use Rattle.ptl_types.specs.declared.headers.AckRequest.TheVariants.{NoAck}
 use Rattle.ptl_types.specs.declared.calls.PutArgs.{PutArgs}
 use Rattle.ptl_types.specs.declared.calls.GetArgs.{GetArgs}
 use Rattle.ptl_types.specs.declared.calls.TriggeredOp.{TriggeredOp}
-use Rattle.ptl_types.specs.declared.calls.TriggeredOp.TheVariants.{FetchAtomic, Swap}
+use Rattle.ptl_types.specs.declared.calls.TriggeredOp.TheVariants.{Put, Get, Atomic, FetchAtomic, Swap}
 use Rattle.ptl_types.specs.declared.elements.AtomicOp.{AtomicOp}
 use Rattle.ptl_types.specs.declared.elements.ElemType.{ElemType}
 use Rattle.ptl_types.specs.declared.elements.SwapOp.{SwapOp}
@@ -36,6 +36,9 @@ use Rattle.guarded_ni.specs.declared.faults.Misuse.TheVariants.{Elsewhere, NoRoo
 use Rattle.guarded_ni.specs.Guarded.{Guards, NotOpened, Tests}
 use Rattle.guarded_ni.specs.Misuses.{start_misuse, unless}
 use Rattle.c_interface.specs.declared.messages.CMessage.{CMessage}
+use Rattle.c_interface.specs.declared.starts.StartOp.{StartOp}
+use Rattle.c_interface.specs.declared.starts.StartOp.TheVariants.{Put as SentPut, Get as SentGet, Atomic as SentAtomic}
+use Rattle.c_interface.specs.declared.starts.StartOp.TheVariants.{FetchAtomic as SentFetchAtomic, Swap as SentSwap}
 use Rattle.c_interface.specs.Forms.{one_number}
 use Rattle.c_interface.specs.Messages.{handed}
 use Rattle.c_interface.specs.Over.{Called, Over, Tells}
@@ -126,6 +129,14 @@ fetches back md at told op ty = FetchAtomic back (sent_with back md at told) op 
 
 abbrev pub swaps : GetArgs → Handle → ℕ → ℕ → SwapOp → ElemType → ℕ → TriggeredOp
 swaps back md at told op ty operand = Swap back (sent_with back md at told) op ty operand
+
+-- what is started at once, as an action
+abbrev pub action_of : StartOp → TriggeredOp
+action_of (SentPut args) = Put args
+action_of (SentGet args) = Get args
+action_of (SentAtomic args op ty) = Atomic args op ty
+action_of (SentFetchAtomic back args op ty) = FetchAtomic back args op ty
+action_of (SentSwap back args op ty operand) = Swap back args op ty operand
 
 abbrev pub Starts : TriggeredOp → State → State → Result Sent CallFault → Type 0
 Starts action s t r =

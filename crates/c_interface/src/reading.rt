@@ -64,20 +64,23 @@ fn truth_of(number: u32) -> Option<bool>
     }
 }
 
-/// The header of those parts; none where one of them names nothing.
-fn header_by(
-    head: &CMessage,
+/// What the numbers of a header name, each if there is anything of its number.
+#[derive(Clone, Copy)]
+struct NamedParts {
     kind: Option<MessageKind>,
     ack: Option<AckRequest>,
     op: Option<Option<AtomicOp>>,
     swap: Option<Option<SwapOp>>,
     ty: Option<ElemType>,
     ok: Option<bool>,
-) -> Option<Header>
-    ensures { result ≡ header_by head.now kind ack op swap ty ok }
+}
+
+/// The header of those parts; none where one of them names nothing.
+fn header_by(head: &CMessage, named: NamedParts) -> Option<Header>
+    ensures { result ≡ header_by head.now named.kind named.ack named.op named.swap named.ty named.ok }
 {
     Some(Header {
-        kind: kind?,
+        kind: named.kind?,
         source: head.source,
         target: head.target,
         pt: head.pt_index,
@@ -85,14 +88,14 @@ fn header_by(
         offset: head.offset,
         length: head.length,
         hdr_data: head.hdr_data,
-        op: op?,
-        swap: swap?,
-        ty: ty?,
+        op: named.op?,
+        swap: named.swap?,
+        ty: named.ty?,
         operand: head.operand,
-        ack: ack?,
+        ack: named.ack?,
         home: head.home.given(),
         home_offset: head.home_offset,
-        ok: ok?,
+        ok: named.ok?,
     })
 }
 
@@ -100,15 +103,15 @@ fn header_by(
 fn header_of(head: &CMessage) -> Option<Header>
     ensures { result ≡ header_of head.now }
 {
-    header_by(
-        head,
-        kind_of(head.kind),
-        ack_of(head.ack_req),
-        named_operation(head.operation),
-        named_swap(head.swap),
-        type_of(head.datatype),
-        truth_of(head.ok),
-    )
+    let named = NamedParts {
+        kind: kind_of(head.kind),
+        ack: ack_of(head.ack_req),
+        op: named_operation(head.operation),
+        swap: named_swap(head.swap),
+        ty: type_of(head.datatype),
+        ok: truth_of(head.ok),
+    };
+    header_by(head, named)
 }
 
 /// How many bytes go with a header.

@@ -5,7 +5,7 @@ ghost use Rattle.std.specs.Prelude.{List, ℕ, ◌≡◌, ◌<◌, nat_lt};
 ghost use Rattle.ptl_types.specs.declared.calls.TriggeredOp.TheVariants.{Put, Get, Atomic, FetchAtomic, Swap};
 ghost use Rattle.nic_handles.specs.Holding.{held};
 ghost use Rattle.c_interface.specs.declared.messages.CMessage.{CMessage as Head};
-ghost use Rattle.c_interface.specs.Calls.{Sends, fetches, get_args, put_args, sent_with, swaps};
+ghost use Rattle.c_interface.specs.Calls.{Sends, Starts, action_of, fetches, get_args, put_args, sent_with, swaps};
 ghost use Rattle.c_interface.specs.Forms.{both_of, handle_of};
 ghost use Rattle.c_interface.specs.Messages.{ack_of, handed, operation_of, swap_of, three_of, type_of};
 ghost use Rattle.c_interface.specs.Over.{Named, writes};
@@ -20,6 +20,21 @@ use nic_handles::NiHandle;
 use portals_ni::Nic;
 use ptl_types::{AckRequest, AtomicOp, ElemType, GetArgs, Message, PutArgs, SwapOp};
 use std::alloc::Global;
+
+/// An operation that is started at once: a `TriggeredOp` but for the changes of counting events.
+#[derive(Clone, Copy)]
+pub enum StartOp {
+    /// A put.
+    Put(PutArgs),
+    /// A get.
+    Get(GetArgs),
+    /// An atomic.
+    Atomic(PutArgs, AtomicOp, ElemType),
+    /// A fetching atomic: where its answer goes, and what is sent.
+    FetchAtomic(GetArgs, PutArgs, AtomicOp, ElemType),
+    /// A swap, alike, with its operand.
+    Swap(GetArgs, PutArgs, SwapOp, ElemType, u64),
+}
 
 /// Whether there is no room for each message of an interface.
 pub fn is_short(nic: &Nic, room: usize) -> bool
@@ -91,9 +106,32 @@ pub fn sent_with(back: GetArgs, md: CHandle, local_offset: u64, hdr_data: u64) -
     }
 }
 
-/// A put.
-fn put(alloc: Global, ni: &mut NiHandle, args: PutArgs, head: &mut CMessage, out: &mut [u8]) -> u32
-    ensures { Sends (Put args) (head.old, out.old) (head.new, out.new) (held ni.old) (held ni.new) result }
+/// Starts an operation at an interface.
+fn start(nic: &mut Nic, action: StartOp) -> Result<Message, CallFault>
+    ensures { Starts (action_of action) nic.old nic.new result }
+{
+    match action {
+        StartOp::Put(args) => guarded_ni::put(nic, args),
+        StartOp::Get(args) => guarded_ni::get(nic, args),
+        StartOp::Atomic(args, op, ty) => guarded_ni::atomic(nic, args, op, ty),
+        StartOp::FetchAtomic(back, args, op, ty) => guarded_ni::fetch_atomic(
+            nic, back, args, op, ty,
+        ),
+        StartOp::Swap(back, args, op, ty, operand) => guarded_ni::swap(
+            nic, back, args, op, ty, operand,
+        ),
+    }
+}
+
+/// Starts an operation, and hands its message out.
+fn send(
+    alloc: Global,
+    ni: &mut NiHandle,
+    action: StartOp,
+    head: &mut CMessage,
+    out: &mut [u8],
+) -> u32
+    ensures { Sends (action_of action) (head.old, out.old) (head.new, out.new) (held ni.old) (held ni.new) result }
 {
     match ni.take(alloc) {
         Some(mut nic) => {
@@ -101,7 +139,7 @@ fn put(alloc: Global, ni: &mut NiHandle, args: PutArgs, head: &mut CMessage, out
                 *ni = NiHandle::of(nic);
                 return SHORT;
             }
-            let made = guarded_ni::put(nic.as_mut(), args);
+            let made = start(nic.as_mut(), action);
             *ni = NiHandle::of(nic);
             message_out(made, head, out)
         }
@@ -132,10 +170,10 @@ pub extern "C" fn PtlPut(
         (head.old, out.old) (head.new, out.new) (held ni.old) (held ni.new) result (ack_of ack_req) }
 {
     match ack_of(ack_req) {
-        Some(ack) => put(
+        Some(ack) => send(
             alloc,
             ni,
-            PutArgs {
+            StartOp::Put(PutArgs {
                 md: md.handle(),
                 local_offset,
                 length,
@@ -145,7 +183,7 @@ pub extern "C" fn PtlPut(
                 match_bits,
                 remote_offset,
                 hdr_data,
-            },
+            }),
             head,
             out,
         ),
@@ -180,44 +218,7 @@ pub extern "C" fn PtlGet(
         match_bits,
         remote_offset,
     };
-    match ni.take(alloc) {
-        Some(mut nic) => {
-            if is_short(nic.as_ref(), out.len()) {
-                *ni = NiHandle::of(nic);
-                return SHORT;
-            }
-            let made = guarded_ni::get(nic.as_mut(), args);
-            *ni = NiHandle::of(nic);
-            message_out(made, head, out)
-        }
-        None => CLOSED,
-    }
-}
-
-/// An atomic.
-fn atomic(
-    alloc: Global,
-    ni: &mut NiHandle,
-    args: PutArgs,
-    op: AtomicOp,
-    ty: ElemType,
-    head: &mut CMessage,
-    out: &mut [u8],
-) -> u32
-    ensures { Sends (Atomic args op ty) (head.old, out.old) (head.new, out.new) (held ni.old) (held ni.new) result }
-{
-    match ni.take(alloc) {
-        Some(mut nic) => {
-            if is_short(nic.as_ref(), out.len()) {
-                *ni = NiHandle::of(nic);
-                return SHORT;
-            }
-            let made = guarded_ni::atomic(nic.as_mut(), args, op, ty);
-            *ni = NiHandle::of(nic);
-            message_out(made, head, out)
-        }
-        None => CLOSED,
-    }
+    send(alloc, ni, StartOp::Get(args), head, out)
 }
 
 /// `PtlAtomic`.
@@ -247,57 +248,28 @@ pub extern "C" fn PtlAtomic(
         (three_of (ack_of ack_req) (operation_of operation) (type_of datatype)) }
 {
     match ack_operation_type(ack_req, operation, datatype) {
-        Some((ack, op, ty)) => atomic(
+        Some((ack, op, ty)) => send(
             alloc,
             ni,
-            PutArgs {
-                md: md.handle(),
-                local_offset,
-                length,
-                ack,
-                target,
-                pt: pt_index,
-                match_bits,
-                remote_offset,
-                hdr_data,
-            },
-            op,
-            ty,
+            StartOp::Atomic(
+                PutArgs {
+                    md: md.handle(),
+                    local_offset,
+                    length,
+                    ack,
+                    target,
+                    pt: pt_index,
+                    match_bits,
+                    remote_offset,
+                    hdr_data,
+                },
+                op,
+                ty,
+            ),
             head,
             out,
         ),
         None => UNKNOWN,
-    }
-}
-
-/// A fetching atomic.
-fn fetch_atomic(
-    alloc: Global,
-    ni: &mut NiHandle,
-    back: GetArgs,
-    md: CHandle,
-    local_offset: u64,
-    hdr_data: u64,
-    op: AtomicOp,
-    ty: ElemType,
-    head: &mut CMessage,
-    out: &mut [u8],
-) -> u32
-    ensures { Sends (fetches back (handle_of md) local_offset hdr_data op ty) (head.old, out.old) (head.new, out.new) (held ni.old) (held
-        ni.new) result }
-{
-    let args = sent_with(back, md, local_offset, hdr_data);
-    match ni.take(alloc) {
-        Some(mut nic) => {
-            if is_short(nic.as_ref(), out.len()) {
-                *ni = NiHandle::of(nic);
-                return SHORT;
-            }
-            let made = guarded_ni::fetch_atomic(nic.as_mut(), back, args, op, ty);
-            *ni = NiHandle::of(nic);
-            message_out(made, head, out)
-        }
-        None => CLOSED,
     }
 }
 
@@ -335,52 +307,16 @@ pub extern "C" fn PtlFetchAtomic(
         match_bits,
         remote_offset,
     };
+    let args = sent_with(back, put_md, local_put_offset, hdr_data);
     match operation_type(operation, datatype) {
-        Some((op, ty)) => fetch_atomic(
+        Some((op, ty)) => send(
             alloc,
             ni,
-            back,
-            put_md,
-            local_put_offset,
-            hdr_data,
-            op,
-            ty,
+            StartOp::FetchAtomic(back, args, op, ty),
             head,
             out,
         ),
         None => UNKNOWN,
-    }
-}
-
-/// A swap.
-fn swap(
-    alloc: Global,
-    ni: &mut NiHandle,
-    back: GetArgs,
-    md: CHandle,
-    local_offset: u64,
-    hdr_data: u64,
-    op: SwapOp,
-    ty: ElemType,
-    operand: u64,
-    head: &mut CMessage,
-    out: &mut [u8],
-) -> u32
-    ensures { Sends (swaps back (handle_of md) local_offset hdr_data op ty operand) (head.old, out.old) (head.new, out.new) (held ni.old)
-        (held ni.new) result }
-{
-    let args = sent_with(back, md, local_offset, hdr_data);
-    match ni.take(alloc) {
-        Some(mut nic) => {
-            if is_short(nic.as_ref(), out.len()) {
-                *ni = NiHandle::of(nic);
-                return SHORT;
-            }
-            let made = guarded_ni::swap(nic.as_mut(), back, args, op, ty, operand);
-            *ni = NiHandle::of(nic);
-            message_out(made, head, out)
-        }
-        None => CLOSED,
     }
 }
 
@@ -420,17 +356,12 @@ pub extern "C" fn PtlSwap(
         match_bits,
         remote_offset,
     };
+    let args = sent_with(back, put_md, local_put_offset, hdr_data);
     match swap_type(operation, datatype) {
-        Some((op, ty)) => swap(
+        Some((op, ty)) => send(
             alloc,
             ni,
-            back,
-            put_md,
-            local_put_offset,
-            hdr_data,
-            op,
-            ty,
-            operand,
+            StartOp::Swap(back, args, op, ty, operand),
             head,
             out,
         ),

@@ -3,7 +3,7 @@
 ghost use Rattle.std.specs.Prelude.{◌≡◌, length};
 ghost use Rattle.ni_model.specs.Ready.{ready_numbers};
 ghost use Rattle.nic_handles.specs.Holding.{held};
-ghost use Rattle.c_interface.specs.Calls.{Arrives, FiresTold, ReadyAt, Receives, delivered_told, fired_told, outcome_number};
+ghost use Rattle.c_interface.specs.Calls.{Arrives, FiresTold, ReadyAt, delivered_told, fired_told, outcome_number};
 ghost use Rattle.c_interface.specs.Forms.{one_number};
 ghost use Rattle.c_interface.specs.Messages.{Reads, header_of};
 ghost use Rattle.c_interface.specs.Over.{Called, Over, writes};
@@ -149,30 +149,6 @@ fn delivered_out(
     }
 }
 
-/// Hands a message that was read to its interface.
-fn receive(
-    alloc: Global,
-    ni: &mut NiHandle,
-    message: Message,
-    outcome: &mut u32,
-    answered: &mut u32,
-    head: &mut CMessage,
-    out: &mut [u8],
-) -> u32
-    ensures { Called (Receives message) misuse_number delivered_told
-        (outcome.old, (answered.old, (head.old, out.old))) (outcome.new, (answered.new, (head.new, out.new)))
-        (held ni.old) (held ni.new) result }
-{
-    match ni.take(alloc) {
-        Some(mut nic) => {
-            let delivered = guarded_ni::deliver(nic.as_mut(), message);
-            *ni = NiHandle::of(nic);
-            delivered_out(delivered, outcome, answered, head, out)
-        }
-        None => CLOSED,
-    }
-}
-
 /// Hands a message that arrived to the interface: `answered` is 1 where it asked for an answer, else 0.
 #[unsafe(no_mangle)]
 pub extern "C" fn SfDeliver(
@@ -196,5 +172,12 @@ pub extern "C" fn SfDeliver(
     if (out.len() as u64) < arrived.header().length {
         return SHORT;
     }
-    receive(alloc, ni, arrived, outcome, answered, head, out)
+    match ni.take(alloc) {
+        Some(mut nic) => {
+            let delivered = guarded_ni::deliver(nic.as_mut(), arrived);
+            *ni = NiHandle::of(nic);
+            delivered_out(delivered, outcome, answered, head, out)
+        }
+        None => CLOSED,
+    }
 }

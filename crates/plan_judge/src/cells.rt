@@ -8,10 +8,11 @@ ghost use Rattle.plan_judge.specs.Causes.{cell_rows, first_cause, first_other, g
 ghost use Rattle.plan_judge.specs.Causes.{needs_its_links, other_rows};
 
 use crate::flaw::CellCause;
+use crate::kinds::is_bump;
 use crate::overlap::puts_overlap;
-use crate::reading::{cell_at, is_bump, link_at};
 use crate::whole::first_other;
 use plan_core::Plan;
+use plan_core::reading::{cell_at, link_at};
 use ptl_types::NoMemory;
 use std::alloc::Global;
 

@@ -5,8 +5,9 @@ ghost use Rattle.plan_core.specs.Plan.{all_cells, in_links};
 ghost use Rattle.plan_judge.specs.Guards.{guarded_below, is_guard, next_guarded};
 
 use crate::incoming::links_to;
-use crate::reading::{cell_at, cell_count, is_bump, link_at};
+use crate::kinds::is_bump;
 use plan_core::Plan;
+use plan_core::reading::{cell_at, cell_count, link_at};
 use plan_tables::ByRank;
 use ptl_types::NoMemory;
 use std::alloc::{AllocError, Global};

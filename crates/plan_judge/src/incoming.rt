@@ -3,8 +3,8 @@
 ghost use Rattle.std.specs.Prelude.{◌≡◌, ◌<◌, ◌+◌, ◌-◌, ◌^◌, ◌++◌, ◌∷◌, [], nat_lt, if◌then◌else◌, IfOk, get_or, length, map, set};
 ghost use Rattle.plan_core.specs.Plan.{all_cells, in_links, link};
 
-use crate::reading::{cell_count, link_at, link_count};
 use plan_core::Plan;
+use plan_core::reading::{cell_count, link_at, link_count};
 use plan_tables::ByRank;
 use ptl_types::NoMemory;
 use std::alloc::Global;

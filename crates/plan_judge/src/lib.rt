@@ -13,9 +13,9 @@ mod flaw;
 mod guards;
 mod incoming;
 mod judging;
+mod kinds;
 mod links;
 mod overlap;
-mod reading;
 mod whole;
 
 pub use flaw::{CellCause, Flaw, LinkCause, PlanCause};

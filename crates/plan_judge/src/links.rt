@@ -4,7 +4,8 @@ ghost use Rattle.std.specs.Prelude.{◌≡◌, ◌<◌, ◌≤◌, ◌+◌, ◌^
 ghost use Rattle.plan_judge.specs.Causes.{first_cause, is_bare, is_rising, is_whole, link_rows, rows_between, same_type};
 
 use crate::flaw::LinkCause;
-use crate::reading::{cell_at, is_atomic, is_bump, link_at};
+use crate::kinds::{is_atomic, is_bump};
+use plan_core::reading::{cell_at, link_at};
 use plan_core::{Cell, Link, Plan};
 use ptl_types::ElemType;
 

@@ -5,8 +5,9 @@ ghost use Rattle.std.specs.List.Sorted.{IsSorted};
 ghost use Rattle.std.specs.Ordering.{nat_cmp, ordering_then};
 ghost use Rattle.plan_judge.specs.Causes.{overlap, put_parts};
 
-use crate::reading::{is_put, link_at};
+use crate::kinds::is_put;
 use plan_core::Plan;
+use plan_core::reading::link_at;
 use ptl_types::NoMemory;
 use std::alloc::{AllocError, Global};
 

@@ -6,8 +6,9 @@ ghost use Rattle.plan_tables.specs.Tables.{IsTabled};
 ghost use Rattle.plan_tables.specs.AreaTables.{area_counts, area_sums, message_key};
 
 use crate::calls::class_of;
-use crate::reading::{cell_at, link_at, to_rank};
+use crate::reading::to_rank;
 use crate::tallies::Tallies;
+use plan_core::reading::{cell_at, link_at};
 use plan_core::{LinkKind, Plan};
 use ptl_types::NoMemory;
 use std::alloc::Global;

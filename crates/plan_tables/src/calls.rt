@@ -7,7 +7,8 @@ ghost use Rattle.plan_calls.specs.Bits.{bits_above, cell_bits, class_of, op_numb
 ghost use Rattle.plan_calls.specs.Calls.{append_call, cell_start, send_act, trigger};
 ghost use Rattle.plan_tables.specs.Tables.{IsTabled};
 
-use crate::reading::{cell_at, from_rank, link_at, to_rank};
+use crate::reading::{from_rank, to_rank};
+use plan_core::reading::{cell_at, link_at};
 use plan_core::{LinkKind, Plan};
 use ptl_types::{AckRequest, AtomicOp, Call, ElemType, NoMemory, PlannedOp, Rank};
 

@@ -6,9 +6,10 @@ ghost use Rattle.plan_calls.specs.Lanes.{lane_bytes, lane_messages};
 ghost use Rattle.plan_tables.specs.Tables.{IsTabled, lane_counts, lane_sums};
 
 use crate::all_areas::tally;
-use crate::reading::{lane_of, link_at};
+use crate::reading::lane_of;
 use crate::tallies::Tallies;
 use plan_core::Plan;
+use plan_core::reading::link_at;
 use ptl_types::{NoMemory, Rank};
 use std::alloc::Global;
 

@@ -6,7 +6,8 @@ ghost use Rattle.plan_calls.specs.Areas.{links_to};
 ghost use Rattle.plan_tables.specs.Tables.{IsTabled, all_ranks, arrival_key};
 
 use crate::by_rank::ByRank;
-use crate::reading::{from_rank, link_at, rank_of, to_rank};
+use crate::reading::{from_rank, rank_of, to_rank};
+use plan_core::reading::link_at;
 use plan_core::{LinkKind, Plan};
 use ptl_types::NoMemory;
 use std::alloc::Global;

@@ -15,7 +15,7 @@ use crate::appended::{
 };
 use crate::calls::push_call;
 use crate::index::Index;
-use crate::reading::link_at;
+use plan_core::reading::link_at;
 use plan_core::{LinkKind, Plan};
 use ptl_types::{Call, Limits, NoMemory, Rank};
 use std::alloc::Global;

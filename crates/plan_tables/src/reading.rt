@@ -1,27 +1,11 @@
-//! Cells and links by their numbers.
+//! Between which ranks a link goes.
 
 ghost use Rattle.std.specs.Prelude.{◌≡◌, ◌<◌, ◌+◌, ◌*◌, length};
-ghost use Rattle.plan_core.specs.Plan.{cell, link};
 ghost use Rattle.plan_tables.specs.Tables.{IsTabled, from_rank, lane_key, rank_of, to_rank};
 
-use plan_core::{Cell, Link, LinkKind, Plan};
+use plan_core::reading::{cell_at, link_at};
+use plan_core::{LinkKind, Plan};
 use ptl_types::Rank;
-
-/// The cell of this number.
-pub(crate) fn cell_at(plan: &Plan, c: u32) -> Cell
-    requires { c < length plan.now.cells }
-    ensures { result ≡ cell plan.now c }
-{
-    plan.cells()[c as usize]
-}
-
-/// The link of this number.
-pub(crate) fn link_at(plan: &Plan, l: u32) -> Link
-    requires { l < length plan.now.links }
-    ensures { result ≡ link plan.now l }
-{
-    plan.links()[l as usize]
-}
 
 /// The rank of a cell.
 pub(crate) fn rank_of(plan: &Plan, c: u32) -> Rank

@@ -6,9 +6,10 @@ ghost use Rattle.plan_calls.specs.Areas.{region_length};
 ghost use Rattle.plan_calls.specs.Calls.{cell_start};
 ghost use Rattle.plan_tables.specs.Tables.{IsTabled, all_ranks, rank_of};
 
-use crate::reading::{cell_at, rank_of};
+use crate::reading::rank_of;
 use crate::tallies::Tallies;
 use plan_core::Plan;
+use plan_core::reading::cell_at;
 use ptl_types::NoMemory;
 use std::alloc::Global;
 

@@ -9,9 +9,10 @@ ghost use Rattle.fold_terms.specs.Terms.{Keeps, Lists};
 ghost use Rattle.plan_terms.specs.Cells.{AreCells, AreInitial, ComesTo, IsNext, Suits, carried_from};
 
 use crate::folding::{fold_places, land_atomics, none_yet};
+use crate::next_cell::NextCell;
 use crate::places::{Places, input, land, zeros};
-use crate::reading::{cell_at, cell_count, link_at};
 use fold_terms::{TermFault, Terms};
+use plan_core::reading::{cell_at, cell_count, link_at};
 use plan_core::{Cell, Plan};
 use plan_judge::links_by_target;
 use plan_tables::ByRank;
@@ -97,23 +98,20 @@ fn first_places(
 fn put_places(
     terms: &mut Terms,
     alloc: Global,
-    plan: &Plan,
-    count: u32,
-    before: &[Places],
-    c: u32,
+    next: NextCell,
     target: &Cell,
     links: &[u32],
 ) -> Result<Places, TermFault>
-    requires cell { target.now ≡ cell plan.now c }
-    requires ranks { terms.old.ranks ≡ plan.now.ranks }
+    requires cell { target.now ≡ cell next.plan.now next.number }
+    requires ranks { terms.old.ranks ≡ next.plan.now.ranks }
     requires starts { target.now.op ≡ None }
-    requires comes { All (ComesTo plan.now c) links.now }
-    requires links { links.now ≡ in_links plan.now c }
+    requires comes { All (ComesTo next.plan.now next.number) links.now }
+    requires links { links.now ≡ in_links next.plan.now next.number }
     ensures keeps { Keeps terms.old terms.new }
-    ensures is { IfOk result (λ v. IsNext plan.now count terms.new c before.now v) }
+    ensures is { IfOk result (λ v. IsNext next.plan.now next.count terms.new next.number next.before.now v) }
 {
-    let mut places = first_places(terms, alloc, plan, count, c, target)?;
-    land_all(&mut places, plan, before, c, links)?;
+    let mut places = first_places(terms, alloc, next.plan, next.count, next.number, target)?;
+    land_all(&mut places, next.plan, next.before, next.number, links)?;
     Ok(Places { list: places })
 }
 
@@ -121,28 +119,25 @@ fn put_places(
 fn folded_places(
     terms: &mut Terms,
     alloc: Global,
-    plan: &Plan,
-    count: u32,
-    before: &[Places],
-    c: u32,
+    next: NextCell,
     op: AtomicOp,
     links: &[u32],
 ) -> Result<Places, TermFault>
-    requires cell { c < length plan.now.cells }
-    requires op { (cell plan.now c).op ≡ Some op }
-    requires other { (inputs : Lists) → length inputs ≡ count → is_input plan.now inputs c ≡ false }
-    requires comes { All (ComesTo plan.now c) links.now }
-    requires links { links.now ≡ in_links plan.now c }
+    requires cell { next.number < length next.plan.now.cells }
+    requires op { (cell next.plan.now next.number).op ≡ Some op }
+    requires other { (inputs : Lists) → length inputs ≡ next.count → is_input next.plan.now inputs next.number ≡ false }
+    requires comes { All (ComesTo next.plan.now next.number) links.now }
+    requires links { links.now ≡ in_links next.plan.now next.number }
     ensures keeps { Keeps terms.old terms.new }
-    ensures is { IfOk result (λ v. IsNext plan.now count terms.new c before.now v) }
+    ensures is { IfOk result (λ v. IsNext next.plan.now next.count terms.new next.number next.before.now v) }
 {
-    let cell = cell_at(plan, c);
+    let cell = cell_at(next.plan, next.number);
     let size = cell.ty.size();
     if cell.length % size != 0 {
         return Err(TermFault::Unfit);
     }
     let mut folds = none_yet(alloc, cell.length / size)?;
-    land_atomics(terms, alloc, plan, op, c, &mut folds, before, links)?;
+    land_atomics(terms, alloc, next, op, &mut folds, links)?;
     let places = fold_places(terms, alloc, op, cell.ty, &folds)?;
     Ok(Places { list: places })
 }
@@ -151,27 +146,24 @@ fn folded_places(
 fn next_places(
     terms: &mut Terms,
     alloc: Global,
-    plan: &Plan,
-    count: u32,
-    before: &[Places],
-    c: u32,
+    next: NextCell,
     links: &[u32],
 ) -> Result<Places, TermFault>
-    requires cell { c < length plan.now.cells }
-    requires ranks { terms.old.ranks ≡ plan.now.ranks }
-    requires comes { All (ComesTo plan.now c) links.now }
-    requires links { links.now ≡ in_links plan.now c }
+    requires cell { next.number < length next.plan.now.cells }
+    requires ranks { terms.old.ranks ≡ next.plan.now.ranks }
+    requires comes { All (ComesTo next.plan.now next.number) links.now }
+    requires links { links.now ≡ in_links next.plan.now next.number }
     ensures keeps { Keeps terms.old terms.new }
-    ensures is { IfOk result (λ v. IsNext plan.now count terms.new c before.now v) }
+    ensures is { IfOk result (λ v. IsNext next.plan.now next.count terms.new next.number next.before.now v) }
 {
-    let cell = cell_at(plan, c);
+    let cell = cell_at(next.plan, next.number);
     match cell.op {
-        None => put_places(terms, alloc, plan, count, before, c, &cell, links),
+        None => put_places(terms, alloc, next, &cell, links),
         Some(op) => {
-            if is_input(plan.ranks(), count, c) {
+            if is_input(next.plan.ranks(), next.count, next.number) {
                 Err(TermFault::Unfit)
             } else {
-                folded_places(terms, alloc, plan, count, before, c, op, links)
+                folded_places(terms, alloc, next, op, links)
             }
         }
     }
@@ -185,7 +177,7 @@ fn all_places(
     count: u32,
     into: &ByRank,
 ) -> Result<Vec<Places>, TermFault>
-    requires few { length plan.now.cells < 2 ^ 24 }
+    requires together { length plan.now.cells + length plan.now.links < 2 ^ 32 - 1 }
     requires ranks { terms.old.ranks ≡ plan.now.ranks }
     requires table { into.now ≡ map (in_links plan.now) (all_cells plan.now) }
     ensures keeps { Keeps terms.old terms.new }
@@ -193,7 +185,13 @@ fn all_places(
 {
     let mut cells = Vec::with_capacity(alloc, cell_count(plan) as usize)?;
     for c in 0..cell_count(plan) {
-        let places = next_places(terms, alloc, plan, count, cells.as_slice(), c, into.at(c))?;
+        let next = NextCell {
+            plan,
+            count,
+            number: c,
+            before: cells.as_slice(),
+        };
+        let places = next_places(terms, alloc, next, into.at(c))?;
         cells.push(places)?;
     }
     Ok(cells)

@@ -9,12 +9,20 @@ ghost use Rattle.fold_terms.specs.Terms.{IsSolution, Keeps, Lists};
 ghost use Rattle.fold_terms.specs.Folds.{AreCombined, folds_bytes};
 ghost use Rattle.plan_terms.specs.Cells.{ComesTo, carried_from};
 
+use crate::next_cell::NextCell;
 use crate::places::{Places, carried, is_within, push_run};
-use crate::reading::{cell_at, link_at};
 use fold_terms::{Members, TermFault, Terms};
+use plan_core::reading::{cell_at, link_at};
 use plan_core::{Cell, Link, LinkKind, Plan};
 use ptl_types::{AtomicOp, ElemType};
 use std::alloc::{AllocError, Global};
+
+/// A cell with the operation by which it is combined.
+#[derive(Clone, Copy)]
+struct FoldedCell {
+    cell: Cell,
+    op: AtomicOp,
+}
 
 /// So many folds of nothing yet.
 pub(crate) fn none_yet(alloc: Global, count: u64) -> Result<Vec<Members>, AllocError>
@@ -81,54 +89,60 @@ fn is_whole(link: &Link, count: usize, ty: ElemType, before: &[Places]) -> bool
 fn land_atomic(
     terms: &mut Terms,
     alloc: Global,
-    op: AtomicOp,
-    cell: &Cell,
+    target: FoldedCell,
     folds: &mut [Members],
     link: &Link,
     before: &[Places],
 ) -> Result<(), TermFault>
-    requires { cell.now.op ≡ Some op }
+    requires { target.cell.op ≡ Some target.op }
     ensures keeps { Keeps terms.old terms.new }
     ensures landed { OnOk result ((inputs : Lists) (V : ℕ → ℕ) → IsSolution terms.new inputs V →
-        folds_bytes V op cell.now.ty folds.new ≡ land_as link.now.kind cell.now link.now.target_offset
+        folds_bytes V target.op target.cell.ty folds.new ≡ land_as link.now.kind target.cell link.now.target_offset
         (map V (part link.now.source_offset link.now.length (get_or before.now link.now.source [])))
-        (folds_bytes V op cell.now.ty folds.old)) }
+        (folds_bytes V target.op target.cell.ty folds.old)) }
 {
     match link.kind {
         LinkKind::Put => Err(TermFault::Unfit),
         LinkKind::Atomic => {
-            if !is_whole(link, folds.len(), cell.ty, before) {
+            if !is_whole(link, folds.len(), target.cell.ty, before) {
                 return Err(TermFault::Unfit);
             }
-            land_elements(terms, alloc, op, cell.ty, folds, carried(link, before))
+            land_elements(
+                terms,
+                alloc,
+                target.op,
+                target.cell.ty,
+                folds,
+                carried(link, before),
+            )
         }
         LinkKind::Bump => Ok(()),
     }
 }
 
-/// What these links do to the folds of their target, cell c, one after the other.
+/// What these links do to the folds of their target, the next cell, one after the other.
 pub(crate) fn land_atomics(
     terms: &mut Terms,
     alloc: Global,
-    plan: &Plan,
+    next: NextCell,
     op: AtomicOp,
-    c: u32,
     folds: &mut [Members],
-    before: &[Places],
     links: &[u32],
 ) -> Result<(), TermFault>
-    requires cell { c < length plan.now.cells }
-    requires op { (cell plan.now c).op ≡ Some op }
-    requires links { All (ComesTo plan.now c) links.now }
+    requires cell { next.number < length next.plan.now.cells }
+    requires op { (cell next.plan.now next.number).op ≡ Some op }
+    requires links { All (ComesTo next.plan.now next.number) links.now }
     ensures keeps { Keeps terms.old terms.new }
     ensures landed { OnOk result ((inputs : Lists) (V : ℕ → ℕ) → IsSolution terms.new inputs V →
-        folds_bytes V op (cell plan.now c).ty folds.new ≡
-        land_all plan.now (carried_from plan.now (map (map V) before.now)) links.now (folds_bytes V op (cell plan.now c).ty folds.old)) }
+        folds_bytes V op (cell next.plan.now next.number).ty folds.new ≡
+        land_all next.plan.now (carried_from next.plan.now (map (map V) next.before.now)) links.now
+        (folds_bytes V op (cell next.plan.now next.number).ty folds.old)) }
 {
-    let cell = cell_at(plan, c);
+    let cell = cell_at(next.plan, next.number);
+    let target = FoldedCell { cell, op };
     for l in links {
-        let link = link_at(plan, *l);
-        land_atomic(terms, alloc, op, &cell, folds, &link, before)?;
+        let link = link_at(next.plan, *l);
+        land_atomic(terms, alloc, target, folds, &link, next.before)?;
     }
     Ok(())
 }

@@ -4,8 +4,8 @@
 
 mod evaluating;
 mod folding;
+mod next_cell;
 mod places;
-mod reading;
 
 pub use evaluating::{CellPlaces, cell_places};
 pub use places::Places;

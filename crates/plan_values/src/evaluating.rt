@@ -7,9 +7,9 @@ ghost use Rattle.plan_values.specs.Given.{IsGiven};
 
 use crate::initial::first_bytes;
 use crate::landing::land_all;
-use crate::reading::cell_count;
 use coll_shape::Inputs;
 use plan_core::Plan;
+use plan_core::reading::cell_count;
 use plan_judge::links_by_target;
 use plan_tables::ByRank;
 use ptl_types::NoMemory;
@@ -70,26 +70,32 @@ impl CellValues {
     }
 }
 
+/// A plan, and the inputs that it is evaluated for, of which there are so many.
+#[derive(Clone, Copy)]
+struct GivenInputs<'a> {
+    plan: &'a Plan,
+    inputs: &'a Inputs,
+    count: u32,
+}
+
 /// The bytes of a cell in the end, from those of the cells before it. These links come to it.
 fn next_value(
     alloc: Global,
-    plan: &Plan,
-    inputs: &Inputs,
-    count: u32,
+    given: GivenInputs,
     before: &[CellBytes],
     c: u32,
     links: &[u32],
 ) -> Result<CellBytes, AllocError>
-    requires given { IsGiven plan.now inputs.now }
-    requires count { count ≡ length inputs.now }
-    requires cell { c < length plan.now.cells }
-    requires before { before.now ≡ values plan.now inputs.now c }
+    requires given { IsGiven given.plan.now given.inputs.now }
+    requires count { given.count ≡ length given.inputs.now }
+    requires cell { c < length given.plan.now.cells }
+    requires before { before.now ≡ values given.plan.now given.inputs.now c }
     requires many { length before.now ≡ c }
-    requires links { links.now ≡ in_links plan.now c }
-    ensures { IfOk result (λ bytes. bytes ≡ next_value plan.now inputs.now before.now c) }
+    requires links { links.now ≡ in_links given.plan.now c }
+    ensures { IfOk result (λ bytes. bytes ≡ next_value given.plan.now given.inputs.now before.now c) }
 {
-    let mut bytes = first_bytes(alloc, plan, inputs, count, c)?;
-    land_all(&mut bytes, plan, before, c, links);
+    let mut bytes = first_bytes(alloc, given.plan, given.inputs, given.count, c)?;
+    land_all(&mut bytes, given.plan, before, c, links);
     Ok(CellBytes { bytes })
 }
 
@@ -107,9 +113,14 @@ fn all_values(
     requires table { into.now ≡ map (in_links plan.now) (all_cells plan.now) }
     ensures { IfOk result (λ cells. cells.items ≡ values plan.now inputs.now (length plan.now.cells)) }
 {
+    let given = GivenInputs {
+        plan,
+        inputs,
+        count,
+    };
     let mut cells = Vec::with_capacity(alloc, cell_count(plan) as usize)?;
     for c in 0..cell_count(plan) {
-        let bytes = next_value(alloc, plan, inputs, count, cells.as_slice(), c, into.at(c))?;
+        let bytes = next_value(alloc, given, cells.as_slice(), c, into.at(c))?;
         cells.push(bytes)?;
     }
     Ok(cells)

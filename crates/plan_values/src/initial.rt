@@ -6,9 +6,9 @@ ghost use Rattle.ptl_types.specs.Operations.{bytes_of};
 ghost use Rattle.plan_core.specs.Values.{blank, initial, input_bytes};
 ghost use Rattle.plan_values.specs.Given.{IsGiven};
 
-use crate::reading::cell_at;
 use coll_shape::Inputs;
 use lane_ops::start_values;
+use plan_core::reading::cell_at;
 use plan_core::{Cell, Plan};
 use ptl_types::{AtomicOp, ElemType};
 use std::alloc::{AllocError, Global};

@@ -9,8 +9,8 @@ ghost use Rattle.plan_values.specs.Given.{IsReady};
 ghost use Rattle.plan_core.specs.declared.LinkKind.TheVariants.{Atomic};
 
 use crate::evaluating::CellBytes;
-use crate::reading::{cell_at, link_at};
 use lane_ops::combine;
+use plan_core::reading::{cell_at, link_at};
 use plan_core::{Cell, Link, LinkKind, Plan};
 
 /// Writes a list over the part of the bytes from `at` on.

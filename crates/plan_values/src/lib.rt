@@ -11,7 +11,6 @@ ghost use Rattle.plan_values.specs.Given.{AreLists, IsGiven};
 mod evaluating;
 mod initial;
 mod landing;
-mod reading;
 
 pub use evaluating::{CellValues, values};
 

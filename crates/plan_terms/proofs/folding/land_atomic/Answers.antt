@@ -13,6 +13,7 @@ returns-else-not-is_whole-clause-landed c =
     ∙ length-part k.source_offset k.length (get_or c.args.before.now k.source []) (whole.within refl)
     ∙ whole.long refl in
     on_ok_weaker c.land_elements.result
-    (atomic_landed c.land_elements.new.terms c.args.op k c.args.cell.now c.carried.result.now _ (length c.args.folds.now) c.args.folds.now
-    c.land_elements.new.folds c.requires c.in-Atomic.is (whole.begins refl) long refl c.carried.ensures)
+    (atomic_landed c.land_elements.new.terms c.args.target.op k c.args.target.cell c.carried.result.now _
+    (length c.args.folds.now) c.args.folds.now c.land_elements.new.folds c.requires c.in-Atomic.is (whole.begins refl) long
+    refl c.carried.ensures)
     c.land_elements.ensures.combined

@@ -8,7 +8,8 @@ use Rattle.plan_terms.proofs.folding.land_atomics.Goals as goal
 
 pub link_at-link-requires : goal.link_at-link-requires
 link_at-link-requires c =
-    (All-get_or (ComesTo c.args.plan.now c.args.c) c.args.links.now c.loop-l.l-index 0 c.loop-l-test.true c.requires.links).known
+    (All-get_or (ComesTo c.args.next.plan.now c.args.next.number) c.args.links.now c.loop-l.l-index 0 c.loop-l-test.true
+    c.requires.links).known
 
 pub loop-l-init : goal.loop-l-init
 loop-l-init c = record { keeps = same_table c.args.terms.now; landed = record { same = λ inputs V solution. refl } }
@@ -16,15 +17,16 @@ loop-l-init c = record { keeps = same_table c.args.terms.now; landed = record { 
 pub loop-l-preserved : goal.loop-l-preserved
 loop-l-preserved c = record {
   keeps = kept_on c.args.terms.now c.loop-l.terms c.land_atomic.new.terms c.loop-l.invariant.keeps c.land_atomic.ensures.keeps;
-  landed = more_landed c.loop-l.terms c.land_atomic.new.terms c.args.plan.now c.args.op c.args.c c.args.before.now c.args.links.now
-      c.args.folds.now c.loop-l.folds c.land_atomic.new.folds c.loop-l.l-index c.link_at-link.result c.cell_at-cell.result
-      c.loop-l-test.true
-      (All-get_or (ComesTo c.args.plan.now c.args.c) c.args.links.now c.loop-l.l-index 0 c.loop-l-test.true c.requires.links)
+  landed = more_landed c.loop-l.terms c.land_atomic.new.terms c.args.next.plan.now c.args.op c.args.next.number
+      c.args.next.before.now c.args.links.now c.args.folds.now c.loop-l.folds c.land_atomic.new.folds c.loop-l.l-index
+      c.link_at-link.result c.cell_at-cell.result c.loop-l-test.true
+      (All-get_or (ComesTo c.args.next.plan.now c.args.next.number) c.args.links.now c.loop-l.l-index 0 c.loop-l-test.true
+      c.requires.links)
       c.link_at-link.ensures c.cell_at-cell.ensures c.land_atomic.ensures.keeps c.loop-l.invariant.landed
       c.in_ok-land_atomic.ensures.landed;
 }
 
 pub returns-clause-landed : goal.returns-clause-landed
 returns-clause-landed c =
-    all_landed c.loop-l.terms c.args.plan.now c.args.op c.args.c c.args.before.now c.args.links.now c.args.folds.now c.loop-l.folds
-    c.loop-l.l-index c.loop-l-test.false c.loop-l.invariant.landed
+    all_landed c.loop-l.terms c.args.next.plan.now c.args.op c.args.next.number c.args.next.before.now c.args.links.now
+    c.args.folds.now c.loop-l.folds c.loop-l.l-index c.loop-l-test.false c.loop-l.invariant.landed

@@ -5,7 +5,7 @@ use Rattle.plan_values.proofs.evaluating.next_value.Goals as goal
 
 pub land_all-requires-clause-ready : goal.land_all-requires-clause-ready
 land_all-requires-clause-ready c =
-    all_ready c.args.plan.now c.args.inputs.now c.args.c c.args.before.now c.args.links.now c.requires.given c.requires.before
+    all_ready c.args.given.plan.now c.args.given.inputs.now c.args.c c.args.before.now c.args.links.now c.requires.given c.requires.before
     c.requires.many c.requires.links
 
 pub land_all-requires-clause-whole : goal.land_all-requires-clause-whole
@@ -15,4 +15,4 @@ pub land_all-requires-clause-long : goal.land_all-requires-clause-long
 land_all-requires-clause-long c =
     ap length c.deref_mut.ensures.value
     ∙ ap length c.in_ok-bytes.ensures
-    ∙ length-initial c.args.plan.now c.args.inputs.now c.requires.given.sound c.requires.given.fits c.args.c c.requires.cell
+    ∙ length-initial c.args.given.plan.now c.args.given.inputs.now c.requires.given.sound c.requires.given.fits c.args.c c.requires.cell
