@@ -5,7 +5,7 @@ ghost use Rattle.std.specs.Prelude.{ℕ, ◌<◌, ◌≤◌, ◌+◌, ◌≡◌,
 ghost use Rattle.plan_core.specs.Plan.{Plan, cell};
 ghost use Rattle.plan_core.specs.Sound.{AreInputsOf, SoundPlan};
 ghost use Rattle.plan_core.specs.Values.{Inputs};
-ghost use Rattle.plan_calls.specs.Calls.{cell_start};
+ghost use Rattle.plan_core.specs.calls.Calls.{cell_start};
 ghost use Rattle.cuts.specs.view.Slots.{Slots};
 ghost use Rattle.cuts.specs.histories.Cut.{IsAtRest, IsCut};
 ghost use Rattle.cuts.specs.histories.Plans.{IsComplete, system_of};

@@ -6,7 +6,7 @@ ghost use Rattle.plan_core.specs.Members.{In};
 ghost use Rattle.plan_core.specs.Plan.{Plan, cell};
 ghost use Rattle.plan_core.specs.Values.{Inputs, value, initial};
 ghost use Rattle.plan_core.specs.Sound.{SoundPlan, AreInputsOf};
-ghost use Rattle.plan_calls.specs.RankOps.{RankOp, rank_ops};
+ghost use Rattle.plan_core.specs.calls.RankOps.{RankOp, rank_ops};
 ghost use Rattle.cuts.specs.machine.Seen.{content, was_fired};
 ghost use Rattle.cuts.specs.machine.Machine.{Move, IsMachineCut, IsMachineRest, HasReached, Leads, all_seen};
 ghost use Rattle.cuts.specs.machine.Rounds.{IsRounds};

@@ -13,7 +13,7 @@ ghost use Rattle.plan_core.specs.Plan.{Plan, link};
 ghost use Rattle.plan_core.specs.Values.{Inputs};
 ghost use Rattle.plan_core.specs.Sound.{SoundPlan};
 ghost use Rattle.cuts.specs.machine.Seen.{Seen, was_fired};
-ghost use Rattle.plan_calls.specs.RankOps.{RankOp, rank_ops};
+ghost use Rattle.plan_core.specs.calls.RankOps.{RankOp, rank_ops};
 ghost use Rattle.cuts.specs.machine.Machine.{note, note_work};
 ghost use Rattle.cuts.specs.machine.Machine.Move.{Began, Took, Heard, Strayed};
 ghost use Rattle.cuts.specs.view.View.{Annex, view, raise_go};

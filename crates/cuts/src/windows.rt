@@ -8,7 +8,7 @@ ghost use Rattle.plan_core.specs.Plan.{Plan};
 ghost use Rattle.plan_core.specs.Sound.{SoundPlan, AreInputsOf};
 ghost use Rattle.plan_core.specs.Values.{Inputs};
 ghost use Rattle.cuts.specs.view.Slots.{Slots};
-ghost use Rattle.plan_calls.specs.Lanes.{lane_messages};
+ghost use Rattle.plan_core.specs.calls.Lanes.{lane_messages};
 ghost use Rattle.cuts.specs.histories.Cut.{IsAtRest, IsPrefixOf, is_received_stray, owned};
 ghost use Rattle.cuts.specs.histories.History.{Local};
 ghost use Rattle.cuts.specs.histories.Moment.{IsEnabled, IsLocalStep, IsMoment, IsPossible};

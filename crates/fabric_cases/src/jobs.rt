@@ -2,7 +2,7 @@
 
 ghost use Rattle.std.specs.Prelude.{true, ◌≡◌, IsTrue};
 ghost use Rattle.ptl_types.specs.declared.headers.Lane.TheVariants.{Request};
-ghost use Rattle.plan_calls.specs.Lanes.{is_used_lane};
+ghost use Rattle.plan_core.specs.calls.Lanes.{is_used_lane};
 
 use coll_lang::parse;
 use ptl_types::Lane;

@@ -2,7 +2,7 @@
 
 ghost use Rattle.std.specs.Prelude.{true, ◌≡◌, length};
 ghost use Rattle.ptl_types.specs.declared.headers.Lane.TheVariants.{Request};
-ghost use Rattle.plan_calls.specs.Lanes.{is_used_lane};
+ghost use Rattle.plan_core.specs.calls.Lanes.{is_used_lane};
 ghost use Rattle.turn_table.specs.Hands.{IsFree};
 
 use crate::answers::gives;

@@ -2,7 +2,7 @@
 
 ghost use Rattle.std.specs.Prelude.{true, ◌≡◌, IfOk, length};
 ghost use Rattle.ptl_types.specs.declared.headers.Lane.TheVariants.{Request};
-ghost use Rattle.plan_calls.specs.Lanes.{is_used_lane};
+ghost use Rattle.plan_core.specs.calls.Lanes.{is_used_lane};
 ghost use Rattle.rest_probe.specs.Waves.{IsFor};
 ghost use Rattle.turn_table.specs.Hands.{IsFree};
 

@@ -17,8 +17,8 @@ use Rattle.run_text.proofs.Ended.{leaves}
 use Rattle.run_text.proofs.Told.{AreAlike, Told, short-text, told-any}
 use Rattle.job_runs.specs.declared.modes.Mode.{Mode}
 use Rattle.worlds.specs.World.{WorldState}
-use Rattle.given_runs.specs.declared.running.GivenRun.{GivenRun}
-use Rattle.given_runs.specs.GivenRuns.{IsGivenRun}
+use Rattle.given_top.specs.declared.runs.running.GivenRun.{GivenRun}
+use Rattle.given_top.specs.runs.GivenRuns.{IsGivenRun}
 use Rattle.plan_top.specs.Owed.{owed_given, status_of}
 use Rattle.given_top.specs.Ran.{RanText, RunAnswered, job_of, owed_run}
 

@@ -13,9 +13,9 @@ use Rattle.schedule_compiler.specs.Jobs.{JobOf}
 use Rattle.job_runs.specs.declared.modes.Mode.{Mode}
 use Rattle.job_runs.specs.Modes.{mode_of}
 use Rattle.worlds.specs.World.{WorldState}
-use Rattle.given_runs.specs.declared.running.GivenRun.{GivenRun}
-use Rattle.given_runs.specs.GivenJobs.{given_job}
-use Rattle.given_runs.specs.GivenRuns.{LeavesGiven, owed_text}
+use Rattle.given_top.specs.declared.runs.running.GivenRun.{GivenRun}
+use Rattle.given_top.specs.runs.GivenJobs.{given_job}
+use Rattle.given_top.specs.runs.GivenRuns.{LeavesGiven, owed_text}
 use Rattle.plan_top.specs.Owed.{PlanAnswered, owed_given, plan_request}
 
 -- the job of a text in which no flaw was found: its plan's, with the inputs of its description

@@ -2,8 +2,9 @@
 #![tactic(auto)]
 
 mod running;
+pub mod runs;
 mod top;
 
-pub use given_runs::GivenRun;
+pub use crate::runs::GivenRun;
 pub use plan_top::Status;
 pub use top::given_main;

@@ -2,12 +2,12 @@
 
 ghost use Rattle.std.specs.Prelude.{◌<◌, ◌^◌, length};
 ghost use Rattle.coll_shape.specs.Meaning.{AreInputs};
-ghost use Rattle.given_runs.specs.GivenRuns.{IsGivenRun};
+ghost use Rattle.given_top.specs.runs.GivenRuns.{IsGivenRun};
 ghost use Rattle.given_top.specs.Ran.{RanText, job_of};
 ghost use Rattle.given_verdicts.specs.Answers.{IsFlawless, judged_text};
 ghost use Rattle.job_runs.specs.Modes.{HasWorkers};
 
-use given_runs::{GivenRun, given_job, given_jobs, run_given};
+use crate::runs::{GivenRun, given_job, given_jobs, run_given};
 use given_verdicts::{FlawlessText, Judged, judge_text};
 use job_runs::{Host, Mode};
 use plan_top::{Status, write_answer};

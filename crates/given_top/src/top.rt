@@ -8,7 +8,7 @@ ghost use Rattle.plan_top.specs.Owed.{plan_request};
 ghost use Rattle.run_text.specs.Ending.{IsTold};
 
 use crate::running::run_text;
-use given_runs::GivenRun;
+use crate::runs::GivenRun;
 use given_verdicts::LONGEST_GIVEN;
 use job_runs::{Host, Mode, mode_in};
 use plan_top::{Status, plan_main, say_beside};

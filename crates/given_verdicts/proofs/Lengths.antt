@@ -5,7 +5,7 @@ use Rattle.coll_shape.specs.Meaning.{AreInputs, Lists}
 use Rattle.coll_shape.specs.Outline.{Outline, buffer_at, list_bytes}
 use Rattle.plan_core.proofs.Drawing.{length-row, row-more}
 use Rattle.plan_tables.proofs.Passes.{get-row}
-use Rattle.plan_values.specs.Given.{AreLists}
+use Rattle.plan_judge.specs.values.Given.{AreLists}
 use Rattle.given_verdicts.specs.Answers.{lengths_of}
 
 -- a description's inputs are lists of these lengths

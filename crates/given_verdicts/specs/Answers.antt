@@ -13,7 +13,7 @@ use Rattle.coll_lang.specs.declared.fault.Refusal.TheVariants.{OneThread, TooLar
 use Rattle.coll_lang.specs.Language.{read}
 use Rattle.coll_lang.specs.Program.{Chosen, Program}
 use Rattle.order_lines.specs.Check.{description_bytes, line_after}
-use Rattle.shape_plans.specs.declared.judging.TheConstants.{MOST_BYTES}
+use Rattle.schedule_compiler.specs.declared.shapes.judging.TheConstants.{MOST_BYTES}
 use Rattle.plan_core.specs.Plan.{Plan, all_cells}
 use Rattle.plan_core.specs.Values.{Inputs, value}
 use Rattle.plan_judge.specs.declared.flaw.Flaw.{Flaw}

@@ -1,3 +1,4 @@
 pub mod Differences
 pub mod Answers
 pub mod Saying
+pub mod general

@@ -10,9 +10,9 @@ use crate::results::first_wrong;
 use coll_meaning::buffers_of;
 use coll_shape::Inputs;
 use plan_core::Plan;
-use plan_values::{judged_plans, values};
+use plan_judge::values::{judged_plans, values};
 use ptl_types::NoMemory;
-use shape_plans::MOST_BYTES;
+use schedule_compiler::shapes::MOST_BYTES;
 use std::alloc::Global;
 
 /// The first result of a plan without a flaw that is wrong for these inputs of its description's shape.

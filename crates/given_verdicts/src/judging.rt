@@ -15,7 +15,7 @@ use given_lines::{GivenFault, GivenPlan, read_given};
 use mark_judge::{judge_marks, line_of};
 use order_lines::first_end;
 use plan_judge::judge;
-use plan_values::judged_plans;
+use plan_judge::values::judged_plans;
 use ptl_types::NoMemory;
 use std::alloc::Global;
 

@@ -5,6 +5,7 @@
 mod answer;
 mod differing;
 mod for_inputs;
+pub mod general;
 mod judging;
 mod naming;
 mod places;

@@ -12,7 +12,7 @@ use coll_meaning::Buffers;
 use coll_shape::{Name, Shape};
 use given_lines::{GivenPlan, Mark};
 use mark_judge::{MarkFlaw, line_of};
-use plan_values::CellValues;
+use plan_judge::values::CellValues;
 use ptl_types::Rank;
 use std::alloc::{AllocError, Global};
 

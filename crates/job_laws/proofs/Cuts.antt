@@ -14,13 +14,14 @@ use Rattle.cuts.specs.histories.Cut.{IsAtRest, IsCut}
 use Rattle.cuts.specs.histories.Plans.{CounterReached, IsComplete, system_of}
 use Rattle.cuts.specs.histories.System.{Histories, state_at}
 use Rattle.plan_steps.specs.Rounds.{rounds}
-use Rattle.shape_plans.specs.Drawing.{drawing_of, drawn_upto, plan_of}
+use Rattle.schedule_compiler.specs.shapes.Drawing.{drawing_of, drawn_upto, plan_of}
 use Rattle.plan_steps.specs.Drawing.{site}
 use Rattle.plan_steps.specs.Collectives.{end_of}
-use Rattle.shape_plans.specs.Footprint.{refusal}
-use Rattle.shape_plans.proofs.Final.{barrier-cells, barrier-rounds, fine-shape, inputs_fit, result-cell, sound, unheld-empty, value-held}
-use Rattle.step_laws.proofs.Chain.{entry_in, exit_in, leads_first, leads_next, leads_through}
-use Rattle.step_laws.specs.Order.{IsAt, entry_cell, exit_cell}
+use Rattle.schedule_compiler.specs.shapes.Footprint.{refusal}
+use Rattle.schedule_compiler.proofs.shapes.Final.{barrier-cells, barrier-rounds, fine-shape, inputs_fit, result-cell, sound, unheld-empty}
+use Rattle.schedule_compiler.proofs.shapes.Final.{value-held}
+use Rattle.job_laws.proofs.steps.Chain.{entry_in, exit_in, leads_first, leads_next, leads_through}
+use Rattle.job_laws.specs.steps.Order.{IsAt, entry_cell, exit_cell}
 use Rattle.cuts.specs.done.Done.{IsDone}
 use Rattle.cuts.proofs.cells.Cells.{complete_at as cells_complete, complete_values, done_values, in_order as cells_in_order, rest_values}
 use Rattle.cuts.proofs.cells.Cells.{rounds_kept}

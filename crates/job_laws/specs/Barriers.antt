@@ -9,9 +9,9 @@ use Rattle.coll_shape.specs.declared.types.CollStep.TheVariants.{Barrier}
 use Rattle.coll_shape.specs.Outline.{Outline, group_at, step_at}
 use Rattle.plan_steps.specs.StepContext.{in_row}
 use Rattle.plan_steps.specs.Rounds.{rounds}
-use Rattle.shape_plans.specs.Drawing.{drawn_upto, plan_of}
+use Rattle.schedule_compiler.specs.shapes.Drawing.{drawn_upto, plan_of}
 use Rattle.plan_steps.specs.Drawing.{site}
-use Rattle.step_laws.specs.Order.{IsAt, entry_cell, exit_cell}
+use Rattle.job_laws.specs.steps.Order.{IsAt, entry_cell, exit_cell}
 
 -- ---- a rank's steps
 -- the steps of each rank follow each other: where its entry of a step has reached its needs, the rank has started, and so have its exits

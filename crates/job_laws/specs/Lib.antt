@@ -1,3 +1,4 @@
 pub mod Results
 pub mod Barriers
 pub mod interleavings
+pub mod steps

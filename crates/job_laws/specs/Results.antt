@@ -4,7 +4,7 @@ use Rattle.plan_core.specs.Values.{Inputs}
 use Rattle.coll_shape.specs.Folding.{at}
 use Rattle.coll_shape.specs.Meaning.{lists_of, meaning_of}
 use Rattle.coll_shape.specs.Outline.{Outline}
-use Rattle.shape_plans.specs.Drawing.{drawing_of, plan_of}
+use Rattle.schedule_compiler.specs.shapes.Drawing.{drawing_of, plan_of}
 use Rattle.cuts.specs.cells.Cells.{result_in}
 
 -- in these memories each buffer, printed or not, is at each rank what the shape means of the inputs

@@ -11,8 +11,8 @@ ghost use Rattle.cuts.specs.histories.Plans.{system_of};
 ghost use Rattle.cuts.specs.histories.System.{Histories};
 ghost use Rattle.cuts.specs.histories.Wave.{HasNoStray};
 ghost use Rattle.cuts.specs.orders.Taking.{listed};
-ghost use Rattle.shape_plans.specs.Drawing.{plan_of};
-ghost use Rattle.shape_plans.specs.Footprint.{refusal};
+ghost use Rattle.schedule_compiler.specs.shapes.Drawing.{plan_of};
+ghost use Rattle.schedule_compiler.specs.shapes.Footprint.{refusal};
 ghost use Rattle.cuts.specs.interleavings.Interleaving.{IsReachedIn, IsStillButStrays, steps_due, strays_received};
 ghost use Rattle.job_laws.specs.interleavings.Headline.{HeadlineWithStrays};
 

@@ -3,6 +3,7 @@
 #![tactic(auto)]
 
 pub mod interleavings;
+pub mod steps;
 
 ghost use Rattle.std.specs.Prelude.{ℕ, List, None, ◌<◌, ◌≡◌};
 ghost use Rattle.plan_core.specs.Values.{Inputs};
@@ -13,8 +14,8 @@ ghost use Rattle.cuts.specs.histories.System.{Histories, state_at};
 ghost use Rattle.coll_shape.specs.Meaning.{AreInputs};
 ghost use Rattle.coll_shape.specs.Outline.{Outline};
 ghost use Rattle.coll_shape.specs.WellFormed.{IsWellFormed};
-ghost use Rattle.shape_plans.specs.Drawing.{plan_of};
-ghost use Rattle.shape_plans.specs.Footprint.{refusal};
+ghost use Rattle.schedule_compiler.specs.shapes.Drawing.{plan_of};
+ghost use Rattle.schedule_compiler.specs.shapes.Footprint.{refusal};
 ghost use Rattle.cuts.specs.done.Done.{IsDone};
 ghost use Rattle.cuts.specs.cells.Cells.{AreCellsInOrder, AreValues, AreValuesAt};
 ghost use Rattle.job_laws.specs.Barriers.{AreBarriersKept, AreStepsInOrder};

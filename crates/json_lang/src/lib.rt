@@ -4,6 +4,7 @@
 
 mod fault;
 mod form;
+pub mod notes;
 mod reading;
 mod values;
 mod writing;

@@ -1,6 +1,6 @@
 -- One input at two ranks.
 use Rattle.std.proofs.Common.{◌≡◌, ℕ, zero, suc, ◌<◌, List, [], ◌∷◌, length, get_or, refl, arith}
-use Rattle.plan_values.specs.Given.{AreLists}
+use Rattle.plan_judge.specs.values.Given.{AreLists}
 
 rows : (x y : List ℕ) (b : ℕ) → b < 1 → length (get_or ((x ∷ y ∷ []) ∷ []) b []) ≡ 2
 rows x y zero h = refl

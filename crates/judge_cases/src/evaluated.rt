@@ -1,13 +1,13 @@
 //! What the cells of a plan hold in the end.
 
 ghost use Rattle.std.specs.Prelude.{◌∷◌, [], IfOk};
-ghost use Rattle.plan_values.specs.Given.{AreLists};
+ghost use Rattle.plan_judge.specs.values.Given.{AreLists};
 
 use crate::drawing::{bytes, link, plan_of, sound_cells, sound_links};
 use coll_shape::{InputList, Inputs};
 use plan_core::{Cell, Link, LinkKind, Plan};
 use plan_judge::judge;
-use plan_values::{CellValues, judged_plans, values};
+use plan_judge::values::{CellValues, judged_plans, values};
 use ptl_types::{ElemType, NoMemory};
 use std::alloc::Global;
 use std::process::Abort;

@@ -1,10 +1,26 @@
-//! Tests of the judging of plans and of their values: a sound plan of two ranks, what its cells hold for given lists, and for each cause
-//! a plan with the flaw that it must give, by hand. Here, so that the crates are proved once and not a second time with their tests.
+//! Tests of plans that are given as text: how they are read, the first flaw for each cause, what their cells hold, what is found of their
+//! results for all inputs, and the answers; with values by hand. Here, so that their crates are proved once and not again with tests.
 #![tactic(auto)]
 
+#[cfg(test)]
+mod agreement;
+#[cfg(test)]
+mod answers;
 #[cfg(test)]
 mod causes;
 #[cfg(test)]
 mod drawing;
 #[cfg(test)]
 mod evaluated;
+#[cfg(test)]
+mod general;
+#[cfg(test)]
+mod given;
+#[cfg(test)]
+mod mark_texts;
+#[cfg(test)]
+mod marks;
+#[cfg(test)]
+mod saying;
+#[cfg(test)]
+mod wide;

@@ -1,4 +1,6 @@
-//! Worked plans, cuts, moments, orders and choices that the check computes, with histories that miss a definition by one fault.
+//! Worked cases that the check computes: what an interface answers, what descriptions mean, which texts are written, plans, cuts, moments,
+//! orders and choices, and what the program owes; with histories that miss a definition by one fault. A definition that is changed by
+//! mistake fails one of them.
 #![tactic(auto)]
 
 ghost use Rattle.std.specs.Prelude.{◌≡◌, true};
@@ -8,8 +10,12 @@ pub mod choices;
 pub mod done;
 pub mod interleavings;
 pub mod jobs;
+pub mod meaning;
+pub mod model;
 pub mod orders;
 pub mod plans;
+pub mod texts;
+pub mod top;
 
 /// The cases stand in `proofs/`. This function is there so that the crate has one.
 pub fn cases_stand() -> bool

@@ -3,3 +3,4 @@ pub mod Texts
 pub mod Items
 pub mod Agreement
 pub mod Printing
+pub mod names

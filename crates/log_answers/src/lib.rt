@@ -8,6 +8,7 @@ mod agreement;
 mod fields;
 mod hexes;
 mod items;
+pub mod names;
 mod owed;
 mod printing;
 mod texts;

@@ -1,4 +1,5 @@
-//! The logs of devices, held against values from outside: lines with what they say, answers with what was owed.
+//! The logs of devices, held against values from outside: lines with what they say, answers with what was owed, names, and small logs with
+//! their verdicts.
 #![tactic(auto)]
 
 #[cfg(test)]
@@ -7,3 +8,5 @@ mod answers;
 mod lines;
 #[cfg(test)]
 mod names;
+#[cfg(test)]
+mod verdicts;

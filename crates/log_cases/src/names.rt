@@ -1,6 +1,6 @@
 //! Words that are given, given again and forgotten.
 
-use log_names::Names;
+use log_answers::names::Names;
 use ptl_types::Handle;
 
 #[test]

@@ -12,14 +12,14 @@ use Rattle.log_words.specs.Words.{Word, Rest}
 use Rattle.log_words.specs.Reading.{◌>>=◌, Taken, taken, next, name_next, amount_next, small_next, bytes_next, fields_next, flaw_at}
 use Rattle.log_words.specs.declared.faults.Flaw.TheVariants.{BadCall, BadWord}
 use Rattle.log_words.specs.declared.faults.LineFault.{LineFault}
-use Rattle.log_fields.specs.Choices.{list_next, deletes_next, op_next, start_named, swap_next, type_next}
-use Rattle.log_fields.specs.Fields.{set_entry, set_md, set_opening, set_queue, set_start}
-use Rattle.log_fields.specs.Plain.{plain_entry, plain_md, plain_opening, plain_queue, plain_start}
-use Rattle.log_fields.specs.declared.said.EntrySaid.{EntrySaid}
-use Rattle.log_fields.specs.declared.said.StartName.{StartName}
-use Rattle.log_fields.specs.declared.said.StartName.TheVariants as names
-use Rattle.log_fields.specs.declared.said.StartSaid.{StartSaid}
-use Rattle.log_fields.specs.declared.said.TheConstants.{NO_HANDLE}
+use Rattle.log_words.specs.call_fields.Choices.{list_next, deletes_next, op_next, start_named, swap_next, type_next}
+use Rattle.log_words.specs.call_fields.Fields.{set_entry, set_md, set_opening, set_queue, set_start}
+use Rattle.log_words.specs.call_fields.Plain.{plain_entry, plain_md, plain_opening, plain_queue, plain_start}
+use Rattle.log_words.specs.declared.call_fields.said.EntrySaid.{EntrySaid}
+use Rattle.log_words.specs.declared.call_fields.said.StartName.{StartName}
+use Rattle.log_words.specs.declared.call_fields.said.StartName.TheVariants as names
+use Rattle.log_words.specs.declared.call_fields.said.StartSaid.{StartSaid}
+use Rattle.log_words.specs.declared.call_fields.said.TheConstants.{NO_HANDLE}
 use Rattle.log_lines.specs.declared.calls.TriggeredOpSaid.{TriggeredOpSaid}
 use Rattle.log_lines.specs.declared.calls.Call.{Call}
 use Rattle.log_lines.specs.declared.calls.Call.TheVariants as calls

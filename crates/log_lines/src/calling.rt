@@ -10,7 +10,7 @@ use crate::calls::{Call, NameCall, NumberCall};
 use crate::deeds::{counted_in, deed_in, start_in};
 use crate::naming::{called_on, called_with, name_call, number_call, plain_call};
 use coll_text::is;
-use log_fields::{
+use log_words::call_fields::{
     EntrySaid, StartName, deletes_in, list_in, plain_entry, plain_md, plain_opening, plain_queue,
     start_named,
 };

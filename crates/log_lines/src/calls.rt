@@ -1,7 +1,7 @@
 //! The calls, as a log says them: handles by the device's own words.
 
-use log_fields::{EntrySaid, MdSaid, Opening};
 use log_words::Word;
+use log_words::call_fields::{EntrySaid, MdSaid, Opening};
 use ptl_types::{Count, List, Rank, TriggeredOp};
 
 /// A deed: an operation, or the count that a triggered operation makes.

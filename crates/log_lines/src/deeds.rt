@@ -9,7 +9,7 @@ ghost use Rattle.ptl_types.specs.declared.calls.TriggeredOp.TheVariants as deeds
 
 use crate::calls::TriggeredOpSaid;
 use coll_text::is;
-use log_fields::{
+use log_words::call_fields::{
     NO_HANDLE, StartName, StartSaid, op_in, plain_start, start_named, swap_in, type_in,
 };
 use log_words::{Flaw, LineFault, Rest, Word, at, fields_of};

@@ -3,8 +3,8 @@ use Rattle.std.proofs.Common.{◌≡◌, ℕ, [], Option, Bool, refl, subst, sym
 use Rattle.ptl_types.specs.declared.handles.Count.{Count}
 use Rattle.ptl_types.specs.declared.entries.List.{List as MatchList}
 use Rattle.log_words.specs.Words.{Word}
-use Rattle.log_fields.specs.declared.said.EntrySaid.{EntrySaid}
-use Rattle.log_fields.specs.declared.said.MdSaid.{MdSaid}
+use Rattle.log_words.specs.declared.call_fields.said.EntrySaid.{EntrySaid}
+use Rattle.log_words.specs.declared.call_fields.said.MdSaid.{MdSaid}
 use Rattle.log_lines.specs.declared.calls.Call.{Call}
 use Rattle.log_lines.specs.declared.calls.Call.TheVariants as said
 use Rattle.log_lines.specs.declared.calls.TriggeredOpSaid.{TriggeredOpSaid}

@@ -27,17 +27,17 @@ use Rattle.guarded_ni.specs.declared.faults.CallFault.TheVariants.{Misused, Refu
 use Rattle.guarded_ni.specs.declared.faults.Misuse.{Misuse}
 use Rattle.guarded_ni.specs.declared.faults.Misuse.TheVariants as misuses
 use Rattle.guarded_ni.specs.Misuses.{start_misuse, unless}
-use Rattle.log_fields.specs.declared.said.TheConstants.{NO_HANDLE}
+use Rattle.log_words.specs.declared.call_fields.said.TheConstants.{NO_HANDLE}
 use Rattle.log_lines.specs.declared.calls.Call.{Call}
 use Rattle.log_lines.specs.declared.calls.Call.TheVariants as said
 use Rattle.log_lines.specs.declared.calls.TriggeredOpSaid.{TriggeredOpSaid}
-use Rattle.log_fields.specs.declared.said.EntrySaid.{EntrySaid}
-use Rattle.log_fields.specs.declared.said.MdSaid.{MdSaid}
+use Rattle.log_words.specs.declared.call_fields.said.EntrySaid.{EntrySaid}
+use Rattle.log_words.specs.declared.call_fields.said.MdSaid.{MdSaid}
 use Rattle.log_answers.specs.declared.owed.Sort.{Sort}
 use Rattle.log_answers.specs.declared.owed.Sort.TheVariants.{Counter, Queue, Descriptor as Md, Entry as Me}
 use Rattle.log_answers.specs.declared.owed.Owed.{Owed}
 use Rattle.log_answers.specs.declared.owed.Owed.TheVariants as owed
-use Rattle.log_names.specs.Postings.{cancelled, posted, removed}
+use Rattle.log_answers.specs.names.Postings.{cancelled, posted, removed}
 use Rattle.log_seats.specs.Bytes.{bytes_in}
 use Rattle.log_seats.specs.Seats.{handle_if, handle_of, operation_of, with_nic, with_operations, without_thing}
 use Rattle.log_seats.specs.declared.seats.Seat.{Seat}

@@ -3,13 +3,13 @@ use Rattle.std.specs.Prelude.{ℕ, Bool, true, not, is_some, List, Option, optio
 use Rattle.ptl_types.specs.declared.handles.Handle.{Handle}
 use Rattle.ni_model.specs.State.{State}
 use Rattle.log_words.specs.Words.{Word}
-use Rattle.log_fields.specs.declared.said.TheConstants.{NO_HANDLE}
+use Rattle.log_words.specs.declared.call_fields.said.TheConstants.{NO_HANDLE}
 use Rattle.log_answers.specs.declared.owed.Sort.{Sort}
 use Rattle.log_answers.specs.declared.owed.Sort.TheVariants.{Counter, Queue, Descriptor, Entry}
-use Rattle.log_names.specs.declared.names.Names.{Names}
-use Rattle.log_names.specs.declared.postings.Postings.{Postings}
-use Rattle.log_names.specs.Names.{bound, cleared, no_names, thing_of}
-use Rattle.log_names.specs.Postings.{no_postings, number_of}
+use Rattle.log_answers.specs.declared.names.names.Names.{Names}
+use Rattle.log_answers.specs.declared.names.postings.Postings.{Postings}
+use Rattle.log_answers.specs.names.Names.{bound, cleared, no_names, thing_of}
+use Rattle.log_answers.specs.names.Postings.{no_postings, number_of}
 use Rattle.log_seats.specs.declared.seats.Seat.{Seat}
 
 -- a new interface, of which nothing is named

@@ -11,8 +11,8 @@ use crate::bytes::bytes_in;
 use crate::seats::Seat;
 use guarded_ni::Misuse;
 use log_answers::{Owed, Sort};
-use log_fields::EntrySaid;
 use log_words::Word;
+use log_words::call_fields::EntrySaid;
 use ptl_types::{Appended, Entry, List, NiFault, NoMemory, UnexpectedHeader};
 use std::alloc::Global;
 

@@ -5,9 +5,9 @@ ghost use Rattle.std.specs.Option.{option_copied};
 ghost use Rattle.log_seats.specs.Seats.{handle_if, handle_of, is_free, names_at, new_seat, operation_of, with_thing, without_thing};
 
 use log_answers::Sort;
-use log_fields::NO_HANDLE;
-use log_names::{Names, Postings};
+use log_answers::names::{Names, Postings};
 use log_words::Word;
+use log_words::call_fields::NO_HANDLE;
 use portals_ni::Nic;
 use ptl_types::{Handle, NoMemory};
 use std::alloc::Global;

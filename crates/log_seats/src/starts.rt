@@ -9,9 +9,9 @@ use crate::after::{After, refused, told, word};
 use crate::seats::Seat;
 use guarded_ni::CallFault;
 use log_answers::{Owed, Sort};
-use log_fields::NO_HANDLE;
 use log_lines::TriggeredOpSaid;
 use log_words::Word;
+use log_words::call_fields::NO_HANDLE;
 use ptl_types::{Handle, Message, NoMemory, TriggeredOp};
 use std::alloc::Global;
 

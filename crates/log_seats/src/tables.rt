@@ -12,8 +12,8 @@ ghost use Rattle.log_answers.specs.declared.owed.Sort.TheVariants as sorts;
 use crate::after::{After, amount, done, fault_word, made, refused, told, word};
 use crate::seats::Seat;
 use log_answers::{Owed, Sort};
-use log_fields::MdSaid;
 use log_words::Word;
+use log_words::call_fields::MdSaid;
 use ptl_types::{Count, Descriptor, EqGot, Handle, NiFault, NoMemory};
 use std::alloc::Global;
 

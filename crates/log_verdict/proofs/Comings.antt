@@ -3,8 +3,8 @@ use Rattle.std.proofs.Common.{◌≡◌, ℕ, Bool, true, false, Option, Some, N
 use Rattle.std.specs.Option.{option_map}
 use Rattle.ptl_types.specs.Messages.{Sent}
 use Rattle.log_words.specs.Words.{Rest}
-use Rattle.log_names.specs.Flights.{flight_at}
-use Rattle.log_names.specs.declared.flights.Flight.{Flight}
+use Rattle.log_answers.specs.names.Flights.{flight_at}
+use Rattle.log_answers.specs.declared.names.flights.Flight.{Flight}
 use Rattle.log_verdict.specs.Answering.{Came, answered, others_of, with_answer, without_flight}
 use Rattle.log_seats.specs.Answers.{After, arrived}
 use Rattle.log_verdict.specs.Scenes.{seat_at}

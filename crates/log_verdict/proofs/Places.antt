@@ -1,7 +1,7 @@
 -- Calls that are made of no open interface.
 use Rattle.std.proofs.Common.{◌≡◌, ℕ, Option, refl}
 use Rattle.log_words.specs.Words.{Word, Rest}
-use Rattle.log_fields.specs.declared.said.Opening.{Opening}
+use Rattle.log_words.specs.declared.call_fields.said.Opening.{Opening}
 use Rattle.log_lines.specs.declared.calls.Call.{Call}
 use Rattle.log_lines.specs.declared.calls.Call.TheVariants as said
 use Rattle.log_verdict.specs.Answering.{Came}

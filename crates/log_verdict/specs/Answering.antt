@@ -17,11 +17,11 @@ use Rattle.log_answers.specs.declared.owed.Owed.{Owed}
 use Rattle.log_answers.specs.declared.owed.Owed.TheVariants as owed
 use Rattle.log_answers.specs.declared.owed.Sort.{Sort}
 use Rattle.log_answers.specs.declared.owed.Sort.TheVariants.{Counter, Queue, Descriptor, Entry}
-use Rattle.log_names.specs.Keys.{with_number, without_number}
-use Rattle.log_names.specs.Flights.{age_of, taken, with_sent}
-use Rattle.log_names.specs.Postings.{word_of_number}
-use Rattle.log_names.specs.declared.flights.Flights.{Flights}
-use Rattle.log_names.specs.declared.postings.Postings.{Postings}
+use Rattle.log_answers.specs.names.Keys.{with_number, without_number}
+use Rattle.log_answers.specs.names.Flights.{age_of, taken, with_sent}
+use Rattle.log_answers.specs.names.Postings.{word_of_number}
+use Rattle.log_answers.specs.declared.names.flights.Flights.{Flights}
+use Rattle.log_answers.specs.declared.names.postings.Postings.{Postings}
 use Rattle.log_seats.specs.Answers.{After}
 use Rattle.log_verdict.specs.Scenes.{known_at}
 use Rattle.log_seats.specs.Seats.{with_thing}

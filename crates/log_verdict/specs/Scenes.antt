@@ -5,10 +5,10 @@ use Rattle.ptl_types.specs.Elements.{part}
 use Rattle.ni_model.specs.Ready.{is_ready}
 use Rattle.log_answers.specs.Known.{Known}
 use Rattle.log_answers.specs.declared.owed.Sort.{Sort}
-use Rattle.log_names.specs.Keys.{number_lookup}
-use Rattle.log_names.specs.Names.{word_of}
-use Rattle.log_names.specs.Postings.{number_of, word_of_number}
-use Rattle.log_names.specs.Flights.{no_flights}
+use Rattle.log_answers.specs.names.Keys.{number_lookup}
+use Rattle.log_answers.specs.names.Names.{word_of}
+use Rattle.log_answers.specs.names.Postings.{number_of, word_of_number}
+use Rattle.log_answers.specs.names.Flights.{no_flights}
 use Rattle.log_seats.specs.Seats.{is_free}
 use Rattle.log_seats.specs.declared.seats.Seat.{Seat}
 use Rattle.log_verdict.specs.declared.scenes.Scene.{Scene}

@@ -2,9 +2,9 @@
 use Rattle.std.specs.Prelude.{ℕ, ◌≡◌, Bool, true, false, [], ◌∷◌, Option, Some, None, is_some, if◌then◌else◌}
 use Rattle.std.specs.List.{slice_get}
 use Rattle.ni_model.specs.Ready.{ready_numbers}
-use Rattle.log_names.specs.Keys.{Numbers}
-use Rattle.log_names.specs.Flights.{flight_at}
-use Rattle.log_names.specs.declared.flights.Flight.{Flight}
+use Rattle.log_answers.specs.names.Keys.{Numbers}
+use Rattle.log_answers.specs.names.Flights.{flight_at}
+use Rattle.log_answers.specs.declared.names.flights.Flight.{Flight}
 use Rattle.log_seats.specs.Answers.{arrived, fires_at}
 use Rattle.log_verdict.specs.Answering.{others_of, with_answer, without_flight}
 use Rattle.log_verdict.specs.Scenes.{seat_at}

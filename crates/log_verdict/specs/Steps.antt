@@ -10,17 +10,17 @@ use Rattle.log_words.specs.Reading.{flaw_at}
 use Rattle.log_words.specs.declared.faults.Flaw.{Flaw}
 use Rattle.log_words.specs.declared.faults.Flaw.TheVariants.{BadWord, NameTaken, NoAnswer, NotOpen, UnknownMessage}
 use Rattle.log_words.specs.declared.faults.LineFault.{LineFault}
-use Rattle.log_fields.specs.declared.said.Opening.{Opening}
+use Rattle.log_words.specs.declared.call_fields.said.Opening.{Opening}
 use Rattle.log_lines.specs.declared.calls.Call.{Call}
 use Rattle.log_lines.specs.declared.calls.Call.TheVariants as calls
 use Rattle.log_lines.specs.declared.lines.Line.{Line}
 use Rattle.log_lines.specs.declared.lines.Line.TheVariants as lines
 use Rattle.log_answers.specs.Agreement.{is_last}
 use Rattle.log_answers.specs.declared.owed.Owed.TheVariants as owed
-use Rattle.log_names.specs.Keys.{with_number}
-use Rattle.log_names.specs.Flights.{age_of, flight_at, oldest, word_in}
-use Rattle.log_names.specs.declared.flights.Flight.{Flight}
-use Rattle.log_names.specs.declared.flights.Flights.{Flights}
+use Rattle.log_answers.specs.names.Keys.{with_number}
+use Rattle.log_answers.specs.names.Flights.{age_of, flight_at, oldest, word_in}
+use Rattle.log_answers.specs.declared.names.flights.Flight.{Flight}
+use Rattle.log_answers.specs.declared.names.flights.Flights.{Flights}
 use Rattle.log_seats.specs.Answers.{After, Answers, after as told, arrived, misuse_word, ok, says}
 use Rattle.log_verdict.specs.Answering.{Came, answered, came, flawed, others_of, said_or_owed, told_step, without_flight}
 use Rattle.log_seats.specs.Bytes.{bytes_in}

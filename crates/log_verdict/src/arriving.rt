@@ -8,7 +8,7 @@ ghost use Rattle.log_verdict.specs.Steps.{other_than, too_early, word_at};
 use crate::answering::{Step, answered, flawed, spaced};
 use crate::scenes::Scene;
 use guarded_ni::Misuse;
-use log_names::{Flight, Flights};
+use log_answers::names::{Flight, Flights};
 use log_seats::{arrives, misuse_word, told};
 use log_words::{Flaw, Rest, Word};
 use ptl_types::{NoMemory, Rank};

@@ -4,8 +4,8 @@ ghost use Rattle.std.specs.Prelude.{◌≡◌, is_some};
 ghost use Rattle.std.specs.Option.{option_copied};
 ghost use Rattle.log_verdict.specs.Scenes.{descriptor_word_at, known_at, no_interfaces, part_of, seat_at, seat_of};
 
+use log_answers::names::{ByNumber, Flights};
 use log_answers::{Knows, Sort};
-use log_names::{ByNumber, Flights};
 use log_seats::Seat;
 use ptl_types::{Handle, Rank};
 use std::alloc::Global;

@@ -4,6 +4,7 @@
 #![tactic(auto)]
 
 mod amounts;
+pub mod call_fields;
 mod faults;
 mod fields;
 mod names;

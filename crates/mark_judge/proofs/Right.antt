@@ -29,7 +29,7 @@ use Rattle.mark_judge.proofs.Finds.{In-none, none-In}
 use Rattle.mark_judge.proofs.Good.{barrier_there, due-is, fit-is, fit-known, is-due, is-fit, member-is}
 use Rattle.mark_judge.proofs.Naming.{is-same, same-is}
 use Rattle.mark_judge.proofs.Tests.{In-any, In-get_or, any-In, any_none, get_or-In}
-use Rattle.plan_calls.specs.RankOps.{done_threshold}
+use Rattle.plan_core.specs.calls.RankOps.{done_threshold}
 use Rattle.plan_core.specs.Members.{In}
 use Rattle.plan_core.specs.Plan.{Plan}
 use Rattle.plan_core.proofs.Links.{In-from_to}

@@ -12,7 +12,7 @@ use Rattle.mark_judge.specs.declared.flaw.MarkFlaw.{MarkFlaw}
 use Rattle.mark_judge.specs.declared.flaw.MarkFlaw.TheVariants.{BadDone, BadResult, NoResult, BarrierOpen}
 use Rattle.mark_judge.specs.Due.{due_of, is_barrier_at, is_good, is_named, mark_at}
 use Rattle.mark_judge.specs.Leading.{leads}
-use Rattle.plan_calls.specs.RankOps.{done_threshold}
+use Rattle.plan_core.specs.calls.RankOps.{done_threshold}
 use Rattle.plan_core.specs.Plan.{Plan}
 use Rattle.plan_judge.specs.Causes.{first_found}
 

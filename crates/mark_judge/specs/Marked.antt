@@ -8,7 +8,7 @@ use Rattle.given_lines.specs.declared.given.Mark.TheVariants as marks
 use Rattle.mark_judge.specs.declared.flaw.Due.{Due}
 use Rattle.mark_judge.specs.declared.flaw.Due.TheVariants.{Result, Enter, Leave}
 use Rattle.mark_judge.specs.Due.{cell_of, due_of, mark_at}
-use Rattle.plan_calls.specs.RankOps.{done_threshold}
+use Rattle.plan_core.specs.calls.RankOps.{done_threshold}
 use Rattle.plan_core.specs.Members.{In}
 use Rattle.plan_core.specs.Plan.{Plan, cell}
 

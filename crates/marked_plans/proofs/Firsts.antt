@@ -21,13 +21,13 @@ use Rattle.plan_steps.specs.Sounding.{with_cell, with_cells}
 use Rattle.plan_steps.specs.StepContext.{StepContext, bare_entry, bump, count, exit_at}
 use Rattle.plan_steps.proofs.Bridge.{add_all-with}
 use Rattle.plan_steps.proofs.Drawn.{Extends, extends-all, extends-refl, extends-trans}
-use Rattle.shape_plans.specs.Drawing.{drawing_of, drawn_upto, plan_of}
-use Rattle.shape_plans.specs.Footprint.{refusal}
-use Rattle.shape_plans.specs.Judging.{inputs_size, size_upto}
-use Rattle.shape_plans.specs.declared.footprints.Size.{Size}
-use Rattle.shape_plans.proofs.Final.{barrier-cells, few_links}
-use Rattle.shape_plans.proofs.Sizes.{are-steps, size-steps}
-use Rattle.shape_plans.proofs.Upto.{tables-upto}
+use Rattle.schedule_compiler.specs.shapes.Drawing.{drawing_of, drawn_upto, plan_of}
+use Rattle.schedule_compiler.specs.shapes.Footprint.{refusal}
+use Rattle.schedule_compiler.specs.shapes.Judging.{inputs_size, size_upto}
+use Rattle.schedule_compiler.specs.declared.shapes.footprints.Size.{Size}
+use Rattle.schedule_compiler.proofs.shapes.Final.{barrier-cells, few_links}
+use Rattle.schedule_compiler.proofs.shapes.Sizes.{are-steps, size-steps}
+use Rattle.schedule_compiler.proofs.shapes.Upto.{tables-upto}
 use Rattle.marked_plans.specs.Marks.{first_cell, of_barrier, row_marks, step_marks}
 
 -- ---- one step after the other

@@ -9,7 +9,7 @@ use Rattle.coll_shape.specs.Outline.{Outline}
 use Rattle.plan_core.specs.Draw.{HeldCells}
 use Rattle.plan_core.proofs.Drawing.{from_to-more}
 use Rattle.plan_steps.specs.Rounds.{rounds}
-use Rattle.shape_plans.specs.Drawing.{drawing_of}
+use Rattle.schedule_compiler.specs.shapes.Drawing.{drawing_of}
 use Rattle.marked_plans.specs.Marks.{barrier_marks, marks_of, member_marks, result_marks}
 
 pub one_row_more : {A : Type 0} (f : ℕ → List A) (before : List A) (n : ℕ)

@@ -9,7 +9,7 @@ use Rattle.coll_shape.specs.declared.types.CollStep.TheVariants.{Barrier}
 use Rattle.plan_core.specs.Draw.{HeldCells, held_cell}
 use Rattle.plan_core.specs.Plan.{Plan}
 use Rattle.plan_steps.specs.Rounds.{rounds}
-use Rattle.shape_plans.specs.Drawing.{drawing_of, drawn_upto, plan_of}
+use Rattle.schedule_compiler.specs.shapes.Drawing.{drawing_of, drawn_upto, plan_of}
 use Rattle.given_lines.specs.declared.given.Mark.{Mark}
 use Rattle.given_lines.specs.declared.given.Mark.TheVariants as marks
 

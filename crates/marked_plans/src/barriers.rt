@@ -5,9 +5,9 @@ ghost use Rattle.coll_shape.specs.declared.limits.TheConstants.{MOST_RANKS};
 ghost use Rattle.given_lines.specs.declared.given.Mark.TheVariants.{Enter, Leave};
 ghost use Rattle.marked_plans.specs.Marks.{barrier_marks, row_marks, step_marks};
 ghost use Rattle.plan_steps.specs.Rounds.{rounds};
-ghost use Rattle.shape_plans.specs.Drawing.{plan_of};
-ghost use Rattle.shape_plans.specs.Footprint.{refusal};
-ghost use Rattle.shape_plans.specs.Judging.{size_upto, step_size};
+ghost use Rattle.schedule_compiler.specs.shapes.Drawing.{plan_of};
+ghost use Rattle.schedule_compiler.specs.shapes.Footprint.{refusal};
+ghost use Rattle.schedule_compiler.specs.shapes.Judging.{size_upto, step_size};
 
 use coll_shape::{CollStep, Shape, holders_among};
 use given_lines::Mark;

@@ -2,9 +2,9 @@
 
 ghost use Rattle.std.specs.Prelude.{◌≡◌, IfOk, None};
 ghost use Rattle.marked_plans.specs.Marks.{marked_of, marks_of};
-ghost use Rattle.shape_plans.specs.Compiling.{Answers};
-ghost use Rattle.shape_plans.specs.Drawing.{drawing_of, plan_of};
-ghost use Rattle.shape_plans.specs.Footprint.{refusal};
+ghost use Rattle.schedule_compiler.specs.shapes.Compiling.{Answers};
+ghost use Rattle.schedule_compiler.specs.shapes.Drawing.{drawing_of, plan_of};
+ghost use Rattle.schedule_compiler.specs.shapes.Footprint.{refusal};
 
 use crate::barriers::mark_barriers;
 use crate::results::mark_results;
@@ -13,7 +13,7 @@ use given_lines::Mark;
 use plan_core::{BufferCells, Plan};
 use plan_tables::sound_plans;
 use schedule_compiler::done::CountedPlan;
-use shape_plans::{CompileFault, DrawnShape, drawn_shape, plan_sound};
+use schedule_compiler::shapes::{CompileFault, DrawnShape, drawn_shape, plan_sound};
 use std::alloc::{AllocError, Global};
 use std::marker::Model;
 

@@ -19,12 +19,12 @@ use Rattle.plan_core.proofs.Drawing.{length-row}
 use Rattle.plan_judge.specs.Causes.{judged}
 use Rattle.plan_judge.proofs.Flawless.{none_sound}
 use Rattle.plan_tables.proofs.Passes.{get-row, get_or-any, length-table}
-use Rattle.plan_values.specs.Given.{IsGiven}
-use Rattle.plan_values.proofs.Judged.{input_in}
+use Rattle.plan_judge.specs.values.Given.{IsGiven}
+use Rattle.plan_judge.proofs.values.Judged.{input_in}
 use Rattle.coll_shape.specs.WellFormed.{IsWellFormed}
-use Rattle.shape_plans.specs.Drawing.{plan_of}
-use Rattle.shape_plans.specs.Footprint.{refusal}
-use Rattle.shape_plans.proofs.Final.{fine-shape, inputs_fit, sound}
+use Rattle.schedule_compiler.specs.shapes.Drawing.{plan_of}
+use Rattle.schedule_compiler.specs.shapes.Footprint.{refusal}
+use Rattle.schedule_compiler.proofs.shapes.Final.{fine-shape, inputs_fit, sound}
 use Rattle.plan_agreement.specs.Agreement.{IsPlanFor}
 use Rattle.plan_agreement.specs.Witness.{AreWitnesses, IsListOf}
 

@@ -16,12 +16,12 @@ use Rattle.plan_core.specs.Draw.{held_cell}
 use Rattle.plan_core.specs.Plan.{Plan}
 use Rattle.plan_core.specs.Values.{value}
 use Rattle.plan_core.proofs.Values.{get_or-values}
-use Rattle.shape_plans.specs.Drawing.{drawing_of, plan_of}
-use Rattle.shape_plans.proofs.Final.{inputs_fit, result-cell, unheld-empty, value-held}
-use Rattle.fold_terms.specs.Terms.{Keeps, Solved, Table, input_at}
+use Rattle.schedule_compiler.specs.shapes.Drawing.{drawing_of, plan_of}
+use Rattle.schedule_compiler.proofs.shapes.Final.{inputs_fit, result-cell, unheld-empty, value-held}
+use Rattle.plan_terms.specs.terms.Terms.{Keeps, Solved, Table, input_at}
 use Rattle.plan_terms.specs.Cells.{AreCells, Suits}
 use Rattle.plan_terms.proofs.NextCell.{suits_before}
-use Rattle.fold_terms.proofs.Runs.{get-map}
+use Rattle.plan_terms.proofs.terms.Runs.{get-map}
 use Rattle.mark_judge.specs.Due.{mark_at}
 use Rattle.plan_agreement.specs.declared.comparing.Unlike.{Unlike}
 use Rattle.plan_agreement.specs.Agreement.{AreAlikeTo, AreMeantTo, AreNoResultsTo, IsAlike, IsAlikeAt, IsAlwaysMeant, IsFirstResult}

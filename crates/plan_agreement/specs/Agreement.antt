@@ -10,7 +10,7 @@ use Rattle.plan_core.specs.Plan.{Plan}
 use Rattle.plan_core.specs.Sound.{AreInputsOf, SoundPlan}
 use Rattle.plan_core.specs.Draw.{held_cell}
 use Rattle.plan_core.specs.Values.{value}
-use Rattle.shape_plans.specs.Drawing.{drawing_of}
+use Rattle.schedule_compiler.specs.shapes.Drawing.{drawing_of}
 use Rattle.plan_agreement.specs.declared.agreement.Agreement.{Agreement}
 use Rattle.plan_agreement.specs.declared.agreement.Agreement.TheVariants.{Same, Differs, Unknown}
 use Rattle.plan_agreement.specs.declared.comparing.Unlike.{Unlike}

@@ -2,21 +2,21 @@
 
 ghost use Rattle.std.specs.Prelude.{◌≡◌, ◌<◌, ◌^◌, true, None, IfOk, MatchOption, length};
 ghost use Rattle.coll_shape.specs.Meaning.{AreInputs};
-ghost use Rattle.shape_plans.specs.Drawing.{drawing_of, plan_of};
-ghost use Rattle.shape_plans.specs.Footprint.{refusal};
+ghost use Rattle.schedule_compiler.specs.shapes.Drawing.{drawing_of, plan_of};
+ghost use Rattle.schedule_compiler.specs.shapes.Footprint.{refusal};
 ghost use Rattle.plan_agreement.specs.Agreement.{Agrees, AreMeantTo, IsMeant, IsOpenAt, IsPlanFor};
 
 use crate::comparing::{Unlike, first_result, first_unlike};
 use crate::witness::witness;
 use coll_meaning::buffers_of;
 use coll_shape::{Inputs, Shape};
-use fold_terms::{TermFault, Terms};
 use given_lines::Mark;
 use plan_core::Plan;
+use plan_judge::values::values;
 use plan_terms::cell_places;
-use plan_values::values;
+use plan_terms::terms::{TermFault, Terms};
 use ptl_types::NoMemory;
-use shape_plans::{CompileFault, DrawnShape, drawn_shape};
+use schedule_compiler::shapes::{CompileFault, DrawnShape, drawn_shape};
 use std::alloc::Global;
 
 /// How many inputs are tried.

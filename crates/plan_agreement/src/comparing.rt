@@ -2,7 +2,7 @@
 
 ghost use Rattle.std.specs.Prelude.{◌≡◌, ◌<◌, true, false, MatchOption, length, take};
 ghost use Rattle.plan_core.specs.Draw.{held_cell};
-ghost use Rattle.shape_plans.specs.Drawing.{drawing_of};
+ghost use Rattle.schedule_compiler.specs.shapes.Drawing.{drawing_of};
 ghost use Rattle.plan_agreement.specs.Agreement.{AreAlikeTo, AreNoResultsTo, IsAlike, IsFirstResult, IsFirstUnlike};
 ghost use Rattle.plan_agreement.specs.Agreement.{IsPartAlike, IsResult, held_places};
 

@@ -7,8 +7,8 @@ ghost use Rattle.coll_shape.specs.Outline.{Outline, buffer_at, list_bytes};
 ghost use Rattle.coll_shape.specs.WellFormed.{IsWellFormed};
 ghost use Rattle.plan_core.specs.Plan.{Plan};
 ghost use Rattle.plan_judge.specs.Causes.{judged};
-ghost use Rattle.shape_plans.specs.Drawing.{plan_of};
-ghost use Rattle.shape_plans.specs.Footprint.{refusal};
+ghost use Rattle.schedule_compiler.specs.shapes.Drawing.{plan_of};
+ghost use Rattle.schedule_compiler.specs.shapes.Footprint.{refusal};
 ghost use Rattle.plan_agreement.specs.Agreement.{IsPlanFor};
 
 mod agreement;

@@ -31,14 +31,14 @@ use Rattle.worlds.specs.parts.Marks.{HasPlace, out_with, sent_out}
 use Rattle.worlds.proofs.parts.Gated.{scene_by}
 use Rattle.worlds.proofs.parts.Held.{held_here, held_out, set_capacity, set_here, set_size}
 use Rattle.worlds.proofs.parts.Sets.{at_set}
-use Rattle.choice_texts.specs.machine.Counted.{steps_due}
-use Rattle.choice_texts.specs.view.Install.{Slots, ct_of}
-use Rattle.choice_texts.specs.view.Install.Counter.{Go}
-use Rattle.choice_texts.specs.laws.Decided.{choice_system, count_from}
-use Rattle.choice_texts.specs.laws.Traffic.{IsMade as IsSent}
-use Rattle.choice_texts.proofs.laws.Agreement.{Agrees}
-use Rattle.choice_texts.proofs.laws.Ends.{history_le, lane_few}
-use Rattle.choice_texts.proofs.laws.Resting.{agrees_reached}
+use Rattle.plan_choice.specs.texts.machine.Counted.{steps_due}
+use Rattle.plan_choice.specs.texts.view.Install.{Slots, ct_of}
+use Rattle.plan_choice.specs.texts.view.Install.Counter.{Go}
+use Rattle.plan_choice.specs.texts.laws.Decided.{choice_system, count_from}
+use Rattle.plan_choice.specs.texts.laws.Traffic.{IsMade as IsSent}
+use Rattle.plan_choice.proofs.texts.laws.Agreement.{Agrees}
+use Rattle.plan_choice.proofs.texts.laws.Ends.{history_le, lane_few}
+use Rattle.plan_choice.proofs.texts.laws.Resting.{agrees_reached}
 use Rattle.plan_choice.specs.ranks.Seats.{ChoiceRankState, slots_in}
 use Rattle.plan_choice.proofs.ranks.Installed.{slots_by}
 use Rattle.plan_choice.specs.Acts.{made_at, no_seated, seat_at}

@@ -41,7 +41,7 @@ use Rattle.worlds.specs.parts.Marks.{delivery_count, lane_has}
 use Rattle.worlds.proofs.parts.Gated.{scene_by}
 use Rattle.worlds.proofs.parts.Placed.{lane_in}
 use Rattle.worlds.proofs.Opened.{none-held}
-use Rattle.choice_texts.specs.laws.Decided.{IsInRange}
+use Rattle.plan_choice.specs.texts.laws.Decided.{IsInRange}
 use Rattle.plan_choice.specs.ranks.Seats.{IsInstalled, ChoiceRankState}
 use Rattle.plan_choice.specs.Acts.{firing_count, no_seated, seat_at, start_count}
 use Rattle.plan_choice.specs.Laying.{laid_lane}

@@ -17,12 +17,12 @@ use Rattle.cuts.specs.windows.Places.{fires_at}
 use Rattle.cuts.specs.windows.Possible.{finds_room, is_possible, possible_steps}
 use Rattle.worlds.proofs.Listed.{IsOffered, offered, ready_is}
 use Rattle.worlds.proofs.Steps.{filter-all}
-use Rattle.choice_texts.specs.view.Install.{Slots}
-use Rattle.choice_texts.specs.laws.Decided.{IsInRange, choice_system}
-use Rattle.choice_texts.proofs.laws.Agreement.{Agrees}
-use Rattle.choice_texts.proofs.laws.Ends.{lane_few}
-use Rattle.choice_texts.proofs.laws.Resting.{agrees_reached}
-use Rattle.choice_texts.proofs.laws.Traffic.{firing_makes}
+use Rattle.plan_choice.specs.texts.view.Install.{Slots}
+use Rattle.plan_choice.specs.texts.laws.Decided.{IsInRange, choice_system}
+use Rattle.plan_choice.proofs.texts.laws.Agreement.{Agrees}
+use Rattle.plan_choice.proofs.texts.laws.Ends.{lane_few}
+use Rattle.plan_choice.proofs.texts.laws.Resting.{agrees_reached}
+use Rattle.plan_choice.proofs.texts.laws.Traffic.{firing_makes}
 
 module _ (n : ℕ) (ks : List ChoiceKind) (slots : ℕ → Slots) (in_range : IsInRange n ks) (at_most : length ks ≤ 64) (z : Scene)
     (reached : IsReached (choice_system n ks slots) z.world z.held) where

@@ -15,8 +15,8 @@ use Rattle.worlds.proofs.parts.Sets.{sum_moves}
 use Rattle.worlds.specs.Runs.{IsRun, Running, chosen_run, chosen_step}
 use Rattle.worlds.specs.Runs.IsRun.{Stepped}
 use Rattle.worlds.proofs.Stepping.{next_chosen, prefix_on}
-use Rattle.choice_texts.specs.machine.Counted.{steps_due}
-use Rattle.choice_texts.proofs.laws.Ends.{history_le}
+use Rattle.plan_choice.specs.texts.machine.Counted.{steps_due}
+use Rattle.plan_choice.proofs.texts.laws.Ends.{history_le}
 use Rattle.plan_choice.specs.World.{ChoiceState, IsLater, IsStanding, histories_in, ranks_in, scene_in, steps_in}
 use Rattle.plan_choice.proofs.Moving.{moment_in, slots_at}
 use Rattle.plan_choice.proofs.Standing.{possible_in}

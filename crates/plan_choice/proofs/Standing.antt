@@ -22,11 +22,11 @@ use Rattle.worlds.specs.parts.Layout.{held_in}
 use Rattle.worlds.proofs.parts.Placed.{place_told, ranks_told}
 use Rattle.worlds.proofs.Numbered.{delivery_numbered, firing_numbered, start_numbered, total_of}
 use Rattle.worlds.proofs.Places.{lane_may_be, one_delivery, one_start}
-use Rattle.choice_texts.specs.machine.Choices.{choice_at}
-use Rattle.choice_texts.specs.view.Install.{ct_of}
-use Rattle.choice_texts.specs.view.Install.Counter.{Done}
-use Rattle.choice_texts.specs.laws.Decided.{IsDecided, result_of}
-use Rattle.choice_texts.proofs.laws.Resting.{rest_decided, right_same}
+use Rattle.plan_choice.specs.texts.machine.Choices.{choice_at}
+use Rattle.plan_choice.specs.texts.view.Install.{ct_of}
+use Rattle.plan_choice.specs.texts.view.Install.Counter.{Done}
+use Rattle.plan_choice.specs.texts.laws.Decided.{IsDecided, result_of}
+use Rattle.plan_choice.proofs.texts.laws.Resting.{rest_decided, right_same}
 use Rattle.plan_choice.specs.ranks.Seats.{ChoiceRankState}
 use Rattle.plan_choice.specs.Acts.{seat_at}
 use Rattle.plan_choice.specs.World.{

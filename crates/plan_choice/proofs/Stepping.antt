@@ -26,9 +26,9 @@ use Rattle.worlds.specs.parts.Marks.{out_with, popped, receiver}
 use Rattle.worlds.proofs.parts.Gated.{scene_by}
 use Rattle.worlds.proofs.parts.Held.{held_here, held_set, set_capacity, set_other, set_size}
 use Rattle.worlds.proofs.Listed.{offered, ready_is}
-use Rattle.choice_texts.specs.machine.Counted.{steps_due}
-use Rattle.choice_texts.specs.laws.Traffic.{IsMade as IsSent}
-use Rattle.choice_texts.proofs.laws.Traffic.{comes, firing_makes, receipt_makes}
+use Rattle.plan_choice.specs.texts.machine.Counted.{steps_due}
+use Rattle.plan_choice.specs.texts.laws.Traffic.{IsMade as IsSent}
+use Rattle.plan_choice.proofs.texts.laws.Traffic.{comes, firing_makes, receipt_makes}
 use Rattle.plan_choice.specs.ranks.Seats.{ChoiceRankState, fired_seat, received_seat, started_seat}
 use Rattle.plan_choice.specs.Acts.{AreSized, IsFirst, IsStepped, MayMake, lane_marks, made_at, marked, seat_at, with_lanes}
 use Rattle.plan_choice.specs.World.{AreCounted, AreFields, ChoiceState, IsLater, histories_in, ranks_in, scene_in, state_of, steps_in}

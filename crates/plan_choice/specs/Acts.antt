@@ -13,7 +13,7 @@ use Rattle.cuts.specs.declared.orders.Step.{Step}
 use Rattle.cuts.specs.declared.orders.Step.TheVariants.{Deliver, Fire, Start}
 use Rattle.cuts.specs.windows.Places.{lane_place}
 use Rattle.rank_node.specs.Handles.{no_handles}
-use Rattle.choice_texts.specs.view.Install.{limits_of}
+use Rattle.plan_choice.specs.texts.view.Install.{limits_of}
 use Rattle.worlds.specs.declared.parts.traffic.Traffic.{Traffic}
 use Rattle.worlds.specs.parts.Layout.{lane_at}
 use Rattle.worlds.specs.parts.Marks.{HasPlace, delivery_mark, out_with, popped, receiver}

@@ -2,7 +2,7 @@
 use Rattle.std.specs.Prelude.{ℕ, [], if◌then◌else◌}
 use Rattle.ptl_types.specs.declared.headers.Lane.{Lane}
 use Rattle.pair_wires.specs.Lanes.{Plain, plain}
-use Rattle.choice_texts.specs.laws.Decided.{is_choice_lane}
+use Rattle.plan_choice.specs.texts.laws.Decided.{is_choice_lane}
 
 -- empty, with room for a message of each step of the text where it is used
 abbrev pub laid_lane : ℕ → ℕ → ℕ → Lane → Plain

@@ -16,11 +16,11 @@ use Rattle.cuts.specs.windows.Places.{lane_place}
 use Rattle.worlds.specs.declared.parts.traffic.Traffic.{Traffic}
 use Rattle.worlds.specs.parts.Layout.{held_in, lane_at}
 use Rattle.worlds.specs.parts.Marks.{delivery_count}
-use Rattle.choice_texts.specs.machine.Choices.{IsRight, choice_at}
-use Rattle.choice_texts.specs.machine.Counted.{steps_due}
-use Rattle.choice_texts.specs.view.Install.{ct_of}
-use Rattle.choice_texts.specs.view.Install.Counter.{Done, Go}
-use Rattle.choice_texts.specs.laws.Decided.{IsInRange, choice_system, is_choice_lane, result_of}
+use Rattle.plan_choice.specs.texts.machine.Choices.{IsRight, choice_at}
+use Rattle.plan_choice.specs.texts.machine.Counted.{steps_due}
+use Rattle.plan_choice.specs.texts.view.Install.{ct_of}
+use Rattle.plan_choice.specs.texts.view.Install.Counter.{Done, Go}
+use Rattle.plan_choice.specs.texts.laws.Decided.{IsInRange, choice_system, is_choice_lane, result_of}
 use Rattle.plan_choice.specs.ranks.Seats.{ChoiceRankState, go_of, slots_in}
 use Rattle.plan_choice.specs.Acts.{firing_count, seat_at, start_count}
 

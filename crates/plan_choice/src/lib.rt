@@ -6,6 +6,7 @@ mod acts;
 mod laws;
 mod laying;
 pub mod ranks;
+pub mod texts;
 mod world;
 
 pub use cuts::orders::Step;

@@ -16,6 +16,7 @@ mod judging;
 mod kinds;
 mod links;
 mod overlap;
+pub mod values;
 mod whole;
 
 pub use flaw::{CellCause, Flaw, LinkCause, PlanCause};

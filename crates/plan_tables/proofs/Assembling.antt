@@ -5,10 +5,10 @@ use Rattle.std.proofs.lemmas.List.{length-map, map-append}
 use Rattle.ptl_types.specs.declared.steps.Call.{Call}
 use Rattle.ptl_types.specs.declared.steps.Call.TheVariants.{PtAlloc, CtDone, CtCell, MdBind}
 use Rattle.plan_core.specs.Plan.{Plan, link, own, out_links}
-use Rattle.plan_calls.specs.RankOps.{rank_ops}
-use Rattle.plan_calls.specs.RankOps.RankOp.{ForLink, ForDone}
-use Rattle.plan_calls.specs.Areas.{areas_length, classes, has_class, links_to, longest, region_length}
-use Rattle.plan_calls.specs.Calls.{area_call, prepare_calls, trigger}
+use Rattle.plan_core.specs.calls.RankOps.{rank_ops}
+use Rattle.plan_core.specs.calls.RankOps.RankOp.{ForLink, ForDone}
+use Rattle.plan_core.specs.calls.Areas.{areas_length, classes, has_class, links_to, longest, region_length}
+use Rattle.plan_core.specs.calls.Calls.{area_call, prepare_calls, trigger}
 use Rattle.plan_tables.proofs.Indexed.{at_most-filtered}
 
 map-twice : {X Y Z : Type 0} (g : Y → Z) (f : X → Y) (xs : List X) → map g (map f xs) ≡ map (λ x. g (f x)) xs

@@ -15,11 +15,11 @@ use Rattle.plan_core.specs.declared.LinkKind.TheVariants.{Put, Atomic, Bump}
 use Rattle.plan_core.specs.Plan.{Plan, cell, link, from_to, is_bump}
 use Rattle.plan_tables.specs.Rising.{of_key}
 use Rattle.ptl_types.specs.declared.steps.Call.TheVariants.{Overflow}
-use Rattle.plan_calls.specs.Bits.{bits_above, class_of, op_number, type_number}
-use Rattle.plan_calls.specs.Calls.{area_call}
+use Rattle.plan_core.specs.calls.Bits.{bits_above, class_of, op_number, type_number}
+use Rattle.plan_core.specs.calls.Calls.{area_call}
 use Rattle.plan_tables.proofs.PerClass.{counted_call}
-use Rattle.plan_calls.specs.Areas.{area_length, area_start, areas_length, classes, comes_to, has_class, is_class, link_class, links_to}
-use Rattle.plan_calls.specs.Areas.{region_length}
+use Rattle.plan_core.specs.calls.Areas.{area_length, area_start, areas_length, classes, comes_to, has_class, is_class, link_class, links_to}
+use Rattle.plan_core.specs.calls.Areas.{region_length}
 use Rattle.plan_tables.specs.Tables.{arrival_key, key_of, to_rank}
 use Rattle.plan_tables.specs.AreaTables.{area_bytes, area_links, counted_classes, counted_start, message_key}
 

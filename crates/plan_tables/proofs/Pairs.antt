@@ -6,7 +6,7 @@ use Rattle.std.proofs.lemmas.Bool.{ltb-true, ltb-false, ne_eqb}
 use Rattle.plan_core.specs.declared.LinkKind.{LinkKind}
 use Rattle.plan_core.specs.declared.LinkKind.TheVariants.{Put, Atomic, Bump}
 use Rattle.plan_core.specs.Plan.{Plan, is_bump, link}
-use Rattle.plan_calls.specs.Lanes.{goes_along, lane_bytes, lane_links}
+use Rattle.plan_core.specs.calls.Lanes.{goes_along, lane_bytes, lane_links}
 use Rattle.plan_tables.specs.Rising.{of_key}
 use Rattle.plan_tables.specs.Tables.{IsTabled, from_rank, key_of, lane_counts, lane_key, lane_sums, link_length, to_rank}
 use Rattle.plan_tables.proofs.ByClass.{clash, filter-alike}

@@ -8,7 +8,7 @@ use Rattle.plan_core.proofs.Drawing.{from_to-more}
 use Rattle.plan_tables.specs.Rising.{of_key}
 use Rattle.ptl_types.specs.declared.steps.Call.{Call}
 use Rattle.ptl_types.specs.declared.steps.Call.TheVariants.{Overflow}
-use Rattle.plan_calls.specs.Bits.{bits_above}
+use Rattle.plan_core.specs.calls.Bits.{bits_above}
 use Rattle.plan_tables.specs.AreaTables.{area_bytes, area_counts, area_links, area_sums, counted_start, message_key}
 use Rattle.plan_tables.specs.Tables.{link_length}
 use Rattle.plan_tables.proofs.Passes.{get-row, upto-more}

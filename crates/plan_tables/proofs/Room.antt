@@ -7,7 +7,7 @@ use Rattle.plan_core.specs.declared.Link.{Link}
 use Rattle.plan_core.specs.Plan.{Plan, from_to, link, no_cell, no_link}
 use Rattle.plan_core.specs.Places.{cell_length}
 use Rattle.plan_core.specs.Sound.{SoundPlan}
-use Rattle.plan_calls.specs.Calls.{cell_start}
+use Rattle.plan_core.specs.calls.Calls.{cell_start}
 use Rattle.plan_tables.specs.Tables.{IsTabled, rank_of, link_length}
 use Rattle.plan_tables.specs.AreaTables.{counted_start, message_key}
 use Rattle.plan_tables.proofs.Sums.{at_most-bytes, numbered, start-own, sum-filter_le}

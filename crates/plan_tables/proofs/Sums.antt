@@ -13,7 +13,7 @@ use Rattle.plan_core.proofs.Links.{from_to-In}
 use Rattle.plan_core.proofs.Lists.{In-filter_cases}
 use Rattle.plan_core.proofs.Drawing.{length-row}
 use Rattle.plan_tables.specs.Rising.{of_key}
-use Rattle.plan_calls.specs.Calls.{cell_start}
+use Rattle.plan_core.specs.calls.Calls.{cell_start}
 use Rattle.plan_tables.specs.Tables.{rank_of}
 use Rattle.plan_tables.proofs.Passes.{at_most-of_key, get-row, keyed-more, keyed-out, upto-in}
 

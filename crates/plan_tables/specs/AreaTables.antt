@@ -1,7 +1,7 @@
 -- The tables of all areas, by rank and then by class: place r * 81 + k is that of class k at rank r.
 use Rattle.std.specs.Prelude.{ℕ, nat_lt, ◌+◌, ◌*◌, List, length, map, filter, sum_by}
 use Rattle.plan_core.specs.Plan.{Plan, link, from_to}
-use Rattle.plan_calls.specs.Areas.{link_class, region_length}
+use Rattle.plan_core.specs.calls.Areas.{link_class, region_length}
 use Rattle.plan_tables.specs.Rising.{of_key}
 use Rattle.plan_tables.specs.Tables.{key_of, link_length, to_rank}
 

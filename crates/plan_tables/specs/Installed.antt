@@ -3,10 +3,10 @@ use Rattle.std.specs.Prelude.{ℕ, ◌+◌, List}
 use Rattle.ptl_types.specs.declared.calls.Limits.{Limits}
 use Rattle.ptl_types.specs.declared.steps.Call.{Call}
 use Rattle.plan_core.specs.Plan.{Plan, own}
-use Rattle.plan_calls.specs.RankOps.{done_threshold}
-use Rattle.plan_calls.specs.Areas.{areas_length, longest_to, region_length}
-use Rattle.plan_calls.specs.Calls.{late_calls, prepare_calls}
-use Rattle.plan_calls.specs.Limits.{limits_for}
+use Rattle.plan_core.specs.calls.RankOps.{done_threshold}
+use Rattle.plan_core.specs.calls.Areas.{areas_length, longest_to, region_length}
+use Rattle.plan_core.specs.calls.Calls.{late_calls, prepare_calls}
+use Rattle.plan_core.specs.calls.Limits.{limits_for}
 
 -- a rank's own cells, the calls that prepare and start it, the limits of its interface, its done threshold, the bytes of its region,
 -- and the longest message that comes to it

@@ -1,8 +1,8 @@
 -- The tables over a whole plan.
 use Rattle.std.specs.Prelude.{◌≡◌, map}
 use Rattle.plan_core.specs.Plan.{Plan, all_cells, own, out_links}
-use Rattle.plan_calls.specs.Areas.{links_to, region_length}
-use Rattle.plan_calls.specs.Calls.{cell_start}
+use Rattle.plan_core.specs.calls.Areas.{links_to, region_length}
+use Rattle.plan_core.specs.calls.Calls.{cell_start}
 use Rattle.plan_tables.specs.declared.index.Index.{Index}
 use Rattle.plan_tables.specs.declared.tables.Tables.{Tables}
 use Rattle.plan_tables.specs.Tables.{all_ranks, lane_counts, lane_sums}

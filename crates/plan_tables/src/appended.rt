@@ -3,10 +3,10 @@
 ghost use Rattle.std.specs.Prelude.{ℕ, ◌≡◌, ◌<◌, ◌+◌, ◌^◌, ◌-◌, ◌*◌, ◌++◌, ◌∷◌, [], IfOk, get_or, length, map, nat_lt, if◌then◌else◌};
 ghost use Rattle.ptl_types.specs.declared.steps.Call.TheVariants.{CtCell, Overflow};
 ghost use Rattle.plan_core.specs.Plan.{all_cells, cell};
-ghost use Rattle.plan_calls.specs.RankOps.RankOp.{ForLink, ForDone};
-ghost use Rattle.plan_calls.specs.Areas.{areas_length, classes, region_length};
-ghost use Rattle.plan_calls.specs.Bits.{bits_above};
-ghost use Rattle.plan_calls.specs.Calls.{append_call, area_call, cell_start, trigger};
+ghost use Rattle.plan_core.specs.calls.RankOps.RankOp.{ForLink, ForDone};
+ghost use Rattle.plan_core.specs.calls.Areas.{areas_length, classes, region_length};
+ghost use Rattle.plan_core.specs.calls.Bits.{bits_above};
+ghost use Rattle.plan_core.specs.calls.Calls.{append_call, area_call, cell_start, trigger};
 ghost use Rattle.plan_tables.specs.Tables.{IsTabled};
 ghost use Rattle.plan_tables.specs.AreaTables.{area_counts, area_sums};
 

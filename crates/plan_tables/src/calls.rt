@@ -2,9 +2,9 @@
 
 ghost use Rattle.std.specs.Prelude.{◌≡◌, ◌<◌, ◌≤◌, ◌+◌, ◌*◌, ◌^◌, ◌++◌, ◌∷◌, [], IfOk, length, map};
 ghost use Rattle.plan_core.specs.Plan.{all_cells, cell, link};
-ghost use Rattle.plan_calls.specs.RankOps.RankOp.{ForLink, ForDone};
-ghost use Rattle.plan_calls.specs.Bits.{bits_above, cell_bits, class_of, op_number, type_number};
-ghost use Rattle.plan_calls.specs.Calls.{append_call, cell_start, send_act, trigger};
+ghost use Rattle.plan_core.specs.calls.RankOps.RankOp.{ForLink, ForDone};
+ghost use Rattle.plan_core.specs.calls.Bits.{bits_above, cell_bits, class_of, op_number, type_number};
+ghost use Rattle.plan_core.specs.calls.Calls.{append_call, cell_start, send_act, trigger};
 ghost use Rattle.plan_tables.specs.Tables.{IsTabled};
 
 use crate::reading::{from_rank, to_rank};

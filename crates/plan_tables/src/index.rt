@@ -2,7 +2,7 @@
 
 ghost use Rattle.std.specs.Prelude.{ℕ, ◌≡◌, ◌<◌, ◌≤◌, IfOk, get_or, length};
 ghost use Rattle.plan_core.specs.Plan.{cell, out_links, own};
-ghost use Rattle.plan_calls.specs.Areas.{links_to, region_length};
+ghost use Rattle.plan_core.specs.calls.Areas.{links_to, region_length};
 ghost use Rattle.plan_tables.specs.Tables.{IsTabled};
 ghost use Rattle.plan_tables.specs.Ranks.{IsIndex};
 

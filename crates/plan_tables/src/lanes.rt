@@ -2,7 +2,7 @@
 
 ghost use Rattle.std.specs.Prelude.{◌≡◌, ◌<◌, ◌+◌, ◌*◌, IfOk, length};
 ghost use Rattle.ptl_types.specs.declared.headers.Lane.TheVariants.{Request};
-ghost use Rattle.plan_calls.specs.Lanes.{lane_bytes, lane_messages};
+ghost use Rattle.plan_core.specs.calls.Lanes.{lane_bytes, lane_messages};
 ghost use Rattle.plan_tables.specs.Tables.{IsTabled, lane_counts, lane_sums};
 
 use crate::all_areas::tally;

@@ -2,7 +2,7 @@
 
 ghost use Rattle.std.specs.Prelude.{◌≡◌, ◌<◌, ◌++◌, ◌∷◌, [], nat_lt, if◌then◌else◌, IfOk, get_or, length, map, set};
 ghost use Rattle.plan_core.specs.Plan.{own, out_links};
-ghost use Rattle.plan_calls.specs.Areas.{links_to};
+ghost use Rattle.plan_core.specs.calls.Areas.{links_to};
 ghost use Rattle.plan_tables.specs.Tables.{IsTabled, all_ranks, arrival_key};
 
 use crate::by_rank::ByRank;

@@ -2,10 +2,10 @@
 
 ghost use Rattle.std.specs.Prelude.{ℕ, ◌≡◌, ◌<◌, ◌≤◌, ◌+◌, ◌*◌, [], IfOk, count_by, get_or, length, max, if◌then◌else◌};
 ghost use Rattle.plan_core.specs.Plan.{own as own_of, out_links};
-ghost use Rattle.plan_calls.specs.RankOps.{done_threshold, is_message};
-ghost use Rattle.plan_calls.specs.Areas.{areas_length, classes, longest as longest_of, region_length};
-ghost use Rattle.plan_calls.specs.Calls.{late_calls, prepare_calls};
-ghost use Rattle.plan_calls.specs.Limits.{limits_for};
+ghost use Rattle.plan_core.specs.calls.RankOps.{done_threshold, is_message};
+ghost use Rattle.plan_core.specs.calls.Areas.{areas_length, classes, longest as longest_of, region_length};
+ghost use Rattle.plan_core.specs.calls.Calls.{late_calls, prepare_calls};
+ghost use Rattle.plan_core.specs.calls.Limits.{limits_for};
 ghost use Rattle.plan_tables.specs.Tables.{IsTabled};
 ghost use Rattle.plan_tables.specs.Installed.{installed};
 ghost use Rattle.plan_tables.specs.Ranks.{IsIndex};

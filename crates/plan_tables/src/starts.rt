@@ -2,8 +2,8 @@
 
 ghost use Rattle.std.specs.Prelude.{◌≡◌, ◌<◌, ◌+◌, ◌^◌, ◌++◌, ◌∷◌, [], IfOk, get_or, length, map, set};
 ghost use Rattle.plan_core.specs.Plan.{all_cells, cell};
-ghost use Rattle.plan_calls.specs.Areas.{region_length};
-ghost use Rattle.plan_calls.specs.Calls.{cell_start};
+ghost use Rattle.plan_core.specs.calls.Areas.{region_length};
+ghost use Rattle.plan_core.specs.calls.Calls.{cell_start};
 ghost use Rattle.plan_tables.specs.Tables.{IsTabled, all_ranks, rank_of};
 
 use crate::reading::rank_of;

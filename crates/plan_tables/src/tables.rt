@@ -1,9 +1,9 @@
 //! All tables of a plan together.
 
 ghost use Rattle.std.specs.Prelude.{◌≡◌, ◌<◌, ◌≤◌, IfOk, length};
-ghost use Rattle.plan_calls.specs.Areas.{area_length};
-ghost use Rattle.plan_calls.specs.Calls.{cell_start};
-ghost use Rattle.plan_calls.specs.RankOps.{done_threshold};
+ghost use Rattle.plan_core.specs.calls.Areas.{area_length};
+ghost use Rattle.plan_core.specs.calls.Calls.{cell_start};
+ghost use Rattle.plan_core.specs.calls.RankOps.{done_threshold};
 ghost use Rattle.plan_tables.specs.Tables.{IsTabled};
 ghost use Rattle.plan_tables.specs.Installed.{installed};
 ghost use Rattle.plan_tables.specs.Ranks.{IsTables};

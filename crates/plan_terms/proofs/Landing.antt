@@ -17,13 +17,13 @@ use Rattle.plan_core.specs.declared.Link.{Link}
 use Rattle.plan_core.specs.declared.LinkKind.TheVariants.{Atomic}
 use Rattle.plan_core.specs.Plan.{Plan, cell, link}
 use Rattle.plan_core.specs.Values.{joined, land, land_all, land_as}
-use Rattle.plan_values.proofs.Landed.{atomic, ends, goes_on}
-use Rattle.fold_terms.specs.declared.term.Member.{Member}
-use Rattle.fold_terms.specs.Terms.{IsSolution, Keeps, Lists, Table, fold_of, word_at}
-use Rattle.fold_terms.specs.Folds.{AreCombined, AreFoldsBytes, IsCombined, IsWordOf, folds_bytes}
+use Rattle.plan_judge.proofs.values.Landed.{atomic, ends, goes_on}
+use Rattle.plan_terms.specs.declared.terms.term.Member.{Member}
+use Rattle.plan_terms.specs.terms.Terms.{IsSolution, Keeps, Lists, Table, fold_of, word_at}
+use Rattle.plan_terms.specs.terms.Folds.{AreCombined, AreFoldsBytes, IsCombined, IsWordOf, folds_bytes}
 use Rattle.plan_terms.specs.Cells.{ComesTo, carried_from}
-use Rattle.fold_terms.proofs.Elements.{folded_elements, length_folds}
-use Rattle.fold_terms.proofs.Runs.{get-map, map-part}
+use Rattle.plan_terms.proofs.terms.Elements.{folded_elements, length_folds}
+use Rattle.plan_terms.proofs.terms.Runs.{get-map, map-part}
 
 -- ---- folds, the first i of them
 pub record AreFoldedTo (t : Table) (o : AtomicOp) (ty : ElemType) (old new : List (List Member)) (places : List ℕ) (i : ℕ) : Type 0 where

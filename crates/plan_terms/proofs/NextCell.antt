@@ -12,12 +12,12 @@ use Rattle.plan_core.specs.declared.Cell.{Cell}
 use Rattle.plan_core.specs.Plan.{Plan, cell, in_links, link}
 use Rattle.plan_core.specs.Values.{blank, initial, input_bytes, is_input, land_all, values}
 use Rattle.plan_tables.proofs.Indexed.{all-below, all-pass}
-use Rattle.plan_values.proofs.Beginning.{is_there, of_blank, of_input}
-use Rattle.plan_values.proofs.CellByCell as cells
-use Rattle.fold_terms.specs.declared.term.Member.{Member}
-use Rattle.fold_terms.specs.Terms.{IsSolution, Keeps, Lists, Table, input_at}
-use Rattle.fold_terms.specs.Folds.{folds_bytes}
-use Rattle.fold_terms.proofs.Elements.{none_folds}
+use Rattle.plan_judge.proofs.values.Beginning.{is_there, of_blank, of_input}
+use Rattle.plan_judge.proofs.values.CellByCell as cells
+use Rattle.plan_terms.specs.declared.terms.term.Member.{Member}
+use Rattle.plan_terms.specs.terms.Terms.{IsSolution, Keeps, Lists, Table, input_at}
+use Rattle.plan_terms.specs.terms.Folds.{folds_bytes}
+use Rattle.plan_terms.proofs.terms.Elements.{none_folds}
 use Rattle.plan_terms.specs.Cells.{AreCells, AreInitial, AreZeros, ComesTo, IsNext, Suits, carried_from}
 
 -- ---- the links

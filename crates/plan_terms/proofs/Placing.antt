@@ -8,10 +8,10 @@ use Rattle.plan_core.specs.declared.Cell.{Cell}
 use Rattle.plan_core.specs.declared.Link.{Link}
 use Rattle.plan_core.specs.declared.LinkKind.TheVariants.{Put}
 use Rattle.plan_core.specs.Values.{land_as}
-use Rattle.fold_terms.specs.declared.term.Making.TheVariants.{Fold}
-use Rattle.fold_terms.specs.Terms.{IsSolution, Lists, Table, input_at}
-use Rattle.fold_terms.specs.Folds.{IsPlaceOf}
-use Rattle.fold_terms.proofs.Runs.{map-replicate, map-written}
+use Rattle.plan_terms.specs.declared.terms.term.Making.TheVariants.{Fold}
+use Rattle.plan_terms.specs.terms.Terms.{IsSolution, Lists, Table, input_at}
+use Rattle.plan_terms.specs.terms.Folds.{IsPlaceOf}
+use Rattle.plan_terms.proofs.terms.Runs.{map-replicate, map-written}
 use Rattle.plan_terms.specs.Cells.{AreZeros}
 
 -- a put writes what it carries

@@ -3,7 +3,7 @@ use Rattle.std.specs.Prelude.{ℕ, ◌<◌, ◌≡◌, List, [], length, map, ge
 use Rattle.plan_core.specs.Plan.{Plan, link}
 use Rattle.plan_core.specs.Sound.{AreInputsOf}
 use Rattle.plan_core.specs.Values.{carried_of, initial, next_value, values}
-use Rattle.fold_terms.specs.Terms.{IsSolution, Lists, Table}
+use Rattle.plan_terms.specs.terms.Terms.{IsSolution, Lists, Table}
 
 -- places of so many zeros
 abbrev pub AreZeros : Table → List ℕ → ℕ → Type 0

@@ -5,13 +5,13 @@ ghost use Rattle.std.specs.Prelude.{nat_le, nat_lt};
 ghost use Rattle.std.specs.Prelude.{true, false};
 ghost use Rattle.plan_core.specs.Plan.{all_cells, cell, in_links};
 ghost use Rattle.plan_core.specs.Values.{is_input, land_all};
-ghost use Rattle.fold_terms.specs.Terms.{Keeps, Lists};
+ghost use Rattle.plan_terms.specs.terms.Terms.{Keeps, Lists};
 ghost use Rattle.plan_terms.specs.Cells.{AreCells, AreInitial, ComesTo, IsNext, Suits, carried_from};
 
 use crate::folding::{fold_places, land_atomics, none_yet};
 use crate::next_cell::NextCell;
 use crate::places::{Places, input, land, zeros};
-use fold_terms::{TermFault, Terms};
+use crate::terms::{TermFault, Terms};
 use plan_core::reading::{cell_at, cell_count, link_at};
 use plan_core::{Cell, Plan};
 use plan_judge::links_by_target;

@@ -5,13 +5,13 @@ ghost use Rattle.ptl_types.specs.Elements.{part};
 ghost use Rattle.ptl_types.specs.Operations.{bytes_of};
 ghost use Rattle.plan_core.specs.Plan.{cell};
 ghost use Rattle.plan_core.specs.Values.{land_all, land_as};
-ghost use Rattle.fold_terms.specs.Terms.{IsSolution, Keeps, Lists};
-ghost use Rattle.fold_terms.specs.Folds.{AreCombined, folds_bytes};
+ghost use Rattle.plan_terms.specs.terms.Terms.{IsSolution, Keeps, Lists};
+ghost use Rattle.plan_terms.specs.terms.Folds.{AreCombined, folds_bytes};
 ghost use Rattle.plan_terms.specs.Cells.{ComesTo, carried_from};
 
 use crate::next_cell::NextCell;
 use crate::places::{Places, carried, is_within, push_run};
-use fold_terms::{Members, TermFault, Terms};
+use crate::terms::{Members, TermFault, Terms};
 use plan_core::reading::{cell_at, link_at};
 use plan_core::{Cell, Link, LinkKind, Plan};
 use ptl_types::{AtomicOp, ElemType};

@@ -6,6 +6,7 @@ mod evaluating;
 mod folding;
 mod next_cell;
 mod places;
+pub mod terms;
 
 pub use evaluating::{CellPlaces, cell_places};
 pub use places::Places;

@@ -5,10 +5,10 @@ ghost use Rattle.number_lists.specs.Numbers.{from_to};
 ghost use Rattle.ptl_types.specs.Elements.{part, written};
 ghost use Rattle.plan_core.specs.declared.Cell.{Cell};
 ghost use Rattle.plan_core.specs.Values.{land_as};
-ghost use Rattle.fold_terms.specs.Terms.{IsSolution, Keeps, Lists, input_at};
+ghost use Rattle.plan_terms.specs.terms.Terms.{IsSolution, Keeps, Lists, input_at};
 ghost use Rattle.plan_terms.specs.Cells.{AreZeros};
 
-use fold_terms::{Making, TermFault, Terms};
+use crate::terms::{Making, TermFault, Terms};
 use plan_core::{Link, LinkKind};
 use ptl_types::{AtomicOp, ElemType};
 use std::alloc::{AllocError, Global};
@@ -38,7 +38,7 @@ impl Places {
 }
 
 /// Adds so many places that follow one another.
-#[tactic(auto, using(fold_terms::proofs::Runs::run_more))]
+#[tactic(auto, using(crate::proofs::terms::Runs::run_more))]
 pub(crate) fn push_run(places: &mut Vec<u32>, first: u32, count: u32) -> Result<(), TermFault>
     ensures { OnOk result (places.new.items ≡ places.old.items ++ from_to first count) }
 {

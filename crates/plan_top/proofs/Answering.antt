@@ -10,13 +10,13 @@ use Rattle.coll_lang.specs.declared.fault.Refusal.TheVariants.{TooLong}
 use Rattle.coll_lang.specs.declared.whole.TheConstants.{LONGEST_TEXT}
 use Rattle.coll_lang.specs.Language.{read}
 use Rattle.coll_lang.specs.Program.{Chosen, Program}
-use Rattle.shape_plans.specs.Footprint.{Refused as Excessive, refusal}
+use Rattle.schedule_compiler.specs.shapes.Footprint.{Refused as Excessive, refusal}
 use Rattle.given_verdicts.specs.declared.answer.GivenAnswer.{GivenAnswer}
 use Rattle.given_verdicts.specs.declared.answer.GivenAnswer.TheVariants as answers
 use Rattle.given_verdicts.specs.Answers.{answer_of}
 use Rattle.given_verdicts.proofs.Answering.{long_judged, long_text}
 use Rattle.given_verdicts.specs.declared.answer.Judged.{Judged}
-use Rattle.general_verdicts.specs.General.{IsAnsweredBy, IsGeneralAnswer}
+use Rattle.given_verdicts.specs.general.General.{IsAnsweredBy, IsGeneralAnswer}
 use Rattle.verdict_laws.specs.Verdicts.{IsRightForAll, IsRightGiven}
 use Rattle.run_text.specs.declared.status.Status.{Status}
 use Rattle.run_text.specs.declared.status.Status.TheVariants.{Done, Usage, Refused, ReadFault, WriteFault, NoMemory}

@@ -2,7 +2,7 @@
 use Rattle.std.proofs.Common.{◌≡◌, ℕ, Option, Some, None, refl, sym, subst}
 use Rattle.port_io.specs.Ends.{Outflow}
 use Rattle.coll_shape.specs.Outline.{Outline}
-use Rattle.shape_plans.specs.Footprint.{Excess, Refused as Excessive}
+use Rattle.schedule_compiler.specs.shapes.Footprint.{Excess, Refused as Excessive}
 use Rattle.run_text.specs.declared.status.Status.{Status}
 use Rattle.run_text.specs.declared.status.Status.TheVariants.{NoMemory}
 use Rattle.run_text.specs.Ending.{Written, done, refused}

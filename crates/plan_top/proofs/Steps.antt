@@ -1,7 +1,7 @@
 -- The step at which a shape is refused.
 use Rattle.std.proofs.Common.{◌≡◌, ℕ, zero, suc, ◌+◌, ◌<◌, length, Option, Some, None, sym, ap, arith}
 use Rattle.coll_shape.specs.Outline.{Outline}
-use Rattle.shape_plans.specs.Footprint.{Excess, Refused, footprint, judged, refusal, refusal_from, refused_at}
+use Rattle.schedule_compiler.specs.shapes.Footprint.{Excess, Refused, footprint, judged, refusal, refusal_from, refused_at}
 
 same-step : (k : ℕ) (name : Excess) (r : Refused) → Some (record { step = k; name = name }) ≡ Some r → r.step ≡ k
 same-step k name r is = let same : record { step = k; name = name } ≡ r = cc in ap (λ (x : Refused). x.step) (sym same)

@@ -10,8 +10,8 @@ use Rattle.coll_lang.specs.Language.{read}
 use Rattle.coll_lang.specs.Program.{Chosen, Program}
 use Rattle.port_io.specs.Counts.{Rose}
 use Rattle.port_io.specs.Ends.{Inflow, Outflow}
-use Rattle.shape_plans.specs.Footprint.{Excess, Refused as Excessive, refusal}
-use Rattle.shape_plans.specs.Footprint.Excess.{Links, Bytes}
+use Rattle.schedule_compiler.specs.shapes.Footprint.{Excess, Refused as Excessive, refusal}
+use Rattle.schedule_compiler.specs.shapes.Footprint.Excess.{Links, Bytes}
 use Rattle.marked_plans.specs.Marks.{marked_of}
 use Rattle.plan_top.specs.Texts.{marked_text}
 use Rattle.given_verdicts.specs.declared.answer.GivenAnswer.{GivenAnswer}
@@ -19,7 +19,7 @@ use Rattle.given_verdicts.specs.declared.answer.GivenAnswer.TheVariants as answe
 use Rattle.given_verdicts.specs.declared.judging.TheConstants.{LONGEST_GIVEN}
 use Rattle.given_verdicts.specs.Answers.{answer_of}
 use Rattle.given_verdicts.specs.Saying.{answer_line}
-use Rattle.general_verdicts.specs.General.{IsGeneralAnswer}
+use Rattle.given_verdicts.specs.general.General.{IsGeneralAnswer}
 use Rattle.run_text.specs.declared.status.Status.{Status}
 use Rattle.run_text.specs.declared.status.Status.TheVariants.{Done, Usage, Refused, ReadFault, WriteFault, NoMemory}
 use Rattle.run_text.specs.Ending.{Due, Leaves, MayAnswer, Stands, done, refused}

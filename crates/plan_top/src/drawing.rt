@@ -6,8 +6,8 @@ ghost use Rattle.marked_plans.specs.Marks.{marked_of};
 ghost use Rattle.plan_top.specs.Texts.{marked_text};
 ghost use Rattle.plan_top.specs.Owed.{due_described, due_plan, owed_drawn};
 ghost use Rattle.run_text.specs.Ending.{Written, done};
-ghost use Rattle.shape_plans.specs.Compiling.{Answers};
-ghost use Rattle.shape_plans.specs.Footprint.{refusal};
+ghost use Rattle.schedule_compiler.specs.shapes.Compiling.{Answers};
+ghost use Rattle.schedule_compiler.specs.shapes.Footprint.{refusal};
 
 use crate::writing::write_marked;
 use coll_lang::{Description, ParseFault, Refusal, parse};
@@ -15,7 +15,7 @@ use coll_shape::Shape;
 use marked_plans::{MarkedPlan, marked_shape};
 use port_io::Sink;
 use run_text::{Pieces, Status, refuse, step_line};
-use shape_plans::CompileFault;
+use schedule_compiler::shapes::CompileFault;
 use std::alloc::Global;
 use text_notes::notes::Printable;
 

@@ -7,7 +7,7 @@ ghost use Rattle.plan_top.specs.declared.words.PlanRequest.TheVariants.{Verify};
 ghost use Rattle.run_text.specs.Ending.{Written};
 ghost use Rattle.run_text.specs.Putting.{EndsWith};
 
-use general_verdicts::general_answer;
+use given_verdicts::general::general_answer;
 use given_verdicts::{GivenAnswer, answer_line, answer_of};
 use port_io::{Failed, Sink};
 use run_text::{Pieces, Status};

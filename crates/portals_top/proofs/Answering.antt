@@ -8,8 +8,8 @@ use Rattle.coll_lang.specs.declared.whole.TheConstants.{LONGEST_TEXT}
 use Rattle.coll_shape.specs.Outline.{Outline}
 use Rattle.coll_shape.specs.Meaning.{Lists}
 use Rattle.plan_core.specs.Plan.{Plan as Drawn}
-use Rattle.shape_plans.specs.Drawing.{plan_of}
-use Rattle.shape_plans.specs.Footprint.{Excess, Refused as Excessive, refusal}
+use Rattle.schedule_compiler.specs.shapes.Drawing.{plan_of}
+use Rattle.schedule_compiler.specs.shapes.Footprint.{Excess, Refused as Excessive, refusal}
 use Rattle.run_text.specs.Plans.{plan_text}
 use Rattle.worlds.specs.World.{WorldState}
 use Rattle.plan_choice.specs.World.{ChoiceState}

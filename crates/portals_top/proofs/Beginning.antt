@@ -8,7 +8,7 @@ use Rattle.coll_lang.specs.declared.whole.TheConstants.{LONGEST_TEXT}
 use Rattle.coll_shape.specs.Outline.{Outline}
 use Rattle.coll_shape.specs.Meaning.{Lists}
 use Rattle.schedule_compiler.specs.Jobs.{ShapeJobOf}
-use Rattle.shape_plans.specs.Footprint.{Refused as Excessive, refusal}
+use Rattle.schedule_compiler.specs.shapes.Footprint.{Refused as Excessive, refusal}
 use Rattle.portals_top.specs.declared.begun.Begun.{Begun}
 use Rattle.portals_top.specs.declared.begun.Begun.TheVariants as begun
 use Rattle.portals_top.specs.declared.begun.Crew.{Crew}

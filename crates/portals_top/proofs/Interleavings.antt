@@ -5,8 +5,8 @@ use Rattle.op_laws.proofs.Swaps.{combined-swaps}
 use Rattle.coll_lang.proofs.Coming.{comes}
 use Rattle.cuts.proofs.orders.Steps.{reached_moment}
 use Rattle.cuts.proofs.rest.Moments.{still_rest}
-use Rattle.shape_plans.specs.Drawing.{plan_of}
-use Rattle.shape_plans.proofs.Final.{inputs_fit}
+use Rattle.schedule_compiler.specs.shapes.Drawing.{plan_of}
+use Rattle.schedule_compiler.proofs.shapes.Final.{inputs_fit}
 use Rattle.job_laws.proofs.Cuts.{complete_at, meant_where_complete, sound_for}
 use Rattle.portals_top.specs.Headline.{Headline}
 

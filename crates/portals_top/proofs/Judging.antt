@@ -11,7 +11,7 @@ use Rattle.order_lines.specs.Check.{read_check}
 use Rattle.order_lines.specs.declared.checking.TheConstants.{LONGEST_CHECK}
 use Rattle.cuts.specs.declared.orders.Verdict.{Verdict}
 use Rattle.cuts.specs.declared.orders.Verdict.TheVariants.{Holds, Fails}
-use Rattle.shape_plans.specs.Footprint.{Refused as Excessive, refusal}
+use Rattle.schedule_compiler.specs.shapes.Footprint.{Refused as Excessive, refusal}
 use Rattle.run_text.specs.Putting.{Ends, FailsWithin}
 use Rattle.worlds.specs.World.{WorldState}
 use Rattle.run_text.specs.declared.status.Status.{Status}

@@ -14,13 +14,13 @@ use Rattle.cuts.specs.histories.System.{Histories, state_at}
 use Rattle.cuts.specs.orders.Chosen.{IsChosen}
 use Rattle.cuts.specs.orders.Taking.{listed}
 use Rattle.cuts.proofs.orders.Choosing.{below}
-use Rattle.shape_plans.specs.Footprint.{Refused as Excessive, refusal}
+use Rattle.schedule_compiler.specs.shapes.Footprint.{Refused as Excessive, refusal}
 use Rattle.run_text.specs.Lines.{rest_line, value_line}
 use Rattle.run_text.specs.Orders.{order_text}
-use Rattle.choice_texts.specs.view.Install.{Slots}
-use Rattle.choice_texts.specs.laws.Decided.{IsInRange, choice_system, result_of}
-use Rattle.choice_texts.proofs.orders.Ending.{choice_ends}
-use Rattle.choice_texts.proofs.orders.OneRun.{one_result, one_run}
+use Rattle.plan_choice.specs.texts.view.Install.{Slots}
+use Rattle.plan_choice.specs.texts.laws.Decided.{IsInRange, choice_system, result_of}
+use Rattle.plan_choice.proofs.texts.orders.Ending.{choice_ends}
+use Rattle.plan_choice.proofs.texts.orders.OneRun.{one_result, one_run}
 use Rattle.plan_choice.specs.ranks.Seats.{kind_of, kinds_of, slots_in}
 use Rattle.plan_choice.specs.Acts.{seat_at}
 use Rattle.plan_choice.specs.World.{ChoiceState, histories_in, nic_in, value_in}

@@ -17,9 +17,9 @@ use Rattle.cuts.specs.orders.Taking.{listed}
 use Rattle.cuts.proofs.orders.Choosing.{below}
 use Rattle.cuts.proofs.orders.Ends.{chosen_ends}
 use Rattle.cuts.proofs.orders.OneChosen.{one_chosen}
-use Rattle.shape_plans.specs.Drawing.{plan_of}
-use Rattle.shape_plans.specs.Footprint.{Refused as Excessive, refusal}
-use Rattle.shape_plans.proofs.Final.{fine-shape, inputs_fit}
+use Rattle.schedule_compiler.specs.shapes.Drawing.{plan_of}
+use Rattle.schedule_compiler.specs.shapes.Footprint.{Refused as Excessive, refusal}
+use Rattle.schedule_compiler.proofs.shapes.Final.{fine-shape, inputs_fit}
 use Rattle.schedule_compiler.specs.Schedules.{ScheduleOf}
 use Rattle.job_laws.proofs.Cuts.{rank_of, sound_for}
 use Rattle.run_text.specs.Lines.{result_text}

@@ -5,8 +5,8 @@ use Rattle.port_io.specs.Ends.{Outflow}
 use Rattle.coll_shape.specs.Outline.{Outline}
 use Rattle.coll_shape.specs.Meaning.{AreInputs, Lists}
 use Rattle.coll_shape.specs.WellFormed.{IsWellFormed}
-use Rattle.shape_plans.specs.Drawing.{plan_of}
-use Rattle.shape_plans.specs.Footprint.{refusal}
+use Rattle.schedule_compiler.specs.shapes.Drawing.{plan_of}
+use Rattle.schedule_compiler.specs.shapes.Footprint.{refusal}
 use Rattle.schedule_compiler.specs.Jobs.{job_of}
 use Rattle.schedule_compiler.specs.Schedules.{ScheduleOf}
 use Rattle.cuts.specs.cells.Cells.{AreValues}

@@ -7,11 +7,11 @@ use Rattle.coll_shape.specs.WellFormed.{IsWellFormed}
 use Rattle.plan_steps.specs.Rounds.{rounds}
 use Rattle.schedule_compiler.specs.Answers.{Compiles}
 use Rattle.schedule_compiler.specs.Schedules.{ScheduleOf}
-use Rattle.shape_plans.specs.declared.faults.CompileFault.{CompileFault}
-use Rattle.shape_plans.specs.declared.faults.CompileFault.TheVariants.{TooMany, TooLarge, NoMemory}
-use Rattle.shape_plans.specs.Footprint.{refusal}
-use Rattle.shape_plans.specs.Footprint.Excess.{Links, Bytes}
-use Rattle.shape_plans.proofs.Sizes.{are-steps, refusal-found}
+use Rattle.schedule_compiler.specs.declared.shapes.faults.CompileFault.{CompileFault}
+use Rattle.schedule_compiler.specs.declared.shapes.faults.CompileFault.TheVariants.{TooMany, TooLarge, NoMemory}
+use Rattle.schedule_compiler.specs.shapes.Footprint.{refusal}
+use Rattle.schedule_compiler.specs.shapes.Footprint.Excess.{Links, Bytes}
+use Rattle.schedule_compiler.proofs.shapes.Sizes.{are-steps, refusal-found}
 
 -- its plan is within the limits
 pub fits : IsWellFormed generated_shape → refusal generated_shape ≡ None

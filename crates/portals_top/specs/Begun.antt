@@ -7,7 +7,7 @@ use Rattle.coll_lang.specs.declared.fault.Refusal.{Refusal}
 use Rattle.coll_lang.specs.Generated.{generated}
 use Rattle.coll_lang.specs.Program.{Chosen, Program}
 use Rattle.schedule_compiler.specs.Jobs.{ShapeJobOf}
-use Rattle.shape_plans.specs.Footprint.{Refused as Excessive, refusal}
+use Rattle.schedule_compiler.specs.shapes.Footprint.{Refused as Excessive, refusal}
 use Rattle.portals_top.specs.declared.begun.Begun.{Begun}
 use Rattle.portals_top.specs.declared.begun.Begun.TheVariants as begun
 use Rattle.portals_top.specs.declared.begun.Crew.{Crew}

@@ -15,8 +15,8 @@ use Rattle.cuts.specs.histories.Plans.{system_of}
 use Rattle.cuts.specs.orders.Verdict.{IsVerdict}
 use Rattle.cuts.specs.declared.orders.Verdict.{Verdict}
 use Rattle.cuts.specs.declared.orders.Verdict.TheVariants.{Holds, Fails}
-use Rattle.shape_plans.specs.Drawing.{plan_of}
-use Rattle.shape_plans.specs.Footprint.{Refused as Excessive, refusal}
+use Rattle.schedule_compiler.specs.shapes.Drawing.{plan_of}
+use Rattle.schedule_compiler.specs.shapes.Footprint.{Refused as Excessive, refusal}
 use Rattle.order_check.specs.Listing.{lists_of}
 use Rattle.run_text.specs.Orders.{fails_line}
 use Rattle.run_text.specs.declared.status.Status.{Status}

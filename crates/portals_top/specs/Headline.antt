@@ -7,8 +7,8 @@ use Rattle.cuts.specs.histories.Moment.{IsStill, Lanes}
 use Rattle.cuts.specs.histories.Plans.{IsComplete, system_of}
 use Rattle.cuts.specs.histories.System.{Histories, System, state_at}
 use Rattle.cuts.specs.orders.Reached.{IsReached}
-use Rattle.shape_plans.specs.Drawing.{plan_of}
-use Rattle.shape_plans.specs.Footprint.{refusal}
+use Rattle.schedule_compiler.specs.shapes.Drawing.{plan_of}
+use Rattle.schedule_compiler.specs.shapes.Footprint.{refusal}
 use Rattle.job_laws.specs.Results.{AreMeant}
 
 -- the ranks of a description: what each begins with, and what its start does, where its tables give these slots

@@ -5,7 +5,7 @@ use Rattle.coll_shape.specs.Meaning.{meaning_of}
 use Rattle.port_io.specs.Counts.{Rose}
 use Rattle.port_io.specs.Ends.{Inflow, Outflow}
 use Rattle.run_text.specs.Summary.{summary_of}
-use Rattle.shape_plans.specs.Drawing.{plan_of}
+use Rattle.schedule_compiler.specs.shapes.Drawing.{plan_of}
 use Rattle.run_text.specs.declared.status.Status.{Status}
 use Rattle.run_text.specs.declared.status.Status.TheVariants.{Done, WriteFault}
 use Rattle.portals_top.specs.declared.ran.Ran.{Ran}

@@ -7,12 +7,12 @@ use Rattle.coll_lang.specs.Program.{Chosen, Program}
 use Rattle.coll_lang.specs.Readable.{chosen_name}
 use Rattle.cuts.specs.histories.System.{Histories, System, state_at}
 use Rattle.cuts.specs.orders.Taking.{listed}
-use Rattle.choice_texts.specs.view.Install.{Slots}
-use Rattle.choice_texts.specs.laws.Decided.{choice_system, result_of}
+use Rattle.plan_choice.specs.texts.view.Install.{Slots}
+use Rattle.plan_choice.specs.texts.laws.Decided.{choice_system, result_of}
 use Rattle.plan_choice.specs.ranks.Seats.{kinds_of}
 use Rattle.run_text.specs.Lines.{rest_line, value_line}
 use Rattle.run_text.specs.Orders.{order_text}
-use Rattle.shape_plans.specs.Footprint.{refusal}
+use Rattle.schedule_compiler.specs.shapes.Footprint.{refusal}
 use Rattle.portals_top.specs.declared.words.Command.TheVariants.{Execute}
 use Rattle.job_runs.specs.declared.modes.Mode.TheVariants.{Sim}
 use Rattle.portals_top.specs.declared.words.Task.{Task}

@@ -3,7 +3,7 @@ use Rattle.std.specs.Prelude.{◌≡◌, None}
 use Rattle.coll_shape.specs.Meaning.{AreInputs}
 use Rattle.coll_shape.specs.Outline.{Outline}
 use Rattle.coll_shape.specs.WellFormed.{IsWellFormed}
-use Rattle.shape_plans.specs.Footprint.{refusal}
+use Rattle.schedule_compiler.specs.shapes.Footprint.{refusal}
 use Rattle.schedule_compiler.specs.Schedules.{schedule_of}
 use Rattle.job_laws.specs.Results.{AreMeant}
 use Rattle.worlds.specs.World.{WorldState, memory_in}

@@ -5,7 +5,7 @@ ghost use Rattle.coll_shape.specs.Meaning.{AreInputs};
 ghost use Rattle.order_lines.specs.Check.{read_check};
 ghost use Rattle.run_text.specs.Orders.{fails_line};
 ghost use Rattle.run_text.specs.Putting.{EndsWith};
-ghost use Rattle.shape_plans.specs.Footprint.{refusal};
+ghost use Rattle.schedule_compiler.specs.shapes.Footprint.{refusal};
 ghost use Rattle.schedule_compiler.specs.Schedules.{schedule_of};
 ghost use Rattle.portals_top.specs.Explained.{NotesVerdict, Tells};
 ghost use Rattle.portals_top.specs.Checked.{FindsFor, FindsIn, IsVerdictOn, Judges, due_checked, due_judged, due_verdict};

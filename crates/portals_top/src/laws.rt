@@ -2,7 +2,7 @@
 
 ghost use Rattle.std.specs.Prelude.{ℕ, ◌≡◌, ◌++◌, List, Some};
 ghost use Rattle.coll_lang.specs.Program.{Chosen, Program};
-ghost use Rattle.choice_texts.specs.view.Install.{Slots as ChoiceSlots};
+ghost use Rattle.plan_choice.specs.texts.view.Install.{Slots as ChoiceSlots};
 ghost use Rattle.cuts.specs.view.Slots.{Slots};
 ghost use Rattle.cuts.specs.histories.System.{Histories};
 ghost use Rattle.cuts.specs.orders.Chosen.{IsChosen};

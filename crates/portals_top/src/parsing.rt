@@ -9,8 +9,8 @@ ghost use Rattle.portals_top.specs.Explained.{PointsAt};
 
 use crate::words::Format;
 use coll_lang::{Description, ParseFault, Refusal, parse_by};
+use json_lang::notes::explain_json;
 use json_lang::parse_json;
-use json_notes::explain_json;
 use std::alloc::Global;
 use std::thread::Threads;
 use text_notes::explain_text;

@@ -2,7 +2,7 @@
 
 ghost use Rattle.std.specs.Prelude.{◌≡◌, ◌<◌, Err, None, Option, length};
 ghost use Rattle.coll_shape.specs.Meaning.{Lists};
-ghost use Rattle.shape_plans.specs.Footprint.{refusal};
+ghost use Rattle.schedule_compiler.specs.shapes.Footprint.{refusal};
 ghost use Rattle.schedule_compiler.specs.Answers.{Compiles};
 ghost use Rattle.worlds.specs.World.{WorldState};
 ghost use Rattle.run_text.specs.Refused.{step_line};
@@ -18,7 +18,7 @@ use coll_shape::Shape;
 use port_io::Sink;
 use run_text::{Status, refuse, step_line};
 use schedule_compiler::CompileFault;
-use shape_plans::{MOST_BYTES, MOST_LINKS};
+use schedule_compiler::shapes::{MOST_BYTES, MOST_LINKS};
 use std::alloc::Global;
 use text_notes::notes::{About, Cause, Excess, Limit, Note};
 use text_notes::plain_note;

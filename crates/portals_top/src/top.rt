@@ -2,7 +2,7 @@
 
 ghost use Rattle.std.specs.Prelude.{◌≡◌, ◌<◌, List, ℕ, Option, None, [], map, string_bytes};
 ghost use Rattle.coll_shape.specs.Meaning.{Lists};
-ghost use Rattle.shape_plans.specs.Footprint.{refusal};
+ghost use Rattle.schedule_compiler.specs.shapes.Footprint.{refusal};
 ghost use Rattle.worlds.specs.World.{WorldState};
 ghost use Rattle.run_text.specs.Ending.{IsTold, Written};
 ghost use Rattle.portals_top.specs.Answered.{LeavesDescribed, LeavesOf, LeavesWorld};

@@ -9,8 +9,8 @@ use Rattle.ni_model.specs.State.{State}
 use Rattle.ni_model.specs.Tables.{lookup}
 use Rattle.plan_core.specs.Plan.{Plan, cell}
 use Rattle.plan_core.specs.Values.{Inputs}
-use Rattle.plan_calls.specs.Calls.{cell_start}
-use Rattle.plan_calls.specs.RankOps.{done_threshold}
+use Rattle.plan_core.specs.calls.Calls.{cell_start}
+use Rattle.plan_core.specs.calls.RankOps.{done_threshold}
 use Rattle.cuts.specs.histories.Plans.{system_of}
 use Rattle.cuts.specs.histories.System.{Histories, state_at}
 use Rattle.cuts.specs.view.Slots.{Slots, done_ct}

@@ -23,12 +23,12 @@ use Rattle.plan_core.specs.Sound.{SoundPlan}
 use Rattle.plan_core.specs.Values.{Inputs}
 use Rattle.plan_core.specs.declared.LinkKind.{LinkKind}
 use Rattle.plan_core.specs.declared.LinkKind.TheVariants.{Put, Atomic, Bump}
-use Rattle.plan_calls.specs.Areas.{areas_length, classes, comes_to, has_class, links_to, longest, longest_to, region_length}
-use Rattle.plan_calls.specs.Calls.{act_of, area_call, own_cell, prepare_calls, send_act, trigger}
-use Rattle.plan_calls.specs.Limits.{limits_for}
-use Rattle.plan_calls.specs.RankOps.{RankOp, rank_ops, cell_of, sends_of}
-use Rattle.plan_calls.specs.RankOps.RankOp.{ForLink, ForDone}
-use Rattle.plan_calls.specs.declared.OwnCell.{OwnCell}
+use Rattle.plan_core.specs.calls.Areas.{areas_length, classes, comes_to, has_class, links_to, longest, longest_to, region_length}
+use Rattle.plan_core.specs.calls.Calls.{act_of, area_call, own_cell, prepare_calls, send_act, trigger}
+use Rattle.plan_core.specs.calls.Limits.{limits_for}
+use Rattle.plan_core.specs.calls.RankOps.{RankOp, rank_ops, cell_of, sends_of}
+use Rattle.plan_core.specs.calls.RankOps.RankOp.{ForLink, ForDone}
+use Rattle.plan_core.specs.declared.calls.OwnCell.{OwnCell}
 use Rattle.cuts.proofs.machine.RankOps.{rank_ops-along}
 use Rattle.cuts.proofs.view.StepFire.{cell_of-own}
 use Rattle.cuts.proofs.view.Tables.{place_in-lt}

@@ -15,7 +15,7 @@ use Rattle.ni_model.specs.Append.{append, append_fault}
 use Rattle.ni_model.specs.State.{State, parts_of, with_parts}
 use Rattle.ni_model.specs.Calls.{Done, ends, ends_by, Makes, me_append}
 use Rattle.cuts.specs.view.Slots.{Slots, counter_at}
-use Rattle.plan_calls.specs.declared.OwnCell.{OwnCell}
+use Rattle.plan_core.specs.declared.calls.OwnCell.{OwnCell}
 use Rattle.rank_node.specs.Handles.{Handles, Agrees, AreAllOf, with_entry_handle}
 use Rattle.cuts.specs.start.Start.{entry_of, bring_all, with_brought, cell_started, cells_started}
 use Rattle.rank_node.specs.Start.{IsAppended, AreStarted}

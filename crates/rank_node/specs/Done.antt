@@ -4,7 +4,7 @@ use Rattle.ptl_types.specs.Elements.{part}
 use Rattle.plan_core.specs.Plan.{Plan, cell}
 use Rattle.plan_core.specs.Sound.{AreInputsOf, SoundPlan}
 use Rattle.plan_core.specs.Values.{Inputs, value}
-use Rattle.plan_calls.specs.Calls.{cell_start}
+use Rattle.plan_core.specs.calls.Calls.{cell_start}
 use Rattle.cuts.specs.view.Slots.{Slots}
 use Rattle.cuts.specs.histories.Cut.{IsCut}
 use Rattle.cuts.specs.histories.Plans.{system_of}

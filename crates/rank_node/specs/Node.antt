@@ -13,7 +13,7 @@ use Rattle.cuts.specs.view.Slots.{Slots}
 use Rattle.cuts.specs.histories.History.{Beginning, Legal, state}
 use Rattle.cuts.specs.histories.History.Local.{Start as Started, Fire as Fired}
 use Rattle.cuts.specs.view.Calls.{calls_made}
-use Rattle.plan_calls.specs.declared.OwnCell.{OwnCell}
+use Rattle.plan_core.specs.declared.calls.OwnCell.{OwnCell}
 use Rattle.cuts.specs.histories.Lanes.{is_receipt}
 use Rattle.cuts.specs.histories.Plans.{beginning}
 use Rattle.rank_node.specs.declared.compiled.Compiled.{Compiled}

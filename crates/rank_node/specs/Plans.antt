@@ -2,10 +2,10 @@
 use Rattle.std.specs.Prelude.{ℕ, ◌+◌, ◌≡◌, length, sum_by, if◌then◌else◌}
 use Rattle.plan_core.specs.Plan.{Plan, link, own}
 use Rattle.plan_core.specs.Values.{Inputs}
-use Rattle.plan_calls.specs.Areas.{initial_region, links_to, longest_to}
-use Rattle.plan_calls.specs.Calls.{own_cells, prepare_calls}
-use Rattle.plan_calls.specs.Limits.{limits_for}
-use Rattle.plan_calls.specs.RankOps.{sends_of}
+use Rattle.plan_core.specs.calls.Areas.{initial_region, links_to, longest_to}
+use Rattle.plan_core.specs.calls.Calls.{own_cells, prepare_calls}
+use Rattle.plan_core.specs.calls.Limits.{limits_for}
+use Rattle.plan_core.specs.calls.RankOps.{sends_of}
 use Rattle.rank_node.specs.Node.{Task}
 
 -- its calls, cells and limits, and room for what comes to it: the messages of the links to its cells, and an answer for each message

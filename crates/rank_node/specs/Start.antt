@@ -5,7 +5,7 @@ use Rattle.ptl_types.specs.declared.entries.List.TheVariants.{Priority}
 use Rattle.ni_model.specs.State.{State}
 use Rattle.ni_model.specs.Calls.{me_append}
 use Rattle.cuts.specs.view.Slots.{Slots}
-use Rattle.plan_calls.specs.declared.OwnCell.{OwnCell}
+use Rattle.plan_core.specs.declared.calls.OwnCell.{OwnCell}
 use Rattle.cuts.specs.start.Start.{cells_started}
 use Rattle.rank_node.specs.Handles.{Handles, Agrees, AreAllOf}
 

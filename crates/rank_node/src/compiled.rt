@@ -1,6 +1,6 @@
 //! What is compiled for one rank.
 
-use plan_calls::OwnCell;
+use plan_core::calls::OwnCell;
 use ptl_types::{Bytes, Call, Limits, Rank};
 
 /// The work of one rank of a plan, with the bytes that its region begins with.

@@ -7,7 +7,7 @@ ghost use Rattle.ni_model.specs.Ready.{is_ready, target_at};
 ghost use Rattle.ni_model.specs.Tables.{lookup};
 ghost use Rattle.plan_core.specs.Plan.{Plan};
 ghost use Rattle.plan_core.specs.Values.{Inputs};
-ghost use Rattle.plan_calls.specs.RankOps.{done_threshold};
+ghost use Rattle.plan_core.specs.calls.RankOps.{done_threshold};
 ghost use Rattle.cuts.specs.view.Slots.{Slots, done_ct};
 ghost use Rattle.cuts.specs.histories.History.{IsDue, is_lane, is_start, made_by};
 ghost use Rattle.cuts.specs.histories.History.Local.{Receive as Received, Fire as Fired};

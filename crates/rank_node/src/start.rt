@@ -2,7 +2,7 @@
 
 ghost use Rattle.std.specs.Prelude.{◌≡◌, ◌<◌, ◌≤◌, ◌+◌, List, All, nat_le, [], ◌∷◌, true, false, length, vec_capacity};
 ghost use Rattle.ni_model.specs.Headers.{found_in};
-ghost use Rattle.plan_calls.specs.declared.OwnCell.{OwnCell};
+ghost use Rattle.plan_core.specs.declared.calls.OwnCell.{OwnCell};
 ghost use Rattle.rank_node.specs.Handles.{AreAllOf, IsRising};
 ghost use Rattle.rank_node.specs.Calls.{HasCounter};
 ghost use Rattle.cuts.specs.start.Start.{is_used, lies_in, fits_elements, brought_by, bring, bring_all, go_raised};
@@ -12,7 +12,7 @@ use crate::install::{counter_of, entry_of_cell, one};
 use crate::kept::NodeHandles;
 use lane_ops::combine;
 use match_lists::unexpected::finds;
-use plan_calls::OwnCell;
+use plan_core::calls::OwnCell;
 use portals_ni::Nic;
 use ptl_types::{Appended, AtomicOp, ElemType, Entry, Handle, List, UnexpectedHeader};
 

@@ -17,7 +17,7 @@ use Rattle.port_io.specs.declared.ends.Failed.{Failed}
 use Rattle.run_text.specs.Orders.{order_line}
 use Rattle.run_text.specs.Putting.{Ends, EndsWith, FailsWithin, Takes}
 use Rattle.run_text.proofs.Taking.{EndsWith-then, Fails-then, Takes-more}
-use Rattle.shape_plans.specs.Drawing.{plan_of}
+use Rattle.schedule_compiler.specs.shapes.Drawing.{plan_of}
 use Rattle.cuts.specs.ended.Ended.{HasEnded}
 use Rattle.cuts.specs.histories.Cut.{owned}
 use Rattle.cuts.specs.histories.History.{Local, got, is_start}
@@ -33,8 +33,8 @@ use Rattle.rank_frames.specs.Place.{PlaceState}
 use Rattle.rank_frames.specs.declared.fault.FrameFault.{FrameFault}
 use Rattle.rank_frames.specs.declared.fault.Stop.{Stop}
 use Rattle.rank_frames.specs.declared.fault.Stop.TheVariants as stops
-use Rattle.rank_lines.specs.Lines.{PrintsOf, own_lines}
-use Rattle.rank_lines.specs.Rank.{made_by_rank, state_after}
+use Rattle.rank_process.specs.lines.Lines.{PrintsOf, own_lines}
+use Rattle.rank_process.specs.lines.Rank.{made_by_rank, state_after}
 use Rattle.rank_process.specs.Opening.{IsOpened}
 use Rattle.rank_process.specs.Owed.{Closes, owed}
 use Rattle.rank_process.specs.Runs.{BreaksOff, EndsRank, HasEndedAlone, RefusesFrame, RunsAs, Told, end_text, frames_made}

@@ -6,9 +6,9 @@ use Rattle.plan_core.specs.Plan.{Plan, link}
 use Rattle.plan_core.specs.Sound.{SoundPlan}
 use Rattle.plan_core.specs.Values.{Inputs}
 use Rattle.plan_core.proofs.Drawing.{length-row}
-use Rattle.plan_calls.specs.Areas.{links_to}
-use Rattle.plan_calls.specs.Lanes.{lane_messages}
-use Rattle.plan_calls.specs.RankOps.{sends_of}
+use Rattle.plan_core.specs.calls.Areas.{links_to}
+use Rattle.plan_core.specs.calls.Lanes.{lane_messages}
+use Rattle.plan_core.specs.calls.RankOps.{sends_of}
 use Rattle.cuts.specs.histories.History.{Local}
 use Rattle.cuts.specs.histories.Lanes.{is_receipt}
 use Rattle.cuts.specs.histories.Plans.{system_of}

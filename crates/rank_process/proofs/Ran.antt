@@ -7,11 +7,11 @@ use Rattle.ptl_types.specs.Messages.{Sent}
 use Rattle.ni_model.specs.State.{State}
 use Rattle.plan_core.specs.Plan.{Plan}
 use Rattle.plan_core.proofs.Drawing.{length-row}
-use Rattle.plan_calls.specs.Lanes.{lane_messages}
+use Rattle.plan_core.specs.calls.Lanes.{lane_messages}
 use Rattle.coll_lang.specs.Program.{Program}
 use Rattle.coll_lang.proofs.Coming.{comes}
-use Rattle.shape_plans.specs.Drawing.{plan_of}
-use Rattle.shape_plans.proofs.Final.{fine-shape}
+use Rattle.schedule_compiler.specs.shapes.Drawing.{plan_of}
+use Rattle.schedule_compiler.proofs.shapes.Final.{fine-shape}
 use Rattle.cuts.specs.histories.Cut.{owned}
 use Rattle.cuts.specs.histories.History.{Beginning, Legal, Local, got, made, state}
 use Rattle.cuts.specs.histories.Plans.{start_of as begins}
@@ -26,7 +26,7 @@ use Rattle.rank_node.proofs.Plans.{begin-is, run-legal}
 use Rattle.rank_frames.specs.Due.{Dues, due_on}
 use Rattle.rank_frames.specs.Going.{HasGone}
 use Rattle.rank_frames.specs.Place.{PlaceState}
-use Rattle.rank_lines.specs.Rank.{IsDescribed, IsHistory, made_by_rank, state_after}
+use Rattle.rank_process.specs.lines.Rank.{IsDescribed, IsHistory, made_by_rank, state_after}
 use Rattle.rank_process.specs.Opening.{IsDueTo, IsPlaceOf}
 use Rattle.rank_process.specs.Runs.{StandsAt, Told}
 use Rattle.rank_process.proofs.Sums.{due-lane}

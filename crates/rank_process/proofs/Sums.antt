@@ -10,15 +10,15 @@ use Rattle.ptl_types.specs.declared.headers.Lane.TheVariants.{Request, Answer}
 use Rattle.number_lists.specs.Numbers.{from_to}
 use Rattle.plan_core.specs.Plan.{Plan, all_links, out_links}
 use Rattle.plan_core.proofs.Drawing.{row-more}
-use Rattle.plan_calls.specs.Areas.{comes_to, links_to}
-use Rattle.plan_calls.specs.Lanes.{goes_along, lane_links, lane_messages}
-use Rattle.plan_calls.specs.RankOps.{is_message, sends_of}
+use Rattle.plan_core.specs.calls.Areas.{comes_to, links_to}
+use Rattle.plan_core.specs.calls.Lanes.{goes_along, lane_links, lane_messages}
+use Rattle.plan_core.specs.calls.RankOps.{is_message, sends_of}
 use Rattle.plan_tables.specs.Tables.{from_rank, to_rank}
 use Rattle.plan_tables.proofs.Passes.{get-row}
 use Rattle.cuts.proofs.start.Starting.{length-from_to}
 use Rattle.rank_frames.specs.Due.{Dues, due_on, messages_due}
 use Rattle.rank_process.specs.Opening.{IsDueTo}
-use Rattle.rank_tasks.proofs.Lanes.{once, once-to}
+use Rattle.worlds.proofs.tasks.Lanes.{once, once-to}
 
 -- ---- how many pass tests
 ones-cons : (t : ℕ → Bool) (x : ℕ) (xs : List ℕ) → length (filter t (x ∷ xs)) ≡ cond (t x) 1 0 + length (filter t xs)

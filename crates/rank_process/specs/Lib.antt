@@ -4,3 +4,5 @@ pub mod Opening
 pub mod Runs
 pub mod Notes
 pub mod Owed
+pub mod lines
+pub mod laws

@@ -1,13 +1,13 @@
 -- A rank that can take frames.
 use Rattle.std.specs.Prelude.{ℕ, ◌≡◌, ◌<◌, List, [], length, sum_by, map}
 use Rattle.coll_lang.specs.Program.{Program}
-use Rattle.shape_plans.specs.Drawing.{plan_of}
+use Rattle.schedule_compiler.specs.shapes.Drawing.{plan_of}
 use Rattle.number_lists.specs.Numbers.{from_to}
 use Rattle.ptl_types.specs.declared.headers.Lane.TheVariants.{Request, Answer}
 use Rattle.plan_core.specs.Plan.{Plan, link}
 use Rattle.plan_core.specs.Values.{Inputs}
-use Rattle.plan_calls.specs.Areas.{links_to}
-use Rattle.plan_calls.specs.Lanes.{lane_messages}
+use Rattle.plan_core.specs.calls.Areas.{links_to}
+use Rattle.plan_core.specs.calls.Lanes.{lane_messages}
 use Rattle.cuts.specs.view.Calls.{prepare}
 use Rattle.cuts.specs.view.Slots.{Slots}
 use Rattle.rank_node.specs.Handles.{Agrees}
@@ -15,7 +15,7 @@ use Rattle.rank_node.specs.Node.{IsNode}
 use Rattle.rank_node.specs.Plans.{IsCompiledFor}
 use Rattle.rank_frames.specs.Due.{Dues}
 use Rattle.rank_frames.specs.Place.{PlaceState}
-use Rattle.rank_lines.specs.Rank.{IsDescribed}
+use Rattle.rank_process.specs.lines.Rank.{IsDescribed}
 use Rattle.rank_process.specs.declared.opening.Opened.{Opened}
 
 -- what comes to rank r in a whole run of a plan

@@ -4,7 +4,7 @@ use Rattle.port_io.specs.Ends.{Outflow}
 use Rattle.run_text.specs.Orders.{order_line}
 use Rattle.run_text.specs.Putting.{Ends, FailsWithin}
 use Rattle.rank_frames.specs.Frames.{mark}
-use Rattle.rank_lines.specs.Lines.{own_lines}
+use Rattle.rank_process.specs.lines.Lines.{own_lines}
 use Rattle.rank_process.specs.declared.opening.Opened.{Opened}
 use Rattle.rank_process.specs.declared.status.Status.{Status}
 use Rattle.rank_process.specs.declared.status.Status.TheVariants.{Ended, WriteFault}

@@ -6,8 +6,8 @@ use Rattle.coll_lang.specs.declared.fault.Refusal.{Refusal}
 use Rattle.coll_lang.specs.declared.fault.Refusal.TheVariants.{TooLong, TooMany, TooLarge, OneThread}
 use Rattle.coll_lang.specs.declared.whole.TheConstants.{LONGEST_TEXT}
 use Rattle.coll_shape.specs.Outline.{Outline}
-use Rattle.shape_plans.specs.Footprint.{Excess, Refused as Excessive, refusal}
-use Rattle.shape_plans.specs.Footprint.Excess.{Links, Bytes}
+use Rattle.schedule_compiler.specs.shapes.Footprint.{Excess, Refused as Excessive, refusal}
+use Rattle.schedule_compiler.specs.shapes.Footprint.Excess.{Links, Bytes}
 use Rattle.port_io.specs.Ends.{GivesFront, Outflow}
 use Rattle.run_text.specs.Putting.{Ends, FailsWithin}
 use Rattle.run_text.specs.Refused.{refusal_line, step_line}

@@ -4,10 +4,10 @@ use Rattle.ptl_types.specs.declared.headers.Lane.{Lane}
 use Rattle.coll_lang.specs.Language.{read}
 use Rattle.coll_lang.specs.Program.{Program}
 use Rattle.coll_lang.specs.declared.fault.Refusal.{Refusal}
-use Rattle.shape_plans.specs.Drawing.{plan_of}
+use Rattle.schedule_compiler.specs.shapes.Drawing.{plan_of}
 use Rattle.plan_core.specs.Plan.{link}
-use Rattle.plan_calls.specs.Areas.{links_to}
-use Rattle.plan_calls.specs.Lanes.{lane_messages}
+use Rattle.plan_core.specs.calls.Areas.{links_to}
+use Rattle.plan_core.specs.calls.Lanes.{lane_messages}
 use Rattle.port_io.specs.Ends.{GivesFront, Inflow, Outflow}
 use Rattle.cuts.specs.ended.Ended.{HasEnded}
 use Rattle.cuts.specs.histories.History.{Local, got}
@@ -22,8 +22,8 @@ use Rattle.rank_frames.specs.Frames.{frame, frames_for, frames_of, mark}
 use Rattle.rank_frames.specs.Going.{IsFrameRefused}
 use Rattle.rank_frames.specs.Place.{PlaceState}
 use Rattle.rank_frames.specs.declared.fault.FrameFault.{FrameFault}
-use Rattle.rank_lines.specs.Lines.{own_lines}
-use Rattle.rank_lines.specs.Rank.{IsDescribed, IsHistory, made_by_rank, state_after}
+use Rattle.rank_process.specs.lines.Lines.{own_lines}
+use Rattle.rank_process.specs.lines.Rank.{IsDescribed, IsHistory, made_by_rank, state_after}
 use Rattle.rank_process.specs.Refused.{IsNoRank, IsTooLong, refused_as}
 use Rattle.rank_process.specs.declared.status.Status.{Status}
 use Rattle.rank_process.specs.declared.status.Status.TheVariants.{Ended, Usage, WrongRank, Refused, ReadFault, WriteFault, NoMemory, Frame}

@@ -5,9 +5,9 @@ ghost use Rattle.rank_process.specs.Opening.{IsDueTo};
 
 use ptl_types::{Lane, NoMemory, Rank};
 use rank_frames::Due;
-use rank_tasks::bytes_to;
 use schedule_compiler::Schedule;
 use std::alloc::Global;
+use worlds::tasks::bytes_to;
 
 /// So many messages on each lane to the rank, and so many bytes in all, as the plan has.
 pub(crate) fn due_to(alloc: Global, schedule: &Schedule, me: Rank) -> Result<Due, NoMemory>

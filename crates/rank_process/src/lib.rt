@@ -4,6 +4,8 @@
 
 mod first;
 mod lanes;
+pub mod laws;
+pub mod lines;
 mod notes;
 mod opening;
 mod printing;

@@ -2,26 +2,26 @@
 
 ghost use Rattle.std.specs.Prelude.{ℕ, List, ◌≡◌, ◌<◌, Ok, Err, None, IfOk, IfErr};
 ghost use Rattle.coll_shape.specs.Meaning.{AreInputs};
-ghost use Rattle.shape_plans.specs.Footprint.{refusal};
+ghost use Rattle.schedule_compiler.specs.shapes.Footprint.{refusal};
 ghost use Rattle.coll_lang.specs.Language.{read};
 ghost use Rattle.schedule_compiler.specs.Answers.{Compiles};
 ghost use Rattle.schedule_compiler.specs.Schedules.{schedule_of};
-ghost use Rattle.shape_plans.specs.Drawing.{plan_of};
+ghost use Rattle.schedule_compiler.specs.shapes.Drawing.{plan_of};
 ghost use Rattle.rank_process.specs.Opening.{IsOpened, IsPlaceOf};
 ghost use Rattle.rank_process.specs.Refused.{FailsToOpen, FailsToPlan, FailsToRead};
 
 use crate::first::First;
 use crate::lanes::due_to;
+use crate::lines::Prints;
 use crate::status::Status;
 use coll_lang::{Description, ParseFault, Refusal, parse};
 use coll_shape::{Inputs, Shape};
 use ptl_types::{NoMemory, Rank};
 use rank_frames::Place;
-use rank_lines::Prints;
-use rank_tasks::install;
 use run_text::step_line;
 use schedule_compiler::{CompileFault, Job, Schedule, compile, shape_job};
 use std::alloc::Global;
+use worlds::tasks::install;
 
 /// A rank that can take frames, and what it prints.
 #[derive(Drop)]

@@ -2,14 +2,14 @@
 
 ghost use Rattle.std.specs.Prelude.{◌≡◌, ◌++◌, []};
 ghost use Rattle.rank_frames.specs.Frames.{mark};
-ghost use Rattle.rank_lines.specs.Lines.{own_lines};
+ghost use Rattle.rank_process.specs.lines.Lines.{own_lines};
 ghost use Rattle.run_text.specs.Orders.{order_line};
 ghost use Rattle.run_text.specs.Putting.{EndsWith};
 
+use crate::lines::Prints;
 use port_io::{Failed, Sink};
 use ptl_types::LocalStep;
 use rank_frames::NOBODY;
-use rank_lines::Prints;
 use run_text::{Pieces, order_line};
 
 /// The mark of the end.

@@ -10,9 +10,9 @@ use Rattle.ptl_types.specs.declared.headers.Lane.{Lane}
 use Rattle.ptl_types.specs.declared.headers.Lane.TheVariants.{Request, Answer}
 use Rattle.ptl_types.specs.Messages.{Sent}
 use Rattle.plan_core.specs.Plan.{Plan, all_links, cell, link, out_links}
-use Rattle.plan_calls.specs.Areas.{comes_to, links_to}
-use Rattle.plan_calls.specs.Lanes.{goes_along, lane_links}
-use Rattle.plan_calls.specs.RankOps.{is_message, sends_of}
+use Rattle.plan_core.specs.calls.Areas.{comes_to, links_to}
+use Rattle.plan_core.specs.calls.Lanes.{goes_along, lane_links}
+use Rattle.plan_core.specs.calls.RankOps.{is_message, sends_of}
 use Rattle.cuts.specs.histories.History.{Local, got, same_lane}
 use Rattle.cuts.specs.histories.History.Local.{Start, Receive, Fire}
 use Rattle.cuts.specs.histories.Lanes.{is_receipt}

@@ -17,7 +17,7 @@ use Rattle.plan_core.specs.Sound.{SoundPlan}
 use Rattle.plan_core.specs.Values.{Inputs}
 use Rattle.plan_core.proofs.Lists.{In-filter_cases}
 use Rattle.plan_core.proofs.Links.{out_links-In}
-use Rattle.plan_calls.specs.Lanes.{is_used_lane, lane_links, lane_messages}
+use Rattle.plan_core.specs.calls.Lanes.{is_used_lane, lane_links, lane_messages}
 use Rattle.cuts.specs.view.Calls.{prepare}
 use Rattle.cuts.specs.view.Slots.{Slots}
 use Rattle.cuts.specs.histories.History.{Beginning, Legal, Local, after, is_for, made, sent, state}

@@ -15,7 +15,7 @@ use Rattle.atomic_table.proofs.Lists.{at_map}
 use Rattle.plan_core.specs.Plan.{Plan}
 use Rattle.plan_core.specs.Sound.{SoundPlan}
 use Rattle.plan_core.specs.Values.{Inputs}
-use Rattle.plan_calls.specs.Lanes.{is_used_lane}
+use Rattle.plan_core.specs.calls.Lanes.{is_used_lane}
 use Rattle.cuts.specs.view.Calls.{prepare}
 use Rattle.cuts.specs.view.Slots.{Slots}
 use Rattle.cuts.specs.histories.History.{Beginning, Local, and_then, got, is_for, made_by, sent, state}

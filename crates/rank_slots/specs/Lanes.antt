@@ -6,7 +6,7 @@ use Rattle.ptl_types.specs.declared.headers.Lane.{Lane}
 use Rattle.ptl_types.specs.declared.headers.Lane.TheVariants.{Request, Answer}
 use Rattle.pair_wires.specs.declared.bounds.Bounds.{Bounds}
 use Rattle.plan_core.specs.Plan.{Plan}
-use Rattle.plan_calls.specs.Lanes.{is_used_lane, lane_bytes, lane_messages}
+use Rattle.plan_core.specs.calls.Lanes.{is_used_lane, lane_bytes, lane_messages}
 use Rattle.rank_slots.specs.Lists.{Each}
 
 -- how many bytes go on a lane in all; answers carry none

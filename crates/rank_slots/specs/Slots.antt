@@ -5,7 +5,7 @@ use Rattle.ptl_types.specs.Messages.{Sent}
 use Rattle.pair_wires.specs.Bounds.{KeepsBounds}
 use Rattle.plan_core.specs.Plan.{Plan}
 use Rattle.plan_core.specs.Values.{Inputs}
-use Rattle.plan_calls.specs.Lanes.{is_used_lane}
+use Rattle.plan_core.specs.calls.Lanes.{is_used_lane}
 use Rattle.cuts.specs.view.Calls.{prepare}
 use Rattle.cuts.specs.view.Slots.{Slots}
 use Rattle.cuts.specs.histories.History.{got, sent}

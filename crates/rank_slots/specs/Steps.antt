@@ -9,7 +9,7 @@ use Rattle.ptl_types.specs.Messages.{Sent}
 use Rattle.ni_model.specs.Answers.{is_awaited}
 use Rattle.ni_model.specs.Ready.{is_ready, target_at}
 use Rattle.ptl_types.specs.Handles.{one_more}
-use Rattle.plan_calls.specs.Lanes.{is_used_lane}
+use Rattle.plan_core.specs.calls.Lanes.{is_used_lane}
 use Rattle.cuts.specs.view.Slots.{Slots}
 use Rattle.cuts.specs.histories.History.{Local}
 use Rattle.cuts.specs.histories.History.Local.{Start, Receive, Fire}

@@ -13,7 +13,7 @@ use Rattle.pair_wires.specs.Wires.{WireState}
 use Rattle.plan_core.specs.Members.{In}
 use Rattle.plan_core.specs.Plan.{Plan}
 use Rattle.plan_core.proofs.Lists.{In-append_left, In-filter_cases}
-use Rattle.plan_calls.specs.Lanes.{is_used_lane, lane_messages}
+use Rattle.plan_core.specs.calls.Lanes.{is_used_lane, lane_messages}
 use Rattle.cuts.specs.view.Calls.{prepare}
 use Rattle.cuts.specs.view.Slots.{Slots}
 use Rattle.cuts.specs.histories.Cut.{IsCut, is_stray, owned}

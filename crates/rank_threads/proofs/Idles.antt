@@ -16,9 +16,9 @@ use Rattle.plan_core.specs.Members.{In}
 use Rattle.plan_core.specs.Plan.{Plan, all_links, cell, is_bump, link, out_links}
 use Rattle.plan_core.proofs.Lists.{In-filter, In-map_cases}
 use Rattle.plan_core.proofs.Links.{In-from_to, out_links-In}
-use Rattle.plan_calls.specs.Lanes.{goes_along, is_used_lane, lane_links}
-use Rattle.plan_calls.specs.RankOps.{RankOp, rank_ops}
-use Rattle.plan_calls.specs.RankOps.RankOp.{ForLink, ForDone}
+use Rattle.plan_core.specs.calls.Lanes.{goes_along, is_used_lane, lane_links}
+use Rattle.plan_core.specs.calls.RankOps.{RankOp, rank_ops}
+use Rattle.plan_core.specs.calls.RankOps.RankOp.{ForLink, ForDone}
 use Rattle.cuts.specs.view.TriggeredOps.{action_of, operation, send_action}
 use Rattle.cuts.specs.view.Slots.{Slots, cell_ct}
 use Rattle.ptl_types.specs.declared.calls.TriggeredOp.TheVariants.{Inc as IncAction}

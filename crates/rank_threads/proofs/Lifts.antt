@@ -11,7 +11,7 @@ use Rattle.pair_wires.specs.declared.bounds.Bounds.{Bounds}
 use Rattle.pair_wires.specs.Lanes.{Plain, plain}
 use Rattle.pair_wires.specs.Wires.{WireState}
 use Rattle.plan_core.specs.Plan.{Plan}
-use Rattle.plan_calls.specs.Lanes.{is_used_lane}
+use Rattle.plan_core.specs.calls.Lanes.{is_used_lane}
 use Rattle.cuts.specs.histories.History.{got}
 use Rattle.cuts.specs.windows.Places.{lane_place}
 use Rattle.schedule_compiler.specs.Jobs.{JobOf}

@@ -10,7 +10,7 @@ use Rattle.ni_model.specs.Calls.{AnswersReady}
 use Rattle.ni_model.specs.Ready.{is_ready}
 use Rattle.ni_model.specs.State.{State}
 use Rattle.plan_core.specs.Plan.{Plan}
-use Rattle.plan_calls.specs.Lanes.{is_used_lane}
+use Rattle.plan_core.specs.calls.Lanes.{is_used_lane}
 use Rattle.cuts.specs.view.Slots.{Slots}
 use Rattle.cuts.specs.histories.Cut.{IsAtRest, owned}
 use Rattle.cuts.specs.histories.History.{Local, got, is_start, sent, state}

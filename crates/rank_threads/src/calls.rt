@@ -4,7 +4,7 @@ ghost use Rattle.std.specs.Prelude.{true, ◌≡◌, ◌<◌, IfSome, IfNone};
 ghost use Rattle.turn_table.specs.declared.views.HandView.{HandView};
 ghost use Rattle.turn_table.specs.Hands.{IsFree, IsHandOf, Took};
 ghost use Rattle.turn_table.specs.Views.{after_busy};
-ghost use Rattle.plan_calls.specs.Lanes.{is_used_lane};
+ghost use Rattle.plan_core.specs.calls.Lanes.{is_used_lane};
 ghost use Rattle.rank_slots.specs.declared.turn_rank.TurnRank.{TurnRank};
 ghost use Rattle.rank_threads.specs.Fabrics.{HasTaken};
 ghost use Rattle.rank_slots.specs.Chronicles.{chronicle};

@@ -6,7 +6,7 @@ ghost use lib.ListN.{get_elem?};
 ghost use Rattle.ptl_types.specs.declared.headers.Lane.{Lane};
 ghost use Rattle.pair_wires.specs.Lanes.{Plain};
 ghost use Rattle.pair_wires.specs.Wires.{WireState};
-ghost use Rattle.plan_calls.specs.Lanes.{is_used_lane};
+ghost use Rattle.plan_core.specs.calls.Lanes.{is_used_lane};
 ghost use Rattle.cuts.specs.view.Slots.{Slots};
 ghost use Rattle.cuts.specs.windows.Places.{lane_place};
 ghost use Rattle.cuts.specs.cells.Cells.{AreRoundsKept};

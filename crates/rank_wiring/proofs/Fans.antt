@@ -10,7 +10,7 @@ use Rattle.ptl_types.specs.declared.headers.Lane.TheVariants.{Request, Answer}
 use Rattle.pair_wires.specs.declared.bounds.Bounds.{Bounds}
 use Rattle.plan_core.specs.Plan.{Plan}
 use Rattle.plan_core.specs.Sound.{SoundPlan}
-use Rattle.plan_calls.specs.Lanes.{is_used_lane}
+use Rattle.plan_core.specs.calls.Lanes.{is_used_lane}
 use Rattle.worlds.proofs.opening.Laid.{at_most-pairs}
 use Rattle.rank_wiring.specs.declared.lanes.OutLanes.{OutLanes}
 use Rattle.rank_slots.specs.Lists.{Each}

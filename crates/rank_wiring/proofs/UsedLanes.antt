@@ -12,8 +12,8 @@ use Rattle.plan_core.specs.Plan.{Plan, all_links, cell, link}
 use Rattle.plan_core.specs.Sound.{SoundPlan}
 use Rattle.plan_core.proofs.Links.{from_to-In}
 use Rattle.plan_core.proofs.Lists.{In-filter_cases}
-use Rattle.plan_calls.specs.Lanes.{goes_along, is_used_lane, lane_links, lane_messages}
-use Rattle.plan_calls.specs.RankOps.{is_message}
+use Rattle.plan_core.specs.calls.Lanes.{goes_along, is_used_lane, lane_links, lane_messages}
+use Rattle.plan_core.specs.calls.RankOps.{is_message}
 use Rattle.cuts.specs.windows.Places.{lane_place}
 use Rattle.worlds.proofs.parts.Placed.{lane_apart, lane_in}
 use Rattle.worlds.proofs.opening.Rooms.{at_most-on_lane}

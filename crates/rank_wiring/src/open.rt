@@ -14,11 +14,11 @@ use crate::lanes::{OutLanes, all_fans};
 use pair_wires::{Bounds, Wire};
 use ptl_types::{NoMemory, Rank};
 use rank_slots::{Hints, InPort, OutPort, TurnRank, put_in, recall_soundness};
-use rank_tasks::install;
 use schedule_compiler::Job;
 use std::alloc::Global;
 use std::thread::Threads;
 use work_sharing::map_indices;
+use worlds::tasks::install;
 
 /// How many messages the queue of a wire holds, or all that may ever be sent on the wire where these are fewer; one more may wait at its
 /// out end.

@@ -2,8 +2,8 @@
 
 use crate::answers::{are_equal, holds};
 use coll_lang::Refusal;
+use json_lang::notes::explain_json;
 use json_lang::parse_json;
-use json_notes::explain_json;
 use std::alloc::Global;
 use text_notes::notes::note_text;
 

@@ -20,6 +20,8 @@ mod notes;
 #[cfg(test)]
 mod orders;
 #[cfg(test)]
+mod pictures;
+#[cfg(test)]
 mod texts;
 #[cfg(test)]
 mod threads;

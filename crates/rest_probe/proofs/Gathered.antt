@@ -6,7 +6,7 @@ use Rattle.ptl_types.specs.declared.headers.Lane.{Lane}
 use Rattle.ptl_types.specs.declared.headers.Lane.TheVariants.{Request, Answer}
 use Rattle.number_lists.specs.Numbers.{from_to}
 use Rattle.plan_core.specs.Plan.{Plan}
-use Rattle.plan_calls.specs.Lanes.{is_used_lane}
+use Rattle.plan_core.specs.calls.Lanes.{is_used_lane}
 use Rattle.plan_core.proofs.Drawing.{from_to-more}
 use Rattle.rest_probe.specs.declared.notes.LaneCount.{LaneCount}
 use Rattle.rest_probe.specs.Counted.{cleared, counted}

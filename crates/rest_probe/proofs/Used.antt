@@ -8,7 +8,7 @@ use Rattle.ptl_types.specs.declared.headers.Lane.{Lane}
 use Rattle.ptl_types.specs.declared.headers.Lane.TheVariants.{Request, Answer}
 use Rattle.number_lists.specs.Numbers.{from_to}
 use Rattle.plan_core.specs.Plan.{Plan}
-use Rattle.plan_calls.specs.Lanes.{is_used_lane}
+use Rattle.plan_core.specs.calls.Lanes.{is_used_lane}
 use Rattle.rest_probe.specs.declared.notes.LaneCount.{LaneCount}
 use Rattle.rest_probe.specs.Lanes.{lane_if, lanes_from, lanes_to, pair_lanes}
 

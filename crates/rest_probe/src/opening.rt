@@ -3,7 +3,7 @@
 ghost use Rattle.std.specs.Prelude.{false, ◌≡◌, ◌<◌, ◌++◌, IfOk};
 ghost use mathlib.Core.Option.{some};
 ghost use lib.ListN.{get_elem?};
-ghost use Rattle.plan_calls.specs.Lanes.{is_used_lane};
+ghost use Rattle.plan_core.specs.calls.Lanes.{is_used_lane};
 ghost use Rattle.rest_probe.specs.declared.notes.RankNote.{RankNote};
 ghost use Rattle.rest_probe.specs.Lanes.{lane_if, lanes_from, lanes_to, pair_lanes};
 ghost use Rattle.rest_probe.specs.Waves.{IsFor};

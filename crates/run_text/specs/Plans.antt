@@ -9,7 +9,7 @@ use Rattle.coll_lang.specs.Words.{op_word, type_word}
 use Rattle.plan_core.specs.declared.LinkKind.{LinkKind}
 use Rattle.plan_core.specs.declared.LinkKind.TheVariants.{Put, Atomic, Bump}
 use Rattle.plan_core.specs.Plan.{Plan, cell, link}
-use Rattle.plan_calls.specs.RankOps.{done_threshold}
+use Rattle.plan_core.specs.calls.RankOps.{done_threshold}
 use Rattle.run_text.specs.declared.plans.PlanLine.{PlanLine}
 use Rattle.run_text.specs.declared.plans.PlanLine.TheVariants.{Head, CellLine, LinkLine, DoneLine, EndLine}
 

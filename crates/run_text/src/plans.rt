@@ -5,7 +5,7 @@ ghost use Rattle.std.specs.List.{flat_map};
 ghost use Rattle.number_lists.specs.Numbers.{from_to};
 ghost use Rattle.coll_lang.specs.Words.{op_word, type_word};
 ghost use Rattle.plan_core.specs.Plan.{Plan};
-ghost use Rattle.plan_calls.specs.RankOps.{done_threshold};
+ghost use Rattle.plan_core.specs.calls.RankOps.{done_threshold};
 ghost use Rattle.run_text.specs.Plans.{cell_line_of, completion_word, done_line_of, drawn_text, kind_word, link_line_of, op_or_none};
 ghost use Rattle.run_text.specs.Plans.{plan_line, plan_text};
 ghost use Rattle.run_text.specs.Putting.{Puts, EndsWith};

@@ -9,9 +9,9 @@ use Rattle.plan_tables.proofs.Room.{sound-tabled}
 use Rattle.coll_shape.specs.Meaning.{AreInputs}
 use Rattle.coll_shape.specs.Outline.{Outline}
 use Rattle.coll_shape.specs.WellFormed.{IsWellFormed}
-use Rattle.shape_plans.specs.Drawing.{drawing_of, plan_of}
-use Rattle.shape_plans.specs.Footprint.{refusal}
-use Rattle.shape_plans.proofs.Final.{few_links, fine-shape, inputs_fit, result-cell, sound}
+use Rattle.schedule_compiler.specs.shapes.Drawing.{drawing_of, plan_of}
+use Rattle.schedule_compiler.specs.shapes.Footprint.{refusal}
+use Rattle.schedule_compiler.proofs.shapes.Final.{few_links, fine-shape, inputs_fit, result-cell, sound}
 use Rattle.schedule_compiler.specs.Jobs.{AreInputsFor}
 use Rattle.schedule_compiler.specs.Keeping.{AreHeld, CanRun}
 use Rattle.schedule_compiler.specs.Schedules.{ScheduleOf, schedule_of, scheduled}

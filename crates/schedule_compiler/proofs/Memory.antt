@@ -13,8 +13,8 @@ use Rattle.plan_core.specs.declared.Cell.{Cell}
 use Rattle.plan_core.specs.Plan.{Plan, cell, from_to}
 use Rattle.plan_core.specs.Values.{Inputs, blank, initial}
 use Rattle.plan_core.proofs.Drawing.{from_to-more}
-use Rattle.plan_calls.specs.Areas.{area_length, blank_area, blank_areas, blank_as, has_class, links_to}
-use Rattle.plan_calls.specs.Bits.{class_op, class_type}
+use Rattle.plan_core.specs.calls.Areas.{area_length, blank_area, blank_areas, blank_as, has_class, links_to}
+use Rattle.plan_core.specs.calls.Bits.{class_op, class_type}
 use Rattle.plan_tables.proofs.ByClass.{none-of}
 
 -- ---- zeros and starting values

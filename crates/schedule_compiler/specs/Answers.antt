@@ -1,10 +1,10 @@
 -- What `compile` answers, and where a cell lies.
 use Rattle.std.specs.Prelude.{ℕ, ◌≡◌, Result}
 use Rattle.plan_core.specs.Plan.{Plan, cell}
-use Rattle.plan_calls.specs.Calls.{cell_start}
+use Rattle.plan_core.specs.calls.Calls.{cell_start}
 use Rattle.coll_shape.specs.Outline.{Outline}
-use Rattle.shape_plans.specs.declared.faults.CompileFault.{CompileFault}
-use Rattle.shape_plans.specs.Compiling.{Answers}
+use Rattle.schedule_compiler.specs.declared.shapes.faults.CompileFault.{CompileFault}
+use Rattle.schedule_compiler.specs.shapes.Compiling.{Answers}
 use Rattle.schedule_compiler.specs.declared.schedule.Place.{Place}
 use Rattle.schedule_compiler.specs.Schedules.{ScheduleOf, schedule_of}
 

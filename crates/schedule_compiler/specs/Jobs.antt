@@ -4,7 +4,7 @@ use Rattle.plan_core.specs.Sound.{AreInputsOf}
 use Rattle.plan_core.specs.Values.{Inputs}
 use Rattle.coll_shape.specs.Meaning.{AreInputs}
 use Rattle.coll_shape.specs.Outline.{Outline}
-use Rattle.shape_plans.specs.Footprint.{refusal}
+use Rattle.schedule_compiler.specs.shapes.Footprint.{refusal}
 use Rattle.schedule_compiler.specs.Schedules.{ScheduleOf, schedule_of}
 
 pub record JobOf : Type 0 where

@@ -3,3 +3,4 @@ pub mod Keeping
 pub mod Answers
 pub mod Jobs
 pub mod done
+pub mod shapes

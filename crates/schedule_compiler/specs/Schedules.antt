@@ -3,7 +3,7 @@ use Rattle.std.specs.Prelude.{ℕ}
 use Rattle.plan_core.specs.Plan.{Plan}
 use Rattle.plan_core.specs.Draw.{HeldCells}
 use Rattle.coll_shape.specs.Outline.{Outline}
-use Rattle.shape_plans.specs.Drawing.{drawing_of, plan_of}
+use Rattle.schedule_compiler.specs.shapes.Drawing.{drawing_of, plan_of}
 
 pub record ScheduleOf : Type 0 where
   pub plan : Plan

@@ -4,8 +4,8 @@ ghost use Rattle.std.specs.Prelude.{◌≡◌, None, IfOk, length};
 ghost use Rattle.coll_shape.specs.Meaning.{AreInputs, Lists};
 ghost use Rattle.coll_shape.specs.Outline.{Outline};
 ghost use Rattle.coll_shape.specs.WellFormed.{IsWellFormed};
-ghost use Rattle.shape_plans.specs.Drawing.{drawing_of, plan_of};
-ghost use Rattle.shape_plans.specs.Footprint.{refusal};
+ghost use Rattle.schedule_compiler.specs.shapes.Drawing.{drawing_of, plan_of};
+ghost use Rattle.schedule_compiler.specs.shapes.Footprint.{refusal};
 ghost use Rattle.schedule_compiler.specs.Answers.{Compiles};
 ghost use Rattle.schedule_compiler.specs.Jobs.{AreInputsFor, job_of};
 ghost use Rattle.schedule_compiler.specs.Keeping.{CanRun};
@@ -13,9 +13,9 @@ ghost use Rattle.schedule_compiler.specs.Schedules.{schedule_of};
 
 use crate::job::Job;
 use crate::schedule::Schedule;
+use crate::shapes::{CompileFault, DrawnShape, drawn_shape};
 use coll_shape::{Inputs, Shape};
 use ptl_types::NoMemory;
-use shape_plans::{CompileFault, DrawnShape, drawn_shape};
 use std::alloc::Global;
 
 /// The schedule of a shape whose plan is drawn.

@@ -8,11 +8,12 @@ mod job;
 mod loading;
 mod of_shape;
 mod schedule;
+pub mod shapes;
 
+pub use crate::shapes::CompileFault;
 pub use compiling::{compile, shape_job, shape_schedules};
 pub use job::Job;
 pub use loading::load;
 pub use of_shape::ShapeJob;
 pub use plan_tables::RankTable;
 pub use schedule::{Place, Schedule};
-pub use shape_plans::CompileFault;

@@ -4,8 +4,8 @@ ghost use Rattle.std.specs.Prelude.{ℕ, [], nat_le, nat_lt, ◌&&◌, ◌≡◌
 ghost use Rattle.std.specs.Prelude.{IfOk, get_or, length, replicate, flat_map};
 ghost use Rattle.ptl_types.specs.Elements.{starting};
 ghost use Rattle.plan_core.specs.Values.{initial};
-ghost use Rattle.plan_calls.specs.Areas.{blank_area, blank_areas, blank_as, initial_region};
-ghost use Rattle.plan_calls.specs.Bits.{op_at, type_at};
+ghost use Rattle.plan_core.specs.calls.Areas.{blank_area, blank_areas, blank_as, initial_region};
+ghost use Rattle.plan_core.specs.calls.Bits.{op_at, type_at};
 ghost use Rattle.plan_tables.specs.Installed.{installed};
 ghost use Rattle.plan_tables.specs.Ranks.{IsTables};
 ghost use Rattle.schedule_compiler.specs.Jobs.{AreInputsFor};

@@ -3,7 +3,7 @@
 ghost use Rattle.std.specs.Prelude.{◌≡◌, None, IfOk};
 ghost use Rattle.coll_shape.specs.Meaning.{AreInputs};
 ghost use Rattle.coll_shape.specs.WellFormed.{IsWellFormed};
-ghost use Rattle.shape_plans.specs.Footprint.{refusal};
+ghost use Rattle.schedule_compiler.specs.shapes.Footprint.{refusal};
 ghost use Rattle.schedule_compiler.specs.Jobs.{IsJobOf, job_of};
 ghost use Rattle.schedule_compiler.specs.Schedules.{schedule_of};
 

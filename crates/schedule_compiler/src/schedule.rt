@@ -4,8 +4,8 @@ ghost use Rattle.std.specs.Prelude.{ℕ, Some, ◌≡◌, ◌<◌, ◌≤◌, �
 ghost use Rattle.ptl_types.specs.declared.headers.Lane.TheVariants.{Request};
 ghost use Rattle.plan_core.specs.Draw.{held_cell};
 ghost use Rattle.plan_core.specs.Sound.{SoundPlan};
-ghost use Rattle.plan_calls.specs.Lanes.{lane_bytes, lane_messages};
-ghost use Rattle.plan_calls.specs.RankOps.{done_threshold};
+ghost use Rattle.plan_core.specs.calls.Lanes.{lane_bytes, lane_messages};
+ghost use Rattle.plan_core.specs.calls.RankOps.{done_threshold};
 ghost use Rattle.plan_tables.specs.Installed.{installed};
 ghost use Rattle.plan_tables.specs.Ranks.{IsTables};
 ghost use Rattle.schedule_compiler.specs.Answers.{place_of};

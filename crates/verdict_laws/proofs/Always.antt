@@ -13,7 +13,7 @@ use Rattle.given_verdicts.specs.declared.answer.GivenAnswer.TheVariants.{Holds}
 use Rattle.given_verdicts.specs.declared.answer.Judged.{Judged}
 use Rattle.given_verdicts.specs.declared.answer.Judged.TheVariants.{Answered, Flawless}
 use Rattle.given_verdicts.specs.Answers.{is_large, judged_text}
-use Rattle.general_verdicts.specs.General.{IsAnsweredBy, IsGeneralAnswer}
+use Rattle.given_verdicts.specs.general.General.{IsAnsweredBy, IsGeneralAnswer}
 use Rattle.verdict_laws.specs.Flawless.{AreNamedMeant}
 use Rattle.verdict_laws.proofs.Holding.{IsOfFlawless, IsTold, text_told}
 

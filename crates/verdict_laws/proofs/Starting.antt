@@ -19,7 +19,7 @@ use Rattle.plan_core.specs.declared.LinkKind.TheVariants.{Atomic, Bump, Put}
 use Rattle.plan_core.specs.Plan.{Plan, cell, in_links, is_bump, link}
 use Rattle.plan_core.specs.Sound.{AreInputsOf, SoundPlan}
 use Rattle.plan_core.specs.Values.{Inputs}
-use Rattle.plan_calls.specs.RankOps.{RankOp, rank_ops}
+use Rattle.plan_core.specs.calls.RankOps.{RankOp, rank_ops}
 use Rattle.plan_judge.specs.Guards.{AreGuarded, guarded_below, is_guard, is_guarded}
 use Rattle.plan_judge.proofs.Guarding.{guarded_at}
 use Rattle.mark_judge.proofs.Tests.{any-In}

@@ -8,7 +8,7 @@ use Rattle.given_lines.specs.Given.{Given}
 use Rattle.given_verdicts.specs.Answers.{lengths_of}
 use Rattle.mark_judge.specs.Judged.{marks_judged}
 use Rattle.plan_agreement.specs.Agreement.{IsMeant}
-use Rattle.plan_calls.specs.Calls.{cell_start}
+use Rattle.plan_core.specs.calls.Calls.{cell_start}
 use Rattle.plan_core.specs.Draw.{HeldCells, held_cell}
 use Rattle.plan_core.specs.Members.{In}
 use Rattle.plan_core.specs.Plan.{Plan, cell}

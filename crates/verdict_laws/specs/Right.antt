@@ -11,7 +11,7 @@ use Rattle.coll_shape.specs.Outline.{Outline, buffer_at}
 use Rattle.given_lines.specs.declared.given.Mark.TheVariants.{Result, Enter, Leave}
 use Rattle.given_lines.specs.Given.{Given}
 use Rattle.mark_judge.specs.Marked.{AreMarked, IsMember, IsOn}
-use Rattle.plan_calls.specs.Calls.{cell_start}
+use Rattle.plan_core.specs.calls.Calls.{cell_start}
 use Rattle.plan_core.specs.Members.{In}
 use Rattle.plan_core.specs.Plan.{cell}
 use Rattle.plan_core.specs.Sound.{AreInputsOf, SoundPlan}

@@ -12,7 +12,7 @@ ghost use Rattle.given_lines.specs.declared.given.Mark.{Mark};
 ghost use Rattle.given_lines.specs.Given.{Given};
 ghost use Rattle.given_verdicts.specs.Answers.{answer_of};
 ghost use Rattle.given_verdicts.specs.declared.answer.GivenAnswer.TheVariants.{Holds};
-ghost use Rattle.general_verdicts.specs.General.{IsGeneralAnswer};
+ghost use Rattle.given_verdicts.specs.general.General.{IsGeneralAnswer};
 ghost use Rattle.plan_core.specs.Draw.{HeldCells};
 ghost use Rattle.plan_core.specs.Plan.{Plan};
 ghost use Rattle.plan_core.specs.Sound.{AreInputsOf, SoundPlan};
@@ -29,6 +29,8 @@ ghost use Rattle.cuts.specs.view.Slots.{Slots, done_ct};
 ghost use Rattle.verdict_laws.specs.Flawless.{AreNamedBarriersKept, AreNamedMeant, AreNamedResults, AreResultsIn, IsFlawless};
 ghost use Rattle.verdict_laws.specs.Right.{IsRightFor};
 ghost use Rattle.verdict_laws.specs.Verdicts.{IsRightForAll, IsRightGiven};
+
+pub mod drawn;
 
 use coll_lang::reads_exactly;
 use cuts::cells::{cells_hold_values, cells_in_order};

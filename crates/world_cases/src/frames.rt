@@ -2,7 +2,7 @@
 //! its opening, and it runs to the same results.
 
 ghost use Rattle.std.specs.Prelude.{true, ◌≡◌, ◌<◌, IfOk, IfSome, length};
-ghost use Rattle.plan_calls.specs.Lanes.{is_used_lane};
+ghost use Rattle.plan_core.specs.calls.Lanes.{is_used_lane};
 ghost use Rattle.worlds.specs.Frames.{lane_in};
 ghost use Rattle.worlds.specs.Later.{IsOpened};
 

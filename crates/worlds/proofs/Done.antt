@@ -4,7 +4,7 @@ use Rattle.op_laws.proofs.Starts.{combined-starts}
 use Rattle.schedule_compiler.specs.Schedules.{ScheduleOf}
 use Rattle.ni_model.specs.State.{State}
 use Rattle.ni_model.specs.Tables.{lookup}
-use Rattle.plan_calls.specs.RankOps.{done_threshold}
+use Rattle.plan_core.specs.calls.RankOps.{done_threshold}
 use Rattle.cuts.specs.histories.Cut.{IsCut}
 use Rattle.cuts.specs.histories.Plans.{system_of}
 use Rattle.cuts.specs.histories.System.{state_at}

@@ -8,7 +8,7 @@ use Rattle.ptl_types.specs.Messages.{Sent}
 use Rattle.ptl_types.specs.declared.headers.Lane.{Lane}
 use Rattle.ptl_types.specs.declared.headers.Lane.TheVariants.{Answer, Request}
 use Rattle.ni_model.specs.Ready.{fired}
-use Rattle.plan_calls.specs.Lanes.{goes_along, lane_links, lane_messages}
+use Rattle.plan_core.specs.calls.Lanes.{goes_along, lane_links, lane_messages}
 use Rattle.plan_core.proofs.Lists.{Distinct-filter, In-filter_cases}
 use Rattle.plan_core.specs.Members.{Distinct, In}
 use Rattle.plan_core.specs.Plan.{Plan, all_links}

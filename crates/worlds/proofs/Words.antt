@@ -5,7 +5,7 @@ use Rattle.op_laws.proofs.OpLaws.{op_laws}
 use Rattle.op_laws.proofs.Starts.{combined-starts}
 use Rattle.op_laws.proofs.Swaps.{combined-swaps}
 use Rattle.ptl_types.specs.declared.headers.Lane.{Lane}
-use Rattle.plan_calls.specs.Lanes.{lane_messages}
+use Rattle.plan_core.specs.calls.Lanes.{lane_messages}
 use Rattle.plan_core.specs.Plan.{Plan}
 use Rattle.plan_core.specs.Sound.{AreInputsOf, SoundPlan}
 use Rattle.plan_core.specs.Values.{Inputs}

@@ -2,7 +2,7 @@
 use Rattle.std.specs.Prelude.{ℕ, ◌<◌, ◌≤◌, ◌≡◌, List, [], ◌++◌, length, min}
 use Rattle.ptl_types.specs.declared.headers.Lane.{Lane}
 use Rattle.pair_wires.specs.Lanes.{Plain}
-use Rattle.plan_calls.specs.Lanes.{lane_messages}
+use Rattle.plan_core.specs.calls.Lanes.{lane_messages}
 use Rattle.cuts.specs.view.Slots.{Slots}
 use Rattle.cuts.specs.histories.History.{got}
 use Rattle.cuts.specs.histories.Plans.{system_of}

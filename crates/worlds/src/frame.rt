@@ -2,7 +2,7 @@
 
 ghost use Rattle.std.specs.Prelude.{true, ◌≡◌, ◌<◌, IfOk};
 ghost use Rattle.std.specs.Borrow.{sem};
-ghost use Rattle.plan_calls.specs.Lanes.{is_used_lane};
+ghost use Rattle.plan_core.specs.calls.Lanes.{is_used_lane};
 ghost use Rattle.cuts.specs.windows.Places.{lane_place};
 ghost use Rattle.worlds.specs.parts.Layout.{lane_at};
 ghost use Rattle.worlds.specs.Frames.{IsClosed, IsFrameOf, MayClose};

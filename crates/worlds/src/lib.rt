@@ -8,6 +8,7 @@ mod laws;
 mod making;
 pub mod opening;
 pub mod parts;
+pub mod tasks;
 mod world;
 
 pub use cuts::orders::Step;

@@ -4,8 +4,8 @@ ghost use Rattle.std.specs.Prelude.{ℕ, true, ◌≡◌, ◌<◌, ◌≤◌, �
 ghost use Rattle.ptl_types.specs.declared.headers.Lane.TheVariants.{Request};
 ghost use Rattle.ni_model.specs.Tables.{lookup};
 ghost use Rattle.plan_core.specs.Members.{In};
-ghost use Rattle.plan_calls.specs.Lanes.{is_used_lane};
-ghost use Rattle.plan_calls.specs.RankOps.{done_threshold};
+ghost use Rattle.plan_core.specs.calls.Lanes.{is_used_lane};
+ghost use Rattle.plan_core.specs.calls.RankOps.{done_threshold};
 ghost use Rattle.cuts.specs.view.Slots.{Slots, done_ct};
 ghost use Rattle.cuts.specs.histories.Cut.{IsAtRest, is_stray};
 ghost use Rattle.cuts.specs.histories.Plans.{IsComplete};

@@ -11,7 +11,7 @@ use Rattle.plan_core.specs.Plan.{Plan, cell, own}
 use Rattle.plan_core.specs.Sound.{AreInputsOf, SoundPlan}
 use Rattle.plan_core.specs.Values.{Inputs, initial}
 use Rattle.cuts.specs.view.Slots.{Slots}
-use Rattle.plan_calls.specs.Calls.{cell_start}
+use Rattle.plan_core.specs.calls.Calls.{cell_start}
 use Rattle.cuts.proofs.histories.FromCut.{moves_at, simulation}
 use Rattle.cuts.proofs.histories.Shape.{shape}
 use Rattle.cuts.specs.histories.Cut.{IsAtRest, IsCut}

@@ -6,8 +6,8 @@ use Rattle.std.proofs.lemmas.List.Sums.{length-filter}
 use Rattle.ni_model.specs.Counts.{successes}
 use Rattle.ni_model.specs.Tables.{Table, lookup}
 use Rattle.op_laws.specs.Combining.{CombineStarts, CombineSwaps}
-use Rattle.plan_calls.specs.RankOps.{done_threshold, is_message, sends_of, rank_ops}
-use Rattle.plan_calls.specs.RankOps.RankOp.{ForDone}
+use Rattle.plan_core.specs.calls.RankOps.{done_threshold, is_message, sends_of, rank_ops}
+use Rattle.plan_core.specs.calls.RankOps.RankOp.{ForDone}
 use Rattle.plan_core.proofs.Links.{In-out_links, In-own}
 use Rattle.plan_core.proofs.Lists.{Distinct-filter, In-filter, In-filter_cases, In-map_cases, all_Within, length-Within, length-map'}
 use Rattle.plan_core.specs.Members.{In, Within}

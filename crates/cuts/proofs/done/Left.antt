@@ -6,8 +6,8 @@ use Rattle.ni_model.specs.Ready.{is_ready, is_ready_op, message_target, posted_a
 use Rattle.ni_model.specs.State.{Operations, Posted}
 use Rattle.ni_model.specs.Tables.{Table}
 use Rattle.op_laws.specs.Combining.{CombineStarts}
-use Rattle.plan_calls.specs.RankOps.{RankOp, is_message, rank_ops}
-use Rattle.plan_calls.specs.RankOps.RankOp.{ForLink, ForDone}
+use Rattle.plan_core.specs.calls.RankOps.{RankOp, is_message, rank_ops}
+use Rattle.plan_core.specs.calls.RankOps.RankOp.{ForLink, ForDone}
 use Rattle.plan_core.proofs.Links.{In-in_links, In-own, out_links-In}
 use Rattle.plan_core.proofs.Growth.{filter-none}
 use Rattle.plan_core.proofs.Lists.{In-append_cases, In-filter, In-filter_cases, In-map_cases}
@@ -32,7 +32,7 @@ use Rattle.cuts.specs.machine.Seen.{nothing_seen, was_fired}
 use Rattle.cuts.proofs.rest.Due.{got_ack, link_to}
 use Rattle.cuts.specs.view.TriggeredOps.{action_of, operation, send_action}
 use Rattle.cuts.specs.view.Slots.{Slots}
-use Rattle.plan_calls.specs.RankOps.{number_of}
+use Rattle.plan_core.specs.calls.RankOps.{number_of}
 use Rattle.ptl_types.specs.declared.elements.AtomicOp.{AtomicOp}
 use Rattle.ptl_types.specs.declared.handles.Count.{Count}
 use Rattle.ptl_types.specs.declared.headers.Lane.TheVariants.{Answer}

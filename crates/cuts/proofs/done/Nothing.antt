@@ -5,7 +5,7 @@ use Rattle.std.proofs.lemmas.Bool.{eqb-true}
 use Rattle.std.proofs.lemmas.List.{map-append}
 use Rattle.std.proofs.lemmas.List.Elements.{filter-append}
 use Rattle.op_laws.specs.Combining.{CombineStarts}
-use Rattle.plan_calls.specs.RankOps.{is_message}
+use Rattle.plan_core.specs.calls.RankOps.{is_message}
 use Rattle.plan_core.proofs.Links.{In-in_links, In-own, In-out_links, out_links-In}
 use Rattle.plan_core.proofs.Lists.{In-append_cases, In-append_right, In-filter, In-filter_cases, In-map, In-map_cases}
 use Rattle.plan_core.specs.Members.{Distinct, In}

@@ -19,7 +19,7 @@ use Rattle.plan_core.specs.Plan.{Plan, cell, link}
 use Rattle.cuts.specs.view.Slots.{Slots}
 use Rattle.cuts.specs.view.TriggeredOps.{kind_for, link_header, operation}
 use Rattle.cuts.specs.machine.Seen.{was_fired}
-use Rattle.plan_calls.specs.RankOps.{RankOp, rank_ops}
+use Rattle.plan_core.specs.calls.RankOps.{RankOp, rank_ops}
 use Rattle.cuts.specs.histories.History.{Local, got}
 use Rattle.cuts.specs.histories.History.Local.{Fire, Receive, Start}
 use Rattle.cuts.specs.histories.Cut.{IsPrefixOf, is_stray}

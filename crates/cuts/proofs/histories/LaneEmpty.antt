@@ -43,13 +43,13 @@ use Rattle.cuts.specs.view.Slots.{Slots, counter_at}
 use Rattle.cuts.specs.histories.History.{Local, after, and_then, made, made_by}
 use Rattle.cuts.specs.histories.History.Local.{Fire, Receive, Start}
 use Rattle.cuts.proofs.histories.Origin.{IsOf, after_of, fired_link, from_link-request, some_one, without}
-use Rattle.plan_calls.specs.Areas.{classes, longest_to}
+use Rattle.plan_core.specs.calls.Areas.{classes, longest_to}
 use Rattle.cuts.specs.histories.Plans.{start_of}
-use Rattle.plan_calls.specs.Calls.{own_cell}
+use Rattle.plan_core.specs.calls.Calls.{own_cell}
 use Rattle.cuts.specs.view.Calls.{prepare}
 use Rattle.cuts.specs.start.Waiting.{area_linked}
 use Rattle.cuts.specs.start.Start.{cell_started, cells_started, entry_of, with_brought}
-use Rattle.plan_calls.specs.declared.OwnCell.{OwnCell}
+use Rattle.plan_core.specs.declared.calls.OwnCell.{OwnCell}
 use Rattle.cuts.proofs.start.Prepared.{prepared}
 use Rattle.plan_core.specs.Sound.{SoundPlan}
 

@@ -22,8 +22,8 @@ use Rattle.plan_core.specs.Plan.{Plan, all_links, cell, is_bump, link}
 use Rattle.plan_core.proofs.Links.{In-from_to, out_links-In}
 use Rattle.plan_core.proofs.Lists.{In-filter, In-filter_cases, In-map_cases, length-Within, length-map'}
 use Rattle.cuts.proofs.machine.RankOps.{rank_ops-along}
-use Rattle.plan_calls.specs.RankOps.{RankOp, rank_ops}
-use Rattle.plan_calls.specs.RankOps.RankOp.{ForLink, ForDone}
+use Rattle.plan_core.specs.calls.RankOps.{RankOp, rank_ops}
+use Rattle.plan_core.specs.calls.RankOps.RankOp.{ForLink, ForDone}
 use Rattle.cuts.proofs.view.Tables.{find-In}
 use Rattle.cuts.specs.view.Slots.{Slots, cell_ct, the_md}
 use Rattle.cuts.specs.view.TriggeredOps.{operation, send_action}
@@ -34,7 +34,7 @@ use Rattle.cuts.proofs.histories.Origin.{send_link}
 use Rattle.cuts.proofs.histories.SentOnce.{sent_once}
 use Rattle.cuts.proofs.histories.Traffic.{number_in}
 use Rattle.cuts.specs.histories.Lanes.{bytes_in}
-use Rattle.plan_calls.specs.Lanes.{goes_along, lane_bytes, lane_links}
+use Rattle.plan_core.specs.calls.Lanes.{goes_along, lane_bytes, lane_links}
 use Rattle.cuts.proofs.start.Areas.{sum-Within}
 
 -- ---- a firing sends no more than its link carries

@@ -28,8 +28,8 @@ use Rattle.ni_model.specs.Starts.{put_header, started}
 use Rattle.plan_core.specs.Plan.{Plan, cell, is_bump, link, out_links}
 use Rattle.cuts.specs.view.Slots.{Slots, cell_ct}
 use Rattle.cuts.specs.view.TriggeredOps.{action_of, kind_for, link_header, operation, send_args, send_action, type_for}
-use Rattle.plan_calls.specs.RankOps.{RankOp, rank_ops}
-use Rattle.plan_calls.specs.RankOps.RankOp.{ForLink, ForDone}
+use Rattle.plan_core.specs.calls.RankOps.{RankOp, rank_ops}
+use Rattle.plan_core.specs.calls.RankOps.RankOp.{ForLink, ForDone}
 use Rattle.ni_model.specs.Conditions.{IsKept}
 use Rattle.cuts.specs.histories.History.Local.{Fire, Receive, Start}
 use Rattle.plan_core.proofs.Lists.{In-filter_cases, In-map_cases}

@@ -18,8 +18,8 @@ use Rattle.cuts.specs.start.Waiting.{annex_of, took}
 use Rattle.cuts.specs.machine.Machine.{Move, note, seen}
 use Rattle.cuts.specs.machine.Machine.Move.{Began, Heard, Strayed, Took}
 use Rattle.cuts.specs.machine.Seen.{Came, Seen}
-use Rattle.plan_calls.specs.RankOps.{RankOp}
-use Rattle.plan_calls.specs.RankOps.RankOp.{ForLink, ForDone}
+use Rattle.plan_core.specs.calls.RankOps.{RankOp}
+use Rattle.plan_core.specs.calls.RankOps.RankOp.{ForLink, ForDone}
 use Rattle.cuts.specs.view.Slots.{Slots}
 use Rattle.cuts.specs.view.View.{view}
 use Rattle.ptl_types.specs.Messages.{Sent}

@@ -16,8 +16,8 @@ use Rattle.cuts.specs.start.Waiting.{took}
 use Rattle.cuts.specs.machine.Machine.{Move, note, out_of, outs, seen}
 use Rattle.cuts.specs.machine.Machine.Move.{Began, Heard, Strayed}
 use Rattle.cuts.specs.machine.Seen.{Came, Seen}
-use Rattle.plan_calls.specs.RankOps.{RankOp}
-use Rattle.plan_calls.specs.RankOps.RankOp.{ForLink, ForDone}
+use Rattle.plan_core.specs.calls.RankOps.{RankOp}
+use Rattle.plan_core.specs.calls.RankOps.RankOp.{ForLink, ForDone}
 use Rattle.cuts.specs.view.Slots.{Slots}
 use Rattle.ptl_types.specs.declared.headers.Lane.TheVariants.{Answer, Request}
 

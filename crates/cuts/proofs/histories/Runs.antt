@@ -13,9 +13,9 @@ use Rattle.plan_core.specs.Plan.{is_bump, link, Plan}
 use Rattle.cuts.proofs.machine.RankOps.{rank_ops-along}
 use Rattle.cuts.specs.machine.Machine.{note_work, MayMove, Move, Moves, came, note, seen, source_rank}
 use Rattle.cuts.specs.machine.Seen.{bumps, nothing_seen, reached_count, to_cell, Came, Seen}
-use Rattle.plan_calls.specs.RankOps.{rank_ops, RankOp}
+use Rattle.plan_core.specs.calls.RankOps.{rank_ops, RankOp}
 use Rattle.std.specs.Prelude.{Bool}
-use Rattle.plan_calls.specs.RankOps.RankOp.{ForLink, ForDone}
+use Rattle.plan_core.specs.calls.RankOps.RankOp.{ForLink, ForDone}
 use Rattle.std.proofs.lemmas.Bool.{and_right, ne_eqb}
 use Rattle.plan_core.specs.Sound.{SoundPlan}
 use Rattle.plan_core.specs.Values.{Inputs}

@@ -21,8 +21,8 @@ use Rattle.ni_model.specs.Ready.{fired, done, fired_op, is_number, posted_at}
 use Rattle.plan_core.specs.Plan.{Plan, cell, is_bump, link}
 use Rattle.cuts.specs.view.Slots.{Slots, cell_ct}
 use Rattle.cuts.specs.view.TriggeredOps.{action_of, link_header, operation, send_action}
-use Rattle.plan_calls.specs.RankOps.{number_of, RankOp, rank_ops}
-use Rattle.plan_calls.specs.RankOps.RankOp.{ForLink, ForDone}
+use Rattle.plan_core.specs.calls.RankOps.{number_of, RankOp, rank_ops}
+use Rattle.plan_core.specs.calls.RankOps.RankOp.{ForLink, ForDone}
 use Rattle.cuts.specs.histories.History.{Beginning, Legal, May, Local, after, and_then, is_for, is_start, made, made_by, sent}
 use Rattle.cuts.specs.histories.History.Local.{Fire, Receive, Start}
 use Rattle.plan_core.proofs.Lists.{In-filter_cases, In-map_cases}

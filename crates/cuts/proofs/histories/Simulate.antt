@@ -17,9 +17,9 @@ use Rattle.plan_core.specs.Values.{Inputs}
 use Rattle.cuts.specs.view.View.{Annex, view, raise_go}
 use Rattle.cuts.specs.view.Slots.{Slots, cell_ct}
 use Rattle.cuts.specs.view.TriggeredOps.{link_header, link_message}
-use Rattle.plan_calls.specs.RankOps.{number_of, RankOp, rank_ops}
+use Rattle.plan_core.specs.calls.RankOps.{number_of, RankOp, rank_ops}
 use Rattle.cuts.specs.machine.Seen.{Seen}
-use Rattle.plan_calls.specs.RankOps.RankOp.{ForLink, ForDone}
+use Rattle.plan_core.specs.calls.RankOps.RankOp.{ForLink, ForDone}
 use Rattle.cuts.specs.machine.Machine.{MayMove, Move, Moves, note, note_work, seen, source_rank}
 use Rattle.cuts.specs.machine.Machine.Move.{Began, Did, Heard, Strayed, Took}
 use Rattle.cuts.specs.histories.History.{Legal, Local, May, after, and_then, Beginning, is_start, made, made_by, state}

@@ -8,8 +8,8 @@ use Rattle.plan_core.specs.Plan.{Plan, from_to, out_links, own}
 use Rattle.plan_core.proofs.Links.{In-from_to}
 use Rattle.plan_core.proofs.Lists.{In-map_cases, count-cons, length-Within}
 use Rattle.cuts.proofs.machine.RankOps.{rank_ops-along, rank_ops-tell}
-use Rattle.plan_calls.specs.RankOps.{RankOp, rank_ops, number_of}
-use Rattle.plan_calls.specs.RankOps.RankOp.{ForLink, ForDone}
+use Rattle.plan_core.specs.calls.RankOps.{RankOp, rank_ops, number_of}
+use Rattle.plan_core.specs.calls.RankOps.RankOp.{ForLink, ForDone}
 use Rattle.cuts.proofs.view.Tables.{find-In, place_in-lt}
 use Rattle.cuts.specs.view.Slots.{Slots}
 use Rattle.cuts.specs.view.TriggeredOps.{operation}

@@ -23,9 +23,9 @@ use Rattle.ptl_types.specs.declared.calls.TriggeredOp.TheVariants.{Set as SetAct
 use Rattle.plan_core.proofs.Lists.{length-map', Distinct_left, In-append_left, In-append_right, In-map_cases}
 use Rattle.plan_core.specs.Plan.{from_to, own, Plan, link}
 use Rattle.cuts.proofs.start.Starting.{length-from_to, IsEarly, start_is}
-use Rattle.plan_calls.specs.Areas.{has_class, links_to, longest_to, area_length, area_start, classes, link_class, region_length}
+use Rattle.plan_core.specs.calls.Areas.{has_class, links_to, longest_to, area_length, area_start, classes, link_class, region_length}
 use Rattle.cuts.specs.histories.Plans.{start_of}
-use Rattle.plan_calls.specs.Calls.{own_cell}
+use Rattle.plan_core.specs.calls.Calls.{own_cell}
 use Rattle.cuts.specs.start.Start.{AreAccepted, cells_started}
 use Rattle.cuts.specs.view.Slots.{counter_at, Slots}
 use Rattle.cuts.proofs.view.StepArrive.{one-index, delivered-pair, more-min, none-chosen, part-place, put-no-answer, step_ack}
@@ -44,11 +44,11 @@ use Rattle.cuts.specs.start.Waiting.{Early, annex_of, area, area_linked, early_a
 use Rattle.cuts.specs.start.Waiting.{stored}
 use Rattle.cuts.specs.machine.Machine.{link_of, note, note_work, seen}
 use Rattle.cuts.specs.machine.Machine.Move.{Began, Heard, Strayed, Took}
-use Rattle.plan_calls.specs.RankOps.{RankOp}
+use Rattle.plan_core.specs.calls.RankOps.{RankOp}
 use Rattle.cuts.proofs.view.MatchBits.{top_bits, top_match-true}
 use Rattle.cuts.proofs.view.StepFire.{IsReady, step_fire}
 use Rattle.cuts.proofs.view.Tables.{find-none}
-use Rattle.plan_calls.specs.Bits.{bits_above}
+use Rattle.plan_core.specs.calls.Bits.{bits_above}
 use Rattle.cuts.specs.view.Steps.{IsAckHere, IsQuiet, Sized, sent_message}
 use Rattle.ptl_types.specs.Elements.{part}
 use Rattle.ptl_types.specs.Handles.{top}

@@ -17,10 +17,10 @@ use Rattle.plan_core.specs.Sound.{SoundPlan}
 use Rattle.plan_core.specs.Values.{Inputs}
 use Rattle.cuts.specs.view.View.{Annex, view}
 use Rattle.cuts.specs.view.Slots.{Slots, cell_ct}
-use Rattle.plan_calls.specs.RankOps.{number_of, RankOp, cell_of, rank_ops}
+use Rattle.plan_core.specs.calls.RankOps.{number_of, RankOp, cell_of, rank_ops}
 use Rattle.cuts.specs.view.TriggeredOps.{operation}
 use Rattle.cuts.specs.machine.Seen.{Seen, reached_count, tells, was_fired}
-use Rattle.plan_calls.specs.RankOps.RankOp.{ForLink, ForDone}
+use Rattle.plan_core.specs.calls.RankOps.RankOp.{ForLink, ForDone}
 use Rattle.cuts.specs.machine.Machine.{Move, note, seen}
 use Rattle.cuts.specs.machine.Machine.Move.{Began, Did, Heard, Strayed, Took}
 use Rattle.cuts.specs.histories.History.{Local, got, is_start}

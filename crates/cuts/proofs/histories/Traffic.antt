@@ -15,8 +15,8 @@ use Rattle.plan_core.specs.Plan.{Plan, cell, is_bump, link, out_links}
 use Rattle.cuts.specs.view.Slots.{Slots}
 use Rattle.cuts.specs.view.TriggeredOps.{kind_for, link_message}
 use Rattle.cuts.specs.machine.Seen.{Came, Seen, was_fired}
-use Rattle.plan_calls.specs.RankOps.{RankOp}
-use Rattle.plan_calls.specs.RankOps.RankOp.{ForLink, ForDone}
+use Rattle.plan_core.specs.calls.RankOps.{RankOp}
+use Rattle.plan_core.specs.calls.RankOps.RankOp.{ForLink, ForDone}
 use Rattle.cuts.specs.machine.Machine.{MayMove, Move, Moves, came, link_of, note, out_of, outs, seen, sending}
 use Rattle.cuts.specs.machine.Machine.Move.{Began, Did, Heard, Strayed, Took}
 use Rattle.cuts.specs.histories.History.{Local, and_then, got, is_for, same_lane}

@@ -11,8 +11,8 @@ use Rattle.plan_core.specs.Members.{In}
 use Rattle.plan_core.specs.Plan.{Plan, is_bump, link}
 use Rattle.plan_core.specs.Sound.{AreInputsOf, SoundPlan}
 use Rattle.plan_core.specs.Values.{Inputs, due}
-use Rattle.plan_calls.specs.RankOps.{RankOp}
-use Rattle.plan_calls.specs.RankOps.RankOp.{ForLink, ForDone}
+use Rattle.plan_core.specs.calls.RankOps.{RankOp}
+use Rattle.plan_core.specs.calls.RankOps.RankOp.{ForLink, ForDone}
 use Rattle.cuts.specs.view.Slots.{Slots}
 use Rattle.cuts.proofs.machine.Central.{all_good, ours_nothing, outs_good}
 use Rattle.cuts.specs.machine.Machine.{came, link_of, note, outs, out_of, sending}

@@ -15,9 +15,9 @@ use Rattle.plan_core.specs.Members.{In, Within}
 use Rattle.plan_core.specs.Plan.{Plan, all_links, cell, from_to, is_bump, link, out_links}
 use Rattle.plan_core.specs.Sound.{AreInputsOf, SoundPlan}
 use Rattle.plan_core.specs.Values.{Inputs}
-use Rattle.plan_calls.specs.Areas.{comes_to, links_to}
-use Rattle.plan_calls.specs.RankOps.{RankOp, is_message, sends_of, rank_ops}
-use Rattle.plan_calls.specs.RankOps.RankOp.{ForLink, ForDone}
+use Rattle.plan_core.specs.calls.Areas.{comes_to, links_to}
+use Rattle.plan_core.specs.calls.RankOps.{RankOp, is_message, sends_of, rank_ops}
+use Rattle.plan_core.specs.calls.RankOps.RankOp.{ForLink, ForDone}
 use Rattle.cuts.specs.view.Slots.{Slots}
 use Rattle.cuts.proofs.machine.Central.{rest_fires, sent_along}
 use Rattle.cuts.proofs.machine.Reached.{fired-In}

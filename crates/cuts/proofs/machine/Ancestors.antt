@@ -7,8 +7,8 @@ use Rattle.plan_core.specs.declared.LinkKind.{LinkKind}
 use Rattle.plan_core.specs.Sound.{SoundPlan}
 use Rattle.plan_core.specs.declared.LinkKind.TheVariants.{Atomic, Bump, Put}
 use Rattle.cuts.specs.machine.Seen.{Came, Seen, bumps, nothing_seen, reached_count, to_cell}
-use Rattle.plan_calls.specs.RankOps.{RankOp, cell_of}
-use Rattle.plan_calls.specs.RankOps.RankOp.{ForLink, ForDone}
+use Rattle.plan_core.specs.calls.RankOps.{RankOp, cell_of}
+use Rattle.plan_core.specs.calls.RankOps.RankOp.{ForLink, ForDone}
 use Rattle.cuts.specs.machine.Machine.{HasReached, IsMachineCut, Leads, MayMove, Move, Moves, all_seen, came, note, out_of, outs, seen}
 use Rattle.cuts.specs.machine.Machine.{sending, source_rank}
 use Rattle.cuts.specs.machine.Machine.Move.{Began, Did, Heard, Strayed, Took}

@@ -11,8 +11,8 @@ use Rattle.plan_core.specs.Sound.{AreInputsOf, SoundPlan}
 use Rattle.plan_core.specs.Values.{Inputs, carried_of, initial, value, due}
 use Rattle.plan_core.specs.declared.LinkKind.TheVariants.{Atomic, Bump, Put}
 use Rattle.cuts.specs.machine.Seen.{Came, Seen, content, nothing_seen, reached_count, was_fired}
-use Rattle.plan_calls.specs.RankOps.{RankOp, rank_ops}
-use Rattle.plan_calls.specs.RankOps.RankOp.{ForLink, ForDone}
+use Rattle.plan_core.specs.calls.RankOps.{RankOp, rank_ops}
+use Rattle.plan_core.specs.calls.RankOps.RankOp.{ForLink, ForDone}
 use Rattle.cuts.specs.machine.Machine.{IsMachineCut, IsMachineRest, MayMove, Move, Moves, Proper, all_seen, came, link_of, note, note_work}
 use Rattle.cuts.specs.machine.Machine.{out_of, outs, seen, sending, source_rank}
 use Rattle.cuts.specs.machine.Machine.Move.{Began, Did, Heard, Strayed, Took}

@@ -4,8 +4,8 @@ use Rattle.plan_core.specs.Members.{In, Distinct}
 use Rattle.plan_core.specs.Plan.{Plan, own, out_links}
 use Rattle.plan_core.proofs.Lists.{Distinct-append, Distinct-map, In-append_left, In-append_right, In-append_cases, In-map, In-map_cases}
 use Rattle.plan_core.proofs.Links.{Distinct-own, Distinct-out_links}
-use Rattle.plan_calls.specs.RankOps.{rank_ops}
-use Rattle.plan_calls.specs.RankOps.RankOp.{ForLink, ForDone}
+use Rattle.plan_core.specs.calls.RankOps.{rank_ops}
+use Rattle.plan_core.specs.calls.RankOps.RankOp.{ForLink, ForDone}
 
 -- ---- rank_ops
 pub In-works_along : (p : Plan) (r l : ℕ) → In l (out_links p r) → In (ForLink l) (rank_ops p r)

@@ -12,8 +12,8 @@ use Rattle.plan_core.specs.Sound.{AreInputsOf, SoundPlan}
 use Rattle.plan_core.specs.Values.{Inputs, initial, land, land_as, value, due}
 use Rattle.plan_core.specs.declared.LinkKind.TheVariants.{Atomic, Bump, Put}
 use Rattle.cuts.specs.machine.Seen.{Came, Seen, bumps, content, is_same_work, reached_count, to_cell, was_fired}
-use Rattle.plan_calls.specs.RankOps.{RankOp, rank_ops}
-use Rattle.plan_calls.specs.RankOps.RankOp.{ForLink, ForDone}
+use Rattle.plan_core.specs.calls.RankOps.{RankOp, rank_ops}
+use Rattle.plan_core.specs.calls.RankOps.RankOp.{ForLink, ForDone}
 use Rattle.cuts.specs.machine.Machine.{Proper, link_of}
 use Rattle.plan_core.proofs.Lists.{Distinct-append, Distinct-filter, Distinct-map, In-append_cases, In-filter, In-filter_cases, In-map}
 use Rattle.plan_core.proofs.Lists.{In-map_cases, all_Within, each, each-append, each_same, length-map'}

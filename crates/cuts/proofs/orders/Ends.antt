@@ -11,8 +11,8 @@ use Rattle.plan_core.specs.Plan.{Plan}
 use Rattle.plan_core.specs.Sound.{AreInputsOf, SoundPlan}
 use Rattle.plan_core.specs.Values.{Inputs}
 use Rattle.plan_core.proofs.Lists.{In-append_left, In-filter_cases, count-cons}
-use Rattle.plan_calls.specs.Areas.{links_to}
-use Rattle.plan_calls.specs.RankOps.{sends_of, rank_ops}
+use Rattle.plan_core.specs.calls.Areas.{links_to}
+use Rattle.plan_core.specs.calls.RankOps.{sends_of, rank_ops}
 use Rattle.cuts.specs.view.Slots.{Slots}
 use Rattle.cuts.specs.view.Calls.{prepare}
 use Rattle.cuts.specs.histories.Cut.{is_received_stray, is_stray}

@@ -10,7 +10,7 @@ use Rattle.plan_core.specs.Sound.{AreInputsOf, SoundPlan}
 use Rattle.plan_core.specs.Values.{Inputs}
 use Rattle.plan_core.proofs.Links.{from_to-In}
 use Rattle.plan_core.proofs.Lists.{In-filter_cases, In-map, In-map_cases}
-use Rattle.plan_calls.specs.RankOps.{RankOp, number_of, rank_ops}
+use Rattle.plan_core.specs.calls.RankOps.{RankOp, number_of, rank_ops}
 use Rattle.cuts.specs.machine.Machine.{all_seen}
 use Rattle.cuts.specs.machine.Seen.{was_fired}
 use Rattle.cuts.specs.view.TriggeredOps.{operation}

@@ -2,7 +2,7 @@
 use Rattle.std.proofs.Common.{ℕ, suc, Bool, true, false, cond, not, ◌+◌, ◌≡◌, ◌≤◌, List, [], ◌∷◌, refl, ap, arith, count_by, min}
 use Rattle.plan_core.specs.Plan.{Plan, is_bump, link}
 use Rattle.cuts.specs.machine.Seen.{Seen, sends}
-use Rattle.plan_calls.specs.RankOps.RankOp.{ForLink, ForDone}
+use Rattle.plan_core.specs.calls.RankOps.RankOp.{ForLink, ForDone}
 use Rattle.cuts.specs.machine.Machine.{Move, note, seen}
 use Rattle.cuts.specs.machine.Machine.Move.{Began, Did, Heard, Strayed, Took}
 use Rattle.plan_core.proofs.Lists.{count-cons}

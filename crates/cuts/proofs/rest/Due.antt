@@ -32,7 +32,7 @@ use Rattle.cuts.proofs.machine.Ancestors.{sent_fired}
 use Rattle.cuts.proofs.machine.Reached.{Distinct-map_filter, link_along}
 use Rattle.cuts.specs.machine.Machine.{all_seen, outs, source_rank}
 use Rattle.cuts.specs.machine.Seen.{nothing_seen, sends}
-use Rattle.plan_calls.specs.RankOps.RankOp.{ForLink}
+use Rattle.plan_core.specs.calls.RankOps.RankOp.{ForLink}
 use Rattle.cuts.specs.view.TriggeredOps.{link_header}
 use Rattle.cuts.specs.view.Steps.{IsAckHere}
 use Rattle.ptl_types.specs.Kinds.{is_answer}

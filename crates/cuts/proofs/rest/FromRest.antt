@@ -40,8 +40,8 @@ use Rattle.cuts.proofs.machine.Reached.{Distinct-map_filter, Ours, fired-In}
 use Rattle.cuts.proofs.machine.RankOps.{Distinct-rank_ops, In-works_along}
 use Rattle.cuts.specs.machine.Machine.{IsMachineCut, IsMachineRest, all_seen, link_of, outs, source_rank}
 use Rattle.cuts.specs.machine.Seen.{Came, Seen, content, nothing_seen, tells, was_fired}
-use Rattle.plan_calls.specs.RankOps.{RankOp, rank_ops, done_threshold, number_of}
-use Rattle.plan_calls.specs.RankOps.RankOp.{ForLink}
+use Rattle.plan_core.specs.calls.RankOps.{RankOp, rank_ops, done_threshold, number_of}
+use Rattle.plan_core.specs.calls.RankOps.RankOp.{ForLink}
 use Rattle.cuts.proofs.view.Tables.{same_handle-refl}
 use Rattle.cuts.specs.view.View.{counter_of, view}
 use Rattle.cuts.specs.view.TriggeredOps.{operation}

@@ -14,7 +14,7 @@ use Rattle.plan_core.specs.Values.{Inputs}
 use Rattle.plan_core.proofs.Links.{In-from_to}
 use Rattle.plan_core.proofs.Lists.{In-filter, In-filter_cases, In-map_cases, length-Within, length-map'}
 use Rattle.cuts.proofs.machine.Reached.{Distinct-map_filter}
-use Rattle.plan_calls.specs.Lanes.{goes_along, is_used_lane, lane_links, lane_messages}
+use Rattle.plan_core.specs.calls.Lanes.{goes_along, is_used_lane, lane_links, lane_messages}
 use Rattle.cuts.specs.view.Calls.{prepare}
 use Rattle.cuts.specs.view.Slots.{Slots}
 use Rattle.cuts.specs.histories.Cut.{IsCut, got_by}

@@ -8,7 +8,7 @@ use Rattle.op_laws.specs.Combining.{CombineStarts}
 use Rattle.plan_core.specs.Plan.{Plan}
 use Rattle.plan_core.specs.Sound.{AreInputsOf, SoundPlan}
 use Rattle.plan_core.specs.Values.{Inputs}
-use Rattle.plan_calls.specs.Lanes.{is_used_lane}
+use Rattle.plan_core.specs.calls.Lanes.{is_used_lane}
 use Rattle.cuts.specs.view.Slots.{Slots}
 use Rattle.cuts.specs.histories.Cut.{IsCut}
 use Rattle.cuts.specs.histories.History.{got, sent}

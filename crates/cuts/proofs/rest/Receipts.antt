@@ -22,8 +22,8 @@ use Rattle.plan_core.proofs.Links.{In-out_links}
 use Rattle.cuts.specs.histories.History.{Local, same_lane}
 use Rattle.cuts.specs.histories.History.Local.{Fire, Receive, Start}
 use Rattle.cuts.proofs.histories.Traffic.{number_in, own_received, own_received-got, to_came}
-use Rattle.plan_calls.specs.RankOps.{sends_of}
-use Rattle.plan_calls.specs.Areas.{links_to}
+use Rattle.plan_core.specs.calls.RankOps.{sends_of}
+use Rattle.plan_core.specs.calls.Areas.{links_to}
 use Rattle.cuts.proofs.rest.Due.{answers_once, got_ack, link_to}
 use Rattle.cuts.proofs.histories.FromCut.{all_once, received_link, sender}
 

@@ -16,8 +16,8 @@ use Rattle.plan_core.specs.Members.{Distinct, In, Within}
 use Rattle.plan_core.specs.Plan.{Plan, all_links, cell, from_to, link}
 use Rattle.plan_core.specs.Sound.{SoundPlan}
 use Rattle.plan_core.specs.Values.{Inputs}
-use Rattle.plan_calls.specs.Areas.{area_length, blank_area, blank_as, classes, comes_to, has_class, is_class, link_class, links_to}
-use Rattle.plan_calls.specs.Bits.{class_op, class_type, op_at, type_at, class_of, op_number, type_number}
+use Rattle.plan_core.specs.calls.Areas.{area_length, blank_area, blank_as, classes, comes_to, has_class, is_class, link_class, links_to}
+use Rattle.plan_core.specs.calls.Bits.{class_op, class_type, op_at, type_at, class_of, op_number, type_number}
 use Rattle.cuts.specs.start.Waiting.{area, came_class, filled, of_class, stored, stored_as}
 use Rattle.cuts.specs.machine.Machine.{link_of}
 use Rattle.cuts.specs.machine.Seen.{Came}

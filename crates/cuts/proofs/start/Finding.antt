@@ -7,7 +7,7 @@ use Rattle.ni_model.specs.Headers.{allows}
 use Rattle.plan_core.specs.Plan.{Plan, cell, link, own}
 use Rattle.plan_core.specs.Sound.{SoundPlan}
 use Rattle.plan_core.specs.Values.{Inputs}
-use Rattle.plan_calls.specs.Calls.{own_cell}
+use Rattle.plan_core.specs.calls.Calls.{own_cell}
 use Rattle.cuts.specs.start.Start.{entry_of as started_entry}
 use Rattle.cuts.specs.view.Slots.{counter_at, Slots}
 use Rattle.ptl_types.specs.declared.entries.Entry.{Entry}
@@ -15,7 +15,7 @@ use Rattle.ptl_types.specs.Handles.{top}
 use Rattle.cuts.specs.view.View.{cell_entry}
 use Rattle.cuts.proofs.view.MatchBits.{bits_match-from, bits_match-true, high-of}
 use Rattle.cuts.proofs.view.StepArrive.{above-one, cell_bits-lt, entry-high}
-use Rattle.plan_calls.specs.Bits.{cell_bits}
+use Rattle.plan_core.specs.calls.Bits.{cell_bits}
 use Rattle.cuts.specs.view.TriggeredOps.{kind_for, link_header}
 use Rattle.cuts.specs.view.Steps.{IsLinkHere}
 use Rattle.ptl_types.specs.Matching.{bits_match}

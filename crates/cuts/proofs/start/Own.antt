@@ -7,7 +7,7 @@ use Rattle.plan_core.specs.Plan.{Plan, cell, own}
 use Rattle.plan_core.specs.Sound.{SoundPlan}
 use Rattle.plan_core.specs.Values.{Inputs, blank, initial, input_bytes, is_input}
 use Rattle.plan_core.proofs.Links.{own-In}
-use Rattle.plan_calls.specs.Areas.{blank_areas, initial_region}
+use Rattle.plan_core.specs.calls.Areas.{blank_areas, initial_region}
 
 module _ (p : Plan) (inputs others : Inputs) (r : ℕ) (sound : SoundPlan p (length inputs)) (size : length others ≡ length inputs)
     (same : (b : ℕ) → get_or (get_or others b []) r [] ≡ get_or (get_or inputs b []) r []) where

@@ -14,18 +14,18 @@ use Rattle.plan_core.specs.Values.{Inputs, initial}
 use Rattle.plan_core.proofs.Links.{Distinct-from_to}
 use Rattle.plan_core.proofs.Lists.{Distinct-filter, length-map'}
 use Rattle.cuts.specs.machine.Seen.{nothing_seen}
-use Rattle.plan_calls.specs.RankOps.{rank_ops}
+use Rattle.plan_core.specs.calls.RankOps.{rank_ops}
 use Rattle.cuts.specs.view.Slots.{Slots, done_ct}
-use Rattle.plan_calls.specs.Bits.{bits_above}
+use Rattle.plan_core.specs.calls.Bits.{bits_above}
 use Rattle.cuts.specs.view.Calls.{area_entry, call_made, calls_made, fresh, prepare, whole_region}
 use Rattle.cuts.proofs.view.Installed.{placed, placed-own, placed_step, sum_step, after_counters, after_operations, cts_are, pending_are}
 use Rattle.cuts.proofs.view.Installed.{calls-append, named}
-use Rattle.plan_calls.specs.Areas.{area_length, area_start, blank_area, blank_areas, classes, has_class, links_to, areas_length}
-use Rattle.plan_calls.specs.Areas.{region_length}
-use Rattle.plan_calls.specs.Limits.{limits_for}
+use Rattle.plan_core.specs.calls.Areas.{area_length, area_start, blank_area, blank_areas, classes, has_class, links_to, areas_length}
+use Rattle.plan_core.specs.calls.Areas.{region_length}
+use Rattle.plan_core.specs.calls.Limits.{limits_for}
 use Rattle.cuts.specs.start.Waiting.{area, area_linked, waiting_view}
 use Rattle.plan_core.specs.Sound.{SoundPlan}
-use Rattle.plan_calls.specs.Calls.{area_call, trigger}
+use Rattle.plan_core.specs.calls.Calls.{area_call, trigger}
 use Rattle.ptl_types.specs.declared.entries.Descriptor.{Descriptor}
 use Rattle.ptl_types.specs.declared.steps.Call.{Call}
 use Rattle.ptl_types.specs.declared.steps.Call.TheVariants.{CtCell, CtDone, MdBind}

@@ -33,7 +33,7 @@ use Rattle.plan_core.specs.Values.{Inputs, initial}
 use Rattle.cuts.proofs.start.Areas.{Distinct-classes, MayLie, area-old, area-push, class-kept, class-small, class_op-of, class_type-of}
 use Rattle.cuts.proofs.start.Areas.{classes-small, at_most-early, filled-fits, filled-push, length-area, length-stored, link-class}
 use Rattle.cuts.proofs.start.Starting.{flat-length}
-use Rattle.plan_calls.specs.Areas.{area_length, area_start, blank_area, blank_as, classes, link_class, links_to, region_length}
+use Rattle.plan_core.specs.calls.Areas.{area_length, area_start, blank_area, blank_as, classes, link_class, links_to, region_length}
 use Rattle.cuts.specs.start.Waiting.{annex_of, area, area_linked, area_me, arrived_of, early_all, early_from, early_of, filled}
 use Rattle.cuts.specs.start.Waiting.{waiting_view, stored, stored_as}
 use Rattle.cuts.specs.machine.Machine.{came}
@@ -42,7 +42,7 @@ use Rattle.cuts.proofs.view.MatchBits.{top_bits, top_match-from, top_match-true}
 use Rattle.cuts.proofs.view.Tables.{find-one, place_in-one, same_handle-refl}
 use Rattle.cuts.specs.view.Slots.{Slots}
 use Rattle.cuts.specs.view.TriggeredOps.{ack_of, kind_for, link_header, link_message}
-use Rattle.plan_calls.specs.Bits.{bits_above, class_of}
+use Rattle.plan_core.specs.calls.Bits.{bits_above, class_of}
 use Rattle.cuts.specs.view.View.{view}
 use Rattle.cuts.specs.view.Steps.{IsLinkHere, Sized}
 use Rattle.ptl_types.specs.Elements.{combined, part, starting, written}

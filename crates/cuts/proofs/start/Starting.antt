@@ -25,9 +25,9 @@ use Rattle.plan_core.specs.declared.Cell.{Cell}
 use Rattle.plan_core.specs.declared.LinkKind.{LinkKind}
 use Rattle.plan_core.specs.declared.LinkKind.TheVariants.{Atomic, Bump, Put}
 use Rattle.cuts.proofs.start.Sized.{sized_took}
-use Rattle.plan_calls.specs.Areas.{comes_to, links_to, longest_to, longest, region_length}
+use Rattle.plan_core.specs.calls.Areas.{comes_to, links_to, longest_to, longest, region_length}
 use Rattle.cuts.specs.start.Waiting.{Early, arrived_of, early_came, partly, stored, stored_as, took}
-use Rattle.plan_calls.specs.Calls.{own_cell}
+use Rattle.plan_core.specs.calls.Calls.{own_cell}
 use Rattle.cuts.specs.start.Start.{AllUsed, AreAccepted, bring, bring_all, brought, brought_by, cell_started, cells_started, fits_elements}
 use Rattle.cuts.specs.start.Start.{go_raised, is_used, lies_in, rank_started, with_brought, entry_of as started_entry}
 use Rattle.cuts.specs.view.Slots.{counter_at, Slots, cell_ct, done_ct}
@@ -51,7 +51,7 @@ use Rattle.cuts.specs.machine.Machine.{came, note, seen}
 use Rattle.cuts.specs.machine.Machine.Move.{Began, Took}
 use Rattle.cuts.specs.machine.Seen.{Came, Seen, bumps, content, reached_count, to_cell}
 use Rattle.cuts.proofs.view.StepArrive.{Lands-here, atomic-whole, came-counted, content-push}
-use Rattle.plan_calls.specs.Bits.{cell_bits}
+use Rattle.plan_core.specs.calls.Bits.{cell_bits}
 use Rattle.cuts.specs.view.TriggeredOps.{kind_for, link_header}
 use Rattle.cuts.specs.view.Steps.{IsLinkHere, Sized}
 use Rattle.ptl_types.specs.Elements.{combined, part, written}

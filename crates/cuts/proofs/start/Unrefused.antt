@@ -29,23 +29,23 @@ use Rattle.plan_core.proofs.Links.{own-In, In-own, out_links-In}
 use Rattle.plan_core.proofs.Lists.{In-append_left}
 use Rattle.plan_core.proofs.Values.{length-initial}
 use Rattle.plan_core.proofs.Flat.{within_flat}
-use Rattle.plan_calls.specs.RankOps.{RankOp, rank_ops, cell_of}
+use Rattle.plan_core.specs.calls.RankOps.{RankOp, rank_ops, cell_of}
 use Rattle.cuts.specs.machine.Seen.{nothing_seen}
-use Rattle.plan_calls.specs.RankOps.RankOp.{ForLink, ForDone}
+use Rattle.plan_core.specs.calls.RankOps.RankOp.{ForLink, ForDone}
 use Rattle.cuts.proofs.machine.RankOps.{rank_ops-along}
 use Rattle.cuts.specs.view.Slots.{Slots, cell_ct, done_ct, the_md}
-use Rattle.plan_calls.specs.Bits.{bits_above}
+use Rattle.plan_core.specs.calls.Bits.{bits_above}
 use Rattle.cuts.specs.view.View.{counter_of, Annex}
 use Rattle.cuts.specs.view.TriggeredOps.{action_of, send_action, send_args}
-use Rattle.plan_calls.specs.Areas.{region_length, area_length, area_start, areas_length, blank_area, blank_areas, classes, has_class}
-use Rattle.plan_calls.specs.Areas.{links_to, longest}
+use Rattle.plan_core.specs.calls.Areas.{region_length, area_length, area_start, areas_length, blank_area, blank_areas, classes, has_class}
+use Rattle.plan_core.specs.calls.Areas.{links_to, longest}
 use Rattle.cuts.specs.view.Calls.{AllPass, MayMake, area_entry, call_fault, call_made, calls_made, action_at, fresh}
 use Rattle.cuts.proofs.view.Installed.{named, calls-append, placed, new_ct, new_op, cts_with, operations_with, after_counters}
 use Rattle.cuts.proofs.view.Installed.{after_operations, cts_are}
 use Rattle.cuts.proofs.start.Prepared.{bind, whole, areas_are, new_area, with_areas}
-use Rattle.plan_calls.specs.Calls.{act_of, area_call, prepare_calls, trigger}
+use Rattle.plan_core.specs.calls.Calls.{act_of, area_call, prepare_calls, trigger}
 use Rattle.std.proofs.lemmas.List.{map-append}
-use Rattle.plan_calls.specs.Limits.{limits_for}
+use Rattle.plan_core.specs.calls.Limits.{limits_for}
 use Rattle.ni_model.specs.Conditions.{MayStart}
 use Rattle.std.proofs.Math.Nat.{le-max_left, le-max_right}
 use Rattle.ptl_types.specs.Operations.{bytes_of}

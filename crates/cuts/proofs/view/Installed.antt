@@ -14,12 +14,12 @@ use Rattle.plan_core.specs.Plan.{Plan, cell, out_links, own}
 use Rattle.cuts.specs.view.Slots.{Slots, cell_ct}
 use Rattle.cuts.specs.view.View.{counter_of}
 use Rattle.cuts.specs.view.TriggeredOps.{action_of, operation}
-use Rattle.plan_calls.specs.RankOps.{RankOp, cell_of, rank_ops}
+use Rattle.plan_core.specs.calls.RankOps.{RankOp, cell_of, rank_ops}
 use Rattle.cuts.specs.machine.Seen.{nothing_seen, reached_count, was_fired}
 use Rattle.plan_core.specs.Places.{place_in}
-use Rattle.plan_calls.specs.RankOps.RankOp.{ForLink, ForDone}
+use Rattle.plan_core.specs.calls.RankOps.RankOp.{ForLink, ForDone}
 use Rattle.cuts.specs.view.Calls.{call_made, calls_made, action_at, sending_action}
-use Rattle.plan_calls.specs.Calls.{act_of, trigger}
+use Rattle.plan_core.specs.calls.Calls.{act_of, trigger}
 use Rattle.ptl_types.specs.declared.steps.Call.{Call}
 use Rattle.ptl_types.specs.declared.steps.Call.TheVariants.{CtCell}
 use Rattle.ptl_types.specs.declared.elements.AtomicOp.{AtomicOp}

@@ -46,7 +46,7 @@ use Rattle.plan_core.specs.Values.{Inputs, initial, land, land_as}
 use Rattle.plan_core.specs.declared.LinkKind.TheVariants.{Atomic, Bump, Put}
 use Rattle.cuts.specs.view.View.{Annex, counter_of, descriptor_of, entry_of, view, md_of, mds_of}
 use Rattle.cuts.specs.view.Slots.{Slots, cell_ct, done_ct, the_md}
-use Rattle.plan_calls.specs.Bits.{bits_above, cell_bits, class_of, op_number, type_number}
+use Rattle.plan_core.specs.calls.Bits.{bits_above, cell_bits, class_of, op_number, type_number}
 use Rattle.cuts.specs.view.TriggeredOps.{kind_for, link_header, link_message, send_args, type_for, ack_of}
 use Rattle.cuts.specs.view.Steps.{IsLinkHere, IsAckHere, IsQuiet, Sized}
 use Rattle.cuts.specs.machine.Seen.{Came, Seen, content, reached_count, to_cell}

@@ -31,11 +31,11 @@ use Rattle.plan_core.specs.Values.{Inputs, initial}
 use Rattle.cuts.specs.view.View.{Annex, counter_of, view, raise_go, md_of, mds_of}
 use Rattle.cuts.specs.view.Slots.{Slots, cell_ct, done_ct, the_md}
 use Rattle.cuts.specs.view.TriggeredOps.{action_of, kind_for, link_message, operation, send_args, send_action, type_for}
-use Rattle.plan_calls.specs.RankOps.{number_of, RankOp, cell_of, rank_ops}
+use Rattle.plan_core.specs.calls.RankOps.{number_of, RankOp, cell_of, rank_ops}
 use Rattle.cuts.specs.view.Steps.{sent_message, Sized}
 use Rattle.cuts.specs.machine.Seen.{Seen, bumps, content, is_same_work, reached_count, to_cell, was_fired}
 use Rattle.plan_core.specs.Places.{cell_length, place_in, start_in}
-use Rattle.plan_calls.specs.RankOps.RankOp.{ForLink, ForDone}
+use Rattle.plan_core.specs.calls.RankOps.RankOp.{ForLink, ForDone}
 use Rattle.cuts.specs.machine.Machine.{note, note_work, sending}
 use Rattle.cuts.specs.machine.Machine.Move.{Began}
 use Rattle.plan_core.proofs.Lists.{In-filter_cases, In-map_cases, count-cons}

@@ -11,10 +11,10 @@ use Rattle.ni_model.specs.Tables.{change, change_one, lookup}
 use Rattle.plan_core.specs.Plan.{Plan, cell, out_links, own}
 use Rattle.cuts.specs.view.Slots.{Slots, cell_ct, done_ct}
 use Rattle.cuts.specs.view.View.{counter_of}
-use Rattle.plan_calls.specs.RankOps.{number_of, RankOp, rank_ops}
+use Rattle.plan_core.specs.calls.RankOps.{number_of, RankOp, rank_ops}
 use Rattle.cuts.specs.machine.Seen.{Seen, reached_count}
 use Rattle.plan_core.specs.Places.{place_in}
-use Rattle.plan_calls.specs.RankOps.RankOp.{ForLink, ForDone}
+use Rattle.plan_core.specs.calls.RankOps.RankOp.{ForLink, ForDone}
 use Rattle.plan_core.proofs.Links.{own-In}
 use Rattle.cuts.proofs.machine.RankOps.{rank_ops-along, rank_ops-tell}
 

@@ -4,7 +4,7 @@ use Rattle.ptl_types.specs.Elements.{part}
 use Rattle.plan_core.specs.Draw.{HeldCells, held_cell}
 use Rattle.plan_core.specs.Plan.{Plan, cell}
 use Rattle.plan_core.specs.Values.{Inputs, value}
-use Rattle.plan_calls.specs.Calls.{cell_start}
+use Rattle.plan_core.specs.calls.Calls.{cell_start}
 use Rattle.cuts.specs.machine.Machine.{Leads}
 use Rattle.cuts.specs.machine.Rounds.{IsRounds}
 use Rattle.cuts.specs.view.Slots.{Slots}

@@ -8,7 +8,7 @@ use Rattle.ni_model.specs.Tables.{lookup}
 use Rattle.plan_core.specs.Members.{In}
 use Rattle.plan_core.specs.Plan.{Plan, cell}
 use Rattle.plan_core.specs.Values.{Inputs, value}
-use Rattle.plan_calls.specs.RankOps.{done_threshold}
+use Rattle.plan_core.specs.calls.RankOps.{done_threshold}
 use Rattle.cuts.specs.view.Slots.{Slots, done_ct}
 use Rattle.cuts.specs.histories.Cut.{IsCut, IsPrefixOf, got_by, is_received_stray}
 use Rattle.cuts.specs.histories.History.{Local}

@@ -11,11 +11,11 @@ use Rattle.ni_model.specs.Refusals.{ct_inc_fault}
 use Rattle.plan_core.specs.Plan.{Plan, cell, own}
 use Rattle.plan_core.specs.Places.{start_in}
 use Rattle.plan_core.specs.Values.{Inputs, value}
-use Rattle.plan_calls.specs.declared.OwnCell.{OwnCell}
-use Rattle.plan_calls.specs.Areas.{longest_to}
-use Rattle.plan_calls.specs.Calls.{own_cells}
-use Rattle.plan_calls.specs.Lanes.{is_used_lane}
-use Rattle.plan_calls.specs.RankOps.{done_threshold}
+use Rattle.plan_core.specs.declared.calls.OwnCell.{OwnCell}
+use Rattle.plan_core.specs.calls.Areas.{longest_to}
+use Rattle.plan_core.specs.calls.Calls.{own_cells}
+use Rattle.plan_core.specs.calls.Lanes.{is_used_lane}
+use Rattle.plan_core.specs.calls.RankOps.{done_threshold}
 use Rattle.cuts.specs.view.Slots.{Slots, cell_ct, counter_at, done_ct}
 use Rattle.cuts.specs.view.Calls.{prepare}
 use Rattle.cuts.specs.start.Start.{AreAccepted, cells_started, rank_started}

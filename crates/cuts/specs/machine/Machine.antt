@@ -6,8 +6,8 @@ use Rattle.plan_core.specs.Members.{Distinct, In}
 use Rattle.plan_core.specs.Plan.{in_links, Plan, cell, is_bump, link}
 use Rattle.plan_core.specs.Values.{Inputs, carried_of, initial}
 use Rattle.cuts.specs.machine.Seen.{Came, Seen, content, nothing_seen, reached_count, was_fired}
-use Rattle.plan_calls.specs.RankOps.{RankOp, cell_of, rank_ops}
-use Rattle.plan_calls.specs.RankOps.RankOp.{ForLink, ForDone}
+use Rattle.plan_core.specs.calls.RankOps.{RankOp, cell_of, rank_ops}
+use Rattle.plan_core.specs.calls.RankOps.RankOp.{ForLink, ForDone}
 
 -- a start, the arrival of what a link carries, a firing, an acknowledgement, a message of another job
 pub data Move : Type 0 where

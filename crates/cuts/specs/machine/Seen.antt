@@ -4,8 +4,8 @@ use Rattle.ptl_types.specs.declared.handles.Count.{Count}
 use Rattle.ni_model.specs.Counts.{successes}
 use Rattle.plan_core.specs.Plan.{Plan, link, is_bump}
 use Rattle.plan_core.specs.Values.{land}
-use Rattle.plan_calls.specs.RankOps.{RankOp}
-use Rattle.plan_calls.specs.RankOps.RankOp.{ForLink, ForDone}
+use Rattle.plan_core.specs.calls.RankOps.{RankOp}
+use Rattle.plan_core.specs.calls.RankOps.RankOp.{ForLink, ForDone}
 
 -- a link's message came, with these bytes
 pub record Came : Type 0 where

@@ -9,7 +9,7 @@ use Rattle.ni_model.specs.Counts.{successes, plus}
 use Rattle.ni_model.specs.Refusals.{ct_inc_fault}
 use Rattle.ni_model.specs.Calls.{ends_by}
 use Rattle.cuts.specs.view.Slots.{Slots, counter_at}
-use Rattle.plan_calls.specs.declared.OwnCell.{OwnCell}
+use Rattle.plan_core.specs.declared.calls.OwnCell.{OwnCell}
 use Rattle.cuts.specs.start.Start.{cell_started, cells_started, entry_of, go_raised, rank_started, with_brought}
 
 pub ends_by-same : {A B : Type 0} (part_of : State → B) (o : Option NiFault) (old new : State) (x : A) (b : B)

@@ -17,7 +17,7 @@ use Rattle.ni_model.specs.Counts.{successes}
 use Rattle.ni_model.specs.Calls.{me_append, ct_inc}
 use Rattle.cuts.specs.view.Slots.{Slots, counter_at}
 use Rattle.cuts.specs.view.Calls.{cell_entry}
-use Rattle.plan_calls.specs.declared.OwnCell.{OwnCell}
+use Rattle.plan_core.specs.declared.calls.OwnCell.{OwnCell}
 
 -- the entry of an own cell
 abbrev pub entry_of : Handle → OwnCell → Entry

@@ -16,10 +16,10 @@ use Rattle.plan_core.specs.Values.{Inputs}
 use Rattle.cuts.specs.machine.Seen.{Came, Seen}
 use Rattle.cuts.specs.view.View.{Annex, view}
 use Rattle.cuts.specs.view.Slots.{Slots}
-use Rattle.plan_calls.specs.Bits.{bits_above}
+use Rattle.plan_core.specs.calls.Bits.{bits_above}
 use Rattle.cuts.specs.view.TriggeredOps.{link_header}
 use Rattle.cuts.specs.view.Calls.{area_entry}
-use Rattle.plan_calls.specs.Areas.{area_length, area_start, areas_length, blank_area, classes, link_class, links_to}
+use Rattle.plan_core.specs.calls.Areas.{area_length, area_start, areas_length, blank_area, classes, link_class, links_to}
 
 -- a message that came early: what it brought, who sent it, and where it lies
 pub record Early : Type 0 where

@@ -25,9 +25,9 @@ use Rattle.ni_model.specs.Refusals.{pt_alloc_fault, alloc_fault, bind_fault, tri
 use Rattle.ni_model.specs.State.{State, opened, parts_of, side_of, with_parts}
 use Rattle.plan_core.specs.Plan.{Plan, own}
 use Rattle.plan_core.specs.Values.{Inputs}
-use Rattle.plan_calls.specs.Areas.{initial_region}
-use Rattle.plan_calls.specs.Calls.{prepare_calls}
-use Rattle.plan_calls.specs.Limits.{limits_for}
+use Rattle.plan_core.specs.calls.Areas.{initial_region}
+use Rattle.plan_core.specs.calls.Calls.{prepare_calls}
+use Rattle.plan_core.specs.calls.Limits.{limits_for}
 use Rattle.cuts.specs.view.Slots.{Slots, counter_at, done_ct, the_md}
 
 -- ---- what the calls are made with

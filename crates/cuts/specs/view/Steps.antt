@@ -10,8 +10,8 @@ use Rattle.plan_core.specs.Members.{In}
 use Rattle.plan_core.specs.Plan.{Plan, cell, link, is_bump}
 use Rattle.plan_core.specs.Values.{Inputs, initial}
 use Rattle.cuts.specs.machine.Seen.{Seen, content}
-use Rattle.plan_calls.specs.RankOps.{RankOp}
-use Rattle.plan_calls.specs.RankOps.RankOp.{ForLink, ForDone}
+use Rattle.plan_core.specs.calls.RankOps.{RankOp}
+use Rattle.plan_core.specs.calls.RankOps.RankOp.{ForLink, ForDone}
 use Rattle.cuts.specs.machine.Machine.{sending}
 use Rattle.cuts.specs.view.View.{Annex}
 use Rattle.cuts.specs.view.Slots.{Slots, the_md}

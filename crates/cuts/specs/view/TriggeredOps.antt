@@ -17,9 +17,9 @@ use Rattle.ni_model.specs.Starts.{put_header}
 use Rattle.ni_model.specs.State.{Posted}
 use Rattle.plan_core.specs.Plan.{Plan, cell, link, own, is_bump}
 use Rattle.plan_core.specs.Places.{start_in}
-use Rattle.plan_calls.specs.Bits.{cell_bits}
-use Rattle.plan_calls.specs.RankOps.{RankOp, cell_of, number_of}
-use Rattle.plan_calls.specs.RankOps.RankOp.{ForLink, ForDone}
+use Rattle.plan_core.specs.calls.Bits.{cell_bits}
+use Rattle.plan_core.specs.calls.RankOps.{RankOp, cell_of, number_of}
+use Rattle.plan_core.specs.calls.RankOps.RankOp.{ForLink, ForDone}
 use Rattle.cuts.specs.view.Slots.{Slots, cell_ct, done_ct, the_md}
 
 -- the put arguments of link l

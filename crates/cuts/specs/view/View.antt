@@ -15,9 +15,9 @@ use Rattle.ni_model.specs.State.{State}
 use Rattle.plan_core.specs.Plan.{Plan, cell, own, out_links}
 use Rattle.plan_core.specs.Values.{Inputs, initial}
 use Rattle.plan_core.specs.Places.{start_in, place_in}
-use Rattle.plan_calls.specs.Areas.{longest, region_length}
-use Rattle.plan_calls.specs.Bits.{cell_bits}
-use Rattle.plan_calls.specs.RankOps.{rank_ops}
+use Rattle.plan_core.specs.calls.Areas.{longest, region_length}
+use Rattle.plan_core.specs.calls.Bits.{cell_bits}
+use Rattle.plan_core.specs.calls.RankOps.{rank_ops}
 use Rattle.cuts.specs.machine.Seen.{Seen, content, reached_count, was_fired}
 use Rattle.cuts.specs.view.Slots.{Slots, done_ct, cell_ct, the_md}
 use Rattle.cuts.specs.view.TriggeredOps.{operation}

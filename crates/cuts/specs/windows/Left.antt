@@ -2,8 +2,8 @@
 -- and the receipts.
 use Rattle.std.specs.Prelude.{ℕ, suc, ◌+◌, ◌-◌, length, sum_by, if◌then◌else◌}
 use Rattle.plan_core.specs.Plan.{Plan, from_to}
-use Rattle.plan_calls.specs.Areas.{links_to}
-use Rattle.plan_calls.specs.RankOps.{sends_of, rank_ops}
+use Rattle.plan_core.specs.calls.Areas.{links_to}
+use Rattle.plan_core.specs.calls.RankOps.{sends_of, rank_ops}
 use Rattle.cuts.specs.orders.Chosen.{Scene}
 
 -- of rank r in all

@@ -13,9 +13,9 @@ use Rattle.cuts.specs.histories.Plans.{system_of}
 use Rattle.cuts.specs.histories.System.{Histories}
 use Rattle.cuts.specs.histories.Wave.{HasNoStray}
 use Rattle.cuts.specs.orders.Taking.{listed}
-use Rattle.shape_plans.specs.Drawing.{plan_of}
-use Rattle.shape_plans.specs.Footprint.{refusal}
-use Rattle.shape_plans.proofs.Final.{fine-shape, inputs_fit}
+use Rattle.schedule_compiler.specs.shapes.Drawing.{plan_of}
+use Rattle.schedule_compiler.specs.shapes.Footprint.{refusal}
+use Rattle.schedule_compiler.proofs.shapes.Final.{fine-shape, inputs_fit}
 use Rattle.cuts.specs.interleavings.Interleaving.{IsReachedIn, IsStillButStrays, steps_due, strays_received}
 use Rattle.cuts.proofs.interleavings.Cuts.{one_choice_clean}
 use Rattle.cuts.proofs.interleavings.Interleavings.{but_strays_rest, reached_moment, steps_by_receipts}

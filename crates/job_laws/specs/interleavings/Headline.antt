@@ -6,8 +6,8 @@ use Rattle.cuts.specs.view.Slots.{Slots}
 use Rattle.cuts.specs.histories.Moment.{Lanes}
 use Rattle.cuts.specs.histories.Plans.{IsComplete, system_of}
 use Rattle.cuts.specs.histories.System.{Histories, state_at}
-use Rattle.shape_plans.specs.Drawing.{plan_of}
-use Rattle.shape_plans.specs.Footprint.{refusal}
+use Rattle.schedule_compiler.specs.shapes.Drawing.{plan_of}
+use Rattle.schedule_compiler.specs.shapes.Footprint.{refusal}
 use Rattle.cuts.specs.interleavings.Interleaving.{IsReachedIn, IsStillButStrays}
 use Rattle.job_laws.specs.Results.{AreMeant}
 

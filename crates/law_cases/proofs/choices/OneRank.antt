@@ -17,17 +17,17 @@ use Rattle.cuts.specs.histories.History.{Beginning, Local, made, state}
 use Rattle.cuts.specs.histories.History.Local.{Fire, Receive, Start}
 use Rattle.coll_lang.specs.declared.choices.ChoiceKind.{ChoiceKind}
 use Rattle.coll_lang.specs.declared.choices.ChoiceKind.TheVariants.{Elect, Tickets}
-use Rattle.choice_texts.specs.machine.Machine.{answer, ask}
-use Rattle.choice_texts.specs.view.Install.{Slots, answer_message, ask_message, ct_of, four_words, number_of, view}
-use Rattle.choice_texts.specs.view.Install.Counter.{Done, Go}
-use Rattle.choice_texts.specs.view.Install.RankOp.{Look, Send, ForDone}
-use Rattle.choice_texts.specs.view.Calls.{install, no_seat}
+use Rattle.plan_choice.specs.texts.machine.Machine.{answer, ask}
+use Rattle.plan_choice.specs.texts.view.Install.{Slots, answer_message, ask_message, ct_of, four_words, number_of, view}
+use Rattle.plan_choice.specs.texts.view.Install.Counter.{Done, Go}
+use Rattle.plan_choice.specs.texts.view.Install.RankOp.{Look, Send, ForDone}
+use Rattle.plan_choice.specs.texts.view.Calls.{install, no_seat}
 use Rattle.cuts.specs.histories.System.{System, state_at}
 use Rattle.cuts.specs.orders.Chosen.{Scene, chosen, enabled_steps}
 use Rattle.cuts.specs.declared.orders.Step.TheVariants as steps
-use Rattle.choice_texts.specs.laws.Decided.{IsDecided, IsInRange, choice_system, count_from, result_of}
+use Rattle.plan_choice.specs.texts.laws.Decided.{IsDecided, IsInRange, choice_system, count_from, result_of}
 use Rattle.cuts.proofs.orders.Choosing.{chosen_reached, none_listed_still}
-use Rattle.choice_texts.proofs.laws.Resting.{agrees_reached, rest_decided}
+use Rattle.plan_choice.proofs.texts.laws.Resting.{agrees_reached, rest_decided}
 
 abbrev pub choices : List ChoiceKind
 choices = Elect ∷ Tickets ∷ []

@@ -11,10 +11,10 @@ use Rattle.ni_model.specs.State.{target}
 use Rattle.cuts.specs.histories.System.{System, state_at}
 use Rattle.cuts.specs.orders.Chosen.{IsChosen, Scene, chosen, enabled_steps}
 use Rattle.cuts.specs.orders.Taking.{listed}
-use Rattle.choice_texts.specs.view.Install.{Slots, ct_of}
-use Rattle.choice_texts.specs.view.Install.Counter.{Go}
-use Rattle.choice_texts.specs.laws.Decided.{choice_system, result_of}
-use Rattle.choice_texts.proofs.orders.OneRun.{one_result, one_run}
+use Rattle.plan_choice.specs.texts.view.Install.{Slots, ct_of}
+use Rattle.plan_choice.specs.texts.view.Install.Counter.{Go}
+use Rattle.plan_choice.specs.texts.laws.Decided.{choice_system, result_of}
+use Rattle.plan_choice.proofs.texts.orders.OneRun.{one_result, one_run}
 use Rattle.law_cases.proofs.choices.OneRank.{choices, ended, history, in_range, run, slots, system}
 
 -- the stamps are the slots

@@ -13,9 +13,9 @@ use Rattle.ni_model.specs.State.{State, target}
 use Rattle.ni_model.specs.Tables.{lookup}
 use Rattle.cuts.specs.histories.System.{System, state_at}
 use Rattle.cuts.specs.orders.Chosen.{Scene, chosen, enabled_steps}
-use Rattle.choice_texts.specs.view.Install.{Slots, ct_of, four_words}
-use Rattle.choice_texts.specs.view.Install.Counter.{Done}
-use Rattle.choice_texts.specs.laws.Decided.{choice_system, result_of}
+use Rattle.plan_choice.specs.texts.view.Install.{Slots, ct_of, four_words}
+use Rattle.plan_choice.specs.texts.view.Install.Counter.{Done}
+use Rattle.plan_choice.specs.texts.laws.Decided.{choice_system, result_of}
 
 abbrev pub choices : List ChoiceKind
 choices = Elect ∷ Tickets ∷ []

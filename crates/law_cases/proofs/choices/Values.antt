@@ -2,8 +2,8 @@
 use Rattle.std.proofs.Common.{ℕ, zero, suc, ◌==◌, ◌≡◌, ◌<◌, [], ◌∷◌, refl, arith, lit<, if◌then◌else◌, false, true}
 use Rattle.coll_lang.specs.declared.choices.ChoiceKind.TheVariants.{Elect, Tickets}
 use Rattle.ptl_types.specs.declared.headers.Lane.TheVariants.{Answer, Request}
-use Rattle.choice_texts.specs.machine.Choices.{AreTickets, HasValue, IsElected, IsRight, choice_at}
-use Rattle.choice_texts.specs.laws.Decided.{IsInRange, is_choice_lane}
+use Rattle.plan_choice.specs.texts.machine.Choices.{AreTickets, HasValue, IsElected, IsRight, choice_at}
+use Rattle.plan_choice.specs.texts.laws.Decided.{IsInRange, is_choice_lane}
 
 below2 : (P : ℕ → Type 0) → P 0 → P 1 → (r : ℕ) → r < 2 → P r
 below2 P a b zero h = a

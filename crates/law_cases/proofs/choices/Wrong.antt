@@ -15,12 +15,12 @@ use Rattle.ni_model.specs.Starts.{started}
 use Rattle.ni_model.specs.State.{Posted, target}
 use Rattle.cuts.specs.histories.System.{System, state_at}
 use Rattle.cuts.specs.orders.Chosen.{chosen, enabled_steps}
-use Rattle.choice_texts.specs.machine.Choices.{AreTickets, IsElected}
-use Rattle.choice_texts.specs.view.Install.{Slots, ct_of, four_words, get_args, operation, put_args}
-use Rattle.choice_texts.specs.view.Install.Counter.{Go}
-use Rattle.choice_texts.specs.view.Install.Part.{Old}
-use Rattle.choice_texts.specs.view.Install.RankOp.{Look, Send, ForDone}
-use Rattle.choice_texts.specs.laws.Decided.{choice_system, result_of}
+use Rattle.plan_choice.specs.texts.machine.Choices.{AreTickets, IsElected}
+use Rattle.plan_choice.specs.texts.view.Install.{Slots, ct_of, four_words, get_args, operation, put_args}
+use Rattle.plan_choice.specs.texts.view.Install.Counter.{Go}
+use Rattle.plan_choice.specs.texts.view.Install.Part.{Old}
+use Rattle.plan_choice.specs.texts.view.Install.RankOp.{Look, Send, ForDone}
+use Rattle.plan_choice.specs.texts.laws.Decided.{choice_system, result_of}
 
 abbrev slots : Slots
 slots = record { ct = λ n. n; me = λ n. n; md = λ n. n }

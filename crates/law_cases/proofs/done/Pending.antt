@@ -11,7 +11,7 @@ use Rattle.ni_model.specs.Counts.{successes}
 use Rattle.ni_model.specs.Ready.{fired, is_ready}
 use Rattle.ni_model.specs.Starts.{started}
 use Rattle.ni_model.specs.State.{target}
-use Rattle.plan_calls.specs.RankOps.{done_threshold}
+use Rattle.plan_core.specs.calls.RankOps.{done_threshold}
 use Rattle.plan_core.specs.Plan.{Plan}
 use Rattle.cuts.specs.histories.History.{Legal, got}
 use Rattle.cuts.specs.histories.History.Local.{Fire, Receive, Start}

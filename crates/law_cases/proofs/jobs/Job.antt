@@ -40,8 +40,8 @@ use Rattle.coll_shape.specs.Outline.{Outline, group_at, step_at}
 use Rattle.plan_steps.specs.Steps.{exits_by, held_by}
 use Rattle.plan_steps.specs.Trees.{parent}
 use Rattle.plan_steps.specs.Rounds.{rounds}
-use Rattle.shape_plans.specs.Drawing.{drawing_of, drawn_inputs, drawn_upto, hold_row, plan_of}
-use Rattle.step_laws.specs.Order.{IsAt, entry_cell}
+use Rattle.schedule_compiler.specs.shapes.Drawing.{drawing_of, drawn_inputs, drawn_upto, hold_row, plan_of}
+use Rattle.job_laws.specs.steps.Order.{IsAt, entry_cell}
 use Rattle.job_laws.specs.Barriers.{AreBarriersKept, barrier_cell}
 use Rattle.cuts.specs.cells.Cells.{result_in}
 use Rattle.job_laws.specs.Results.{AreMeant}

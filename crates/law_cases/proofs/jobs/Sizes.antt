@@ -9,11 +9,11 @@ use Rattle.coll_shape.specs.declared.types.CollStep.TheVariants.{Reduce, Reduces
 use Rattle.plan_steps.specs.Steps.{exits_by, held_by}
 use Rattle.plan_steps.specs.Trees.{parent}
 use Rattle.plan_steps.specs.Rounds.{rounds}
-use Rattle.shape_plans.specs.Drawing.{drawn_inputs, drawn_upto, hold_row}
+use Rattle.schedule_compiler.specs.shapes.Drawing.{drawn_inputs, drawn_upto, hold_row}
 use Rattle.plan_steps.specs.Collectives.{step_bytes, step_links}
-use Rattle.shape_plans.specs.Footprint.{footprint, judged, refusal, refused_at}
-use Rattle.shape_plans.specs.Footprint.Excess.{Bytes, Links}
-use Rattle.shape_plans.specs.Judging.{size_upto}
+use Rattle.schedule_compiler.specs.shapes.Footprint.{footprint, judged, refusal, refused_at}
+use Rattle.schedule_compiler.specs.shapes.Footprint.Excess.{Bytes, Links}
+use Rattle.schedule_compiler.specs.shapes.Judging.{size_upto}
 use Rattle.law_cases.proofs.jobs.Job.{job}
 
 links_of_steps : (step_links Barrier 3 3 ≡ 15) × (step_links (Broadcast 0 0 1) 3 3 ≡ 9) × (step_links (Reduce 0 Sum 0 1) 3 3 ≡ 11)

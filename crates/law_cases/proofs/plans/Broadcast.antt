@@ -20,8 +20,8 @@ use Rattle.plan_core.specs.Plan.{Plan}
 use Rattle.plan_core.specs.Values.{Inputs, value}
 use Rattle.cuts.specs.view.Slots.{Slots, done_ct}
 use Rattle.cuts.specs.view.TriggeredOps.{link_message, ack_message}
-use Rattle.plan_calls.specs.RankOps.{done_threshold}
-use Rattle.plan_calls.specs.Bits.{bits_above, class_of}
+use Rattle.plan_core.specs.calls.RankOps.{done_threshold}
+use Rattle.plan_core.specs.calls.Bits.{bits_above, class_of}
 use Rattle.cuts.specs.histories.History.{Beginning, Legal, Local, after, state, sent, got}
 use Rattle.cuts.specs.histories.History.Local.{Start, Receive, Fire}
 use Rattle.cuts.specs.start.Start.{bring, cell_started}

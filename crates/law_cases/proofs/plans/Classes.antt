@@ -7,11 +7,11 @@ use Rattle.ptl_types.specs.declared.headers.Lane.TheVariants.{Answer, Request}
 use Rattle.ptl_types.specs.declared.steps.PlannedOp.TheVariants.{Send}
 use Rattle.plan_core.specs.declared.LinkKind.TheVariants.{Put, Bump}
 use Rattle.plan_core.specs.Plan.{Plan}
-use Rattle.plan_calls.specs.Areas.{links_to}
-use Rattle.plan_calls.specs.Bits.{class_of, class_op, class_type}
-use Rattle.plan_calls.specs.Calls.{act_of}
-use Rattle.plan_calls.specs.Lanes.{lane_bytes, lane_messages}
-use Rattle.plan_calls.specs.RankOps.RankOp.{ForLink}
+use Rattle.plan_core.specs.calls.Areas.{links_to}
+use Rattle.plan_core.specs.calls.Bits.{class_of, class_op, class_type}
+use Rattle.plan_core.specs.calls.Calls.{act_of}
+use Rattle.plan_core.specs.calls.Lanes.{lane_bytes, lane_messages}
+use Rattle.plan_core.specs.calls.RankOps.RankOp.{ForLink}
 
 puts_are_of_one_class : class_of None I64 ≡ 0
 puts_are_of_one_class = refl

@@ -27,11 +27,11 @@ use Rattle.plan_core.specs.Plan.{Plan, cell, in_links, link}
 use Rattle.plan_core.specs.Sound.{AreApart, SoundLink, SoundPlan, put_bytes}
 use Rattle.plan_core.specs.Values.{Inputs, input_bytes}
 use Rattle.cuts.specs.view.Slots.{Slots, cell_ct, done_ct}
-use Rattle.plan_calls.specs.RankOps.{done_threshold}
+use Rattle.plan_core.specs.calls.RankOps.{done_threshold}
 use Rattle.cuts.specs.view.TriggeredOps.{link_message}
 use Rattle.cuts.specs.histories.History.{Beginning, Legal, Local, got, is_start, sent, state}
 use Rattle.cuts.specs.histories.History.Local.{Fire, Receive, Start}
-use Rattle.plan_calls.specs.Areas.{area_start, classes}
+use Rattle.plan_core.specs.calls.Areas.{area_start, classes}
 use Rattle.cuts.proofs.rest.FromRest.{completes}
 use Rattle.cuts.specs.start.Start.{bring, cell_started}
 use Rattle.cuts.specs.view.Calls.{call_made, prepare}

@@ -21,8 +21,8 @@ use Rattle.plan_core.specs.declared.Cell.{Cell}
 use Rattle.plan_core.specs.declared.Link.{Link}
 use Rattle.plan_core.specs.declared.LinkKind.TheVariants.{Put}
 use Rattle.plan_core.specs.Plan.{Plan, link, in_links}
-use Rattle.plan_calls.specs.RankOps.{rank_ops}
-use Rattle.plan_calls.specs.RankOps.RankOp.{ForLink, ForDone}
+use Rattle.plan_core.specs.calls.RankOps.{rank_ops}
+use Rattle.plan_core.specs.calls.RankOps.RankOp.{ForLink, ForDone}
 use Rattle.cuts.specs.view.TriggeredOps.{link_message}
 use Rattle.cuts.specs.view.Slots.{done_ct}
 use Rattle.cuts.specs.histories.History.{Beginning, Local, Legal, state, sent, got}

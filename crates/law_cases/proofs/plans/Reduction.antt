@@ -18,8 +18,8 @@ use Rattle.plan_core.specs.declared.LinkKind.{LinkKind}
 use Rattle.plan_core.specs.declared.LinkKind.TheVariants.{Put, Atomic}
 use Rattle.plan_core.specs.Plan.{Plan}
 use Rattle.plan_core.specs.Values.{Inputs, value}
-use Rattle.plan_calls.specs.RankOps.{rank_ops, done_threshold}
-use Rattle.plan_calls.specs.RankOps.RankOp.{ForLink, ForDone}
+use Rattle.plan_core.specs.calls.RankOps.{rank_ops, done_threshold}
+use Rattle.plan_core.specs.calls.RankOps.RankOp.{ForLink, ForDone}
 use Rattle.cuts.specs.view.TriggeredOps.{link_message}
 use Rattle.cuts.specs.view.Slots.{done_ct}
 use Rattle.cuts.specs.histories.History.{Local, state, sent, got}

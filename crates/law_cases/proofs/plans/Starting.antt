@@ -6,7 +6,7 @@ use Rattle.ptl_types.specs.declared.elements.ElemType.{ElemType}
 use Rattle.ptl_types.specs.declared.elements.ElemType.TheVariants.{U8, U16}
 use Rattle.ptl_types.specs.declared.entries.UnexpectedHeader.{UnexpectedHeader}
 use Rattle.ni_model.specs.Tables.{handle}
-use Rattle.plan_calls.specs.declared.OwnCell.{OwnCell}
+use Rattle.plan_core.specs.declared.calls.OwnCell.{OwnCell}
 use Rattle.cuts.specs.start.Start.{brought, is_used, lies_in}
 use Rattle.cuts.specs.view.Calls.{area_entry}
 use Rattle.ptl_types.specs.declared.headers.MessageKind.TheVariants.{Put, Atomic, Get}

@@ -8,12 +8,12 @@ use Rattle.ni_model.specs.State.{State}
 use Rattle.ni_model.specs.Tables.{handle}
 use Rattle.rank_node.specs.Calls.{NewCounter, NewDescriptor}
 use Rattle.rank_node.specs.Handles.{AreAllOf, Handles, Tells}
-use Rattle.choice_texts.specs.machine.Choices.{choice_at}
-use Rattle.choice_texts.specs.view.Calls.{step_calls}
-use Rattle.choice_texts.specs.view.Calls.Call.{CtAlloc, MdBind}
-use Rattle.choice_texts.specs.view.Install.{Slots, before, counters_in, counters_of, ct_of, descriptor_of, parts_of, result_counter}
-use Rattle.choice_texts.specs.view.Install.Counter.{First, Second}
-use Rattle.choice_texts.specs.view.Install.Part.{Given, Old, Result}
+use Rattle.plan_choice.specs.texts.machine.Choices.{choice_at}
+use Rattle.plan_choice.specs.texts.view.Calls.{step_calls}
+use Rattle.plan_choice.specs.texts.view.Calls.Call.{CtAlloc, MdBind}
+use Rattle.plan_choice.specs.texts.view.Install.{Slots, before, counters_in, counters_of, ct_of, descriptor_of, parts_of, result_counter}
+use Rattle.plan_choice.specs.texts.view.Install.Counter.{First, Second}
+use Rattle.plan_choice.specs.texts.view.Install.Part.{Given, Old, Result}
 use Rattle.plan_choice.specs.ranks.Given.{Agrees, AreMade}
 use Rattle.plan_choice.proofs.ranks.Made.{made-both, made-counter, made-descriptor}
 

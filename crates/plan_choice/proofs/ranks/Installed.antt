@@ -7,11 +7,11 @@ use Rattle.ptl_types.specs.declared.calls.Limits.{Limits}
 use Rattle.ni_model.specs.State.{State, opened}
 use Rattle.ni_model.specs.Tables.{handle}
 use Rattle.rank_node.specs.Handles.{AreAllOf, Counted, Handles, handle_of, no_handles, room_under, slot_at}
-use Rattle.choice_texts.specs.view.Calls.{blank, install, install_calls, step_calls, word_calls}
-use Rattle.choice_texts.specs.view.Calls.Call.{CtAlloc, PtAlloc, Trigger}
-use Rattle.choice_texts.specs.view.Install.{Slots, ct_of, limits_of, steps, rank_ops}
-use Rattle.choice_texts.specs.view.Install.Counter.{Done, Go}
-use Rattle.choice_texts.proofs.view.Called.{installed}
+use Rattle.plan_choice.specs.texts.view.Calls.{blank, install, install_calls, step_calls, word_calls}
+use Rattle.plan_choice.specs.texts.view.Calls.Call.{CtAlloc, PtAlloc, Trigger}
+use Rattle.plan_choice.specs.texts.view.Install.{Slots, ct_of, limits_of, steps, rank_ops}
+use Rattle.plan_choice.specs.texts.view.Install.Counter.{Done, Go}
+use Rattle.plan_choice.proofs.texts.view.Called.{installed}
 use Rattle.plan_choice.specs.ranks.Given.{Agrees, AreMade, IsWide, counters_by}
 
 -- nothing was given yet

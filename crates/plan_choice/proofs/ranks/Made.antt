@@ -15,10 +15,10 @@ use Rattle.rank_node.specs.Handles.{AreAllOf, Handles, with_counter_handle, with
 use Rattle.rank_node.proofs.Lists.{length-push, tells-front, tells-last}
 use Rattle.rank_node.proofs.Made.{made-done}
 use Rattle.rank_node.proofs.Steady.{linked-counters, linked-given}
-use Rattle.choice_texts.specs.view.Calls.{Call, calls_made}
-use Rattle.choice_texts.specs.view.Calls.Call.{CtAlloc, MdBind, MeAppend, Trigger}
-use Rattle.choice_texts.specs.view.Install.{Counter, Part, Slots, RankOp, ct_of, action_of, descriptor_of, work_counter, word_entry}
-use Rattle.choice_texts.proofs.view.Called.{made-append}
+use Rattle.plan_choice.specs.texts.view.Calls.{Call, calls_made}
+use Rattle.plan_choice.specs.texts.view.Calls.Call.{CtAlloc, MdBind, MeAppend, Trigger}
+use Rattle.plan_choice.specs.texts.view.Install.{Counter, Part, Slots, RankOp, ct_of, action_of, descriptor_of, work_counter, word_entry}
+use Rattle.plan_choice.proofs.texts.view.Called.{made-append}
 use Rattle.plan_choice.specs.ranks.Given.{Agrees, AreMade, counters_by, descriptors_by, entries_by}
 
 same : (n : ℕ) → n ≡ n + 0

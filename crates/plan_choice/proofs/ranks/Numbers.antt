@@ -7,10 +7,10 @@ use Rattle.coll_lang.specs.declared.choices.ChoiceKind.{ChoiceKind}
 use Rattle.coll_lang.specs.declared.choices.ChoiceKind.TheVariants.{Elect, Tickets}
 use Rattle.plan_core.specs.Plan.{from_to}
 use Rattle.plan_core.proofs.Drawing.{from_to-more}
-use Rattle.choice_texts.specs.machine.Choices.{choice_at}
-use Rattle.choice_texts.specs.view.Calls.{Call, step_calls}
-use Rattle.choice_texts.specs.view.Calls.Call.{CtAlloc, MdBind}
-use Rattle.choice_texts.specs.view.Install.{before, counters_in, counters_of, parts_of, things_in}
+use Rattle.plan_choice.specs.texts.machine.Choices.{choice_at}
+use Rattle.plan_choice.specs.texts.view.Calls.{Call, step_calls}
+use Rattle.plan_choice.specs.texts.view.Calls.Call.{CtAlloc, MdBind}
+use Rattle.plan_choice.specs.texts.view.Install.{before, counters_in, counters_of, parts_of, things_in}
 use Rattle.plan_choice.specs.ranks.Given.{counters_by, descriptors_by, entries_by}
 
 pub flat-more : {X : Type 0} (f : ℕ → List X) (n : ℕ) → flat_map f (from_to 0 (n + 1)) ≡ flat_map f (from_to 0 n) ++ f n

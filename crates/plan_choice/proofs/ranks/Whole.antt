@@ -11,13 +11,13 @@ use Rattle.ni_model.specs.State.{State}
 use Rattle.plan_core.specs.Plan.{from_to}
 use Rattle.rank_node.specs.Calls.{NewCounter}
 use Rattle.rank_node.specs.Handles.{AreAllOf, Counted, Handles, no_handles, room_under}
-use Rattle.choice_texts.specs.machine.Choices.{choice_at}
-use Rattle.choice_texts.specs.view.Calls.{Call, install_calls, step_calls, word_calls}
-use Rattle.choice_texts.specs.view.Calls.Call.{CtAlloc, MeAppend, PtAlloc, Trigger}
-use Rattle.choice_texts.specs.view.Install.{RankOp, before, counters_in, limits_of, steps, things_in, rank_ops, works_of}
-use Rattle.choice_texts.specs.view.Install.Counter.{Done, Go}
-use Rattle.choice_texts.proofs.view.Stamps.{before-le}
-use Rattle.choice_texts.proofs.view.Unrefused.{before_le, counters_two, things_three}
+use Rattle.plan_choice.specs.texts.machine.Choices.{choice_at}
+use Rattle.plan_choice.specs.texts.view.Calls.{Call, install_calls, step_calls, word_calls}
+use Rattle.plan_choice.specs.texts.view.Calls.Call.{CtAlloc, MeAppend, PtAlloc, Trigger}
+use Rattle.plan_choice.specs.texts.view.Install.{RankOp, before, counters_in, limits_of, steps, things_in, rank_ops, works_of}
+use Rattle.plan_choice.specs.texts.view.Install.Counter.{Done, Go}
+use Rattle.plan_choice.proofs.texts.view.Stamps.{before-le}
+use Rattle.plan_choice.proofs.texts.view.Unrefused.{before_le, counters_two, things_three}
 use Rattle.plan_choice.specs.ranks.Given.{AreMade, HasRoom, IsWide, counters_by, descriptors_by}
 use Rattle.plan_choice.proofs.ranks.Made.{made-both, made-counter}
 use Rattle.plan_choice.proofs.ranks.Numbers.{counters_made, descriptors_made, entries_made, flat-more}

@@ -3,9 +3,9 @@ use Rattle.std.specs.Prelude.{ℕ, ◌+◌, ◌≡◌, ◌≤◌, ◌<◌, List,
 use Rattle.coll_lang.specs.declared.choices.ChoiceKind.{ChoiceKind}
 use Rattle.ni_model.specs.State.{State}
 use Rattle.rank_node.specs.Handles.{AreAllOf, Handles, Tells}
-use Rattle.choice_texts.specs.view.Calls.{Call, calls_made}
-use Rattle.choice_texts.specs.view.Calls.Call.{CtAlloc, MdBind, MeAppend}
-use Rattle.choice_texts.specs.view.Install.{Slots}
+use Rattle.plan_choice.specs.texts.view.Calls.{Call, calls_made}
+use Rattle.plan_choice.specs.texts.view.Calls.Call.{CtAlloc, MdBind, MeAppend}
+use Rattle.plan_choice.specs.texts.view.Install.{Slots}
 
 -- k has the slots of all that was made; of what will be made it may say anything
 pub record Agrees (k : Slots) (hs : Handles) : Type 0 where

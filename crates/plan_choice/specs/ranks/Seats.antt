@@ -15,10 +15,10 @@ use Rattle.cuts.specs.start.Start.{go_raised}
 use Rattle.cuts.specs.histories.History.Local.{Fire as Fired, Start as Started}
 use Rattle.rank_node.specs.Copies.{Diary, with_receipt, with_step}
 use Rattle.rank_node.specs.Handles.{Handles, slot_at}
-use Rattle.choice_texts.specs.machine.Counted.{steps_due}
-use Rattle.choice_texts.specs.view.Calls.{install}
-use Rattle.choice_texts.specs.view.Install.{Slots, ct_of}
-use Rattle.choice_texts.specs.view.Install.Counter.{Go}
+use Rattle.plan_choice.specs.texts.machine.Counted.{steps_due}
+use Rattle.plan_choice.specs.texts.view.Calls.{install}
+use Rattle.plan_choice.specs.texts.view.Install.{Slots, ct_of}
+use Rattle.plan_choice.specs.texts.view.Install.Counter.{Go}
 
 -- what a step of a description does, its name left out
 abbrev pub kind_of : ChoiceStep → ChoiceKind

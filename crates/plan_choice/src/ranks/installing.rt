@@ -7,11 +7,11 @@ ghost use Rattle.coll_lang.specs.declared.choices.ChoiceKind.{ChoiceKind};
 ghost use Rattle.coll_lang.specs.declared.choices.ChoiceKind.TheVariants.{Elect, Tickets};
 ghost use Rattle.plan_core.specs.Plan.{from_to};
 ghost use Rattle.rank_node.specs.Handles.{AreAllOf, no_handles, room_under};
-ghost use Rattle.choice_texts.specs.machine.Choices.{choice_at};
-ghost use Rattle.choice_texts.specs.machine.Counted.{steps_due, told_requests, told_steps};
-ghost use Rattle.choice_texts.specs.view.Calls.{install_calls, step_calls, word_calls};
-ghost use Rattle.choice_texts.specs.view.Calls.Call.{MeAppend, Trigger};
-ghost use Rattle.choice_texts.specs.view.Install.{before, counters_in, limits_of, steps, things_in, word_entry, rank_ops, works_of};
+ghost use Rattle.plan_choice.specs.texts.machine.Choices.{choice_at};
+ghost use Rattle.plan_choice.specs.texts.machine.Counted.{steps_due, told_requests, told_steps};
+ghost use Rattle.plan_choice.specs.texts.view.Calls.{install_calls, step_calls, word_calls};
+ghost use Rattle.plan_choice.specs.texts.view.Calls.Call.{MeAppend, Trigger};
+ghost use Rattle.plan_choice.specs.texts.view.Install.{before, counters_in, limits_of, steps, things_in, word_entry, rank_ops, works_of};
 ghost use Rattle.plan_choice.specs.ranks.Given.{AreMade, HasRoom, IsWide};
 ghost use Rattle.plan_choice.specs.ranks.Seats.{IsInstalled};
 

@@ -1,9 +1,9 @@
 //! The region of a rank: four words of eight bytes for each step of the text.
 
 ghost use Rattle.std.specs.Prelude.{◌≡◌, ◌≤◌, ◌++◌, IfOk, OnOk, flat_map, length};
-ghost use Rattle.choice_texts.specs.machine.Machine.{first_word};
-ghost use Rattle.choice_texts.specs.view.Calls.{first_bytes};
-ghost use Rattle.choice_texts.specs.view.Install.{four_words, given_word, steps, word};
+ghost use Rattle.plan_choice.specs.texts.machine.Machine.{first_word};
+ghost use Rattle.plan_choice.specs.texts.view.Calls.{first_bytes};
+ghost use Rattle.plan_choice.specs.texts.view.Install.{four_words, given_word, steps, word};
 ghost use Rattle.plan_choice.specs.ranks.Seats.{kind_of, kinds_of};
 
 use coll_lang::{ChoiceKind, ChoiceStep};

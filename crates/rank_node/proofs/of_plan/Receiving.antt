@@ -10,8 +10,8 @@ use Rattle.plan_core.proofs.Lists.{count-cons}
 use Rattle.plan_core.specs.Plan.{Plan, link}
 use Rattle.plan_core.specs.Sound.{SoundPlan, AreInputsOf}
 use Rattle.plan_core.specs.Values.{Inputs}
-use Rattle.plan_calls.specs.Areas.{links_to}
-use Rattle.plan_calls.specs.RankOps.{sends_of}
+use Rattle.plan_core.specs.calls.Areas.{links_to}
+use Rattle.plan_core.specs.calls.RankOps.{sends_of}
 use Rattle.cuts.specs.view.Slots.{Slots}
 use Rattle.cuts.specs.histories.Cut.{is_received_stray, is_stray}
 use Rattle.cuts.specs.histories.History.{Local, May}

@@ -7,7 +7,7 @@ use Rattle.plan_core.specs.declared.LinkKind.{LinkKind}
 use Rattle.plan_core.specs.declared.LinkKind.TheVariants.{Put, Atomic, Bump}
 use Rattle.plan_core.specs.Plan.{Plan, link, all_links, is_bump, own}
 use Rattle.plan_core.proofs.Lists.{count-cons}
-use Rattle.plan_calls.specs.RankOps.{done_threshold, is_message, sends_of}
+use Rattle.plan_core.specs.calls.RankOps.{done_threshold, is_message, sends_of}
 use Rattle.plan_tables.specs.Rising.{of_key}
 use Rattle.plan_tables.specs.Tables.{from_rank, key_of}
 use Rattle.plan_tables.proofs.Passes.{get-row}

@@ -2,9 +2,9 @@
 use Rattle.std.specs.Prelude.{◌≡◌, Result}
 use Rattle.coll_shape.specs.Outline.{Outline}
 use Rattle.plan_core.specs.Plan.{Plan}
-use Rattle.shape_plans.specs.declared.faults.CompileFault.{CompileFault}
-use Rattle.shape_plans.specs.Drawing.{plan_of}
-use Rattle.shape_plans.specs.Compiling.{Answers}
+use Rattle.schedule_compiler.specs.declared.shapes.faults.CompileFault.{CompileFault}
+use Rattle.schedule_compiler.specs.shapes.Drawing.{plan_of}
+use Rattle.schedule_compiler.specs.shapes.Compiling.{Answers}
 
 -- exactly the refusal, or else the plan, which a counted plan is seen as
 abbrev pub Counts : Outline → Result Plan CompileFault → Type 0

@@ -1,7 +1,7 @@
 //! A plan with its counts.
 
 ghost use Rattle.std.specs.Prelude.{◌≡◌, ◌<◌, ◌+◌, ◌^◌, IfOk, length};
-ghost use Rattle.plan_calls.specs.RankOps.{done_threshold};
+ghost use Rattle.plan_core.specs.calls.RankOps.{done_threshold};
 ghost use Rattle.plan_tables.specs.Tables.{IsTabled};
 ghost use Rattle.schedule_compiler.specs.done.Counts.{AreCounted, AreSent};
 

@@ -1,15 +1,15 @@
 //! From a shape to its plan with the counts.
 
 ghost use Rattle.std.specs.Prelude.{◌≡◌, None};
-ghost use Rattle.shape_plans.specs.Drawing.{plan_of};
-ghost use Rattle.shape_plans.specs.Footprint.{refusal};
+ghost use Rattle.schedule_compiler.specs.shapes.Drawing.{plan_of};
+ghost use Rattle.schedule_compiler.specs.shapes.Footprint.{refusal};
 ghost use Rattle.schedule_compiler.specs.done.Shapes.{Counts};
 
 use crate::done::counted::CountedPlan;
+use crate::shapes::{CompileFault, drawn_shape, plan_sound};
 use coll_shape::Shape;
 use plan_core::Plan;
 use plan_tables::sound_plans;
-use shape_plans::{CompileFault, drawn_shape, plan_sound};
 use std::alloc::Global;
 
 /// The plan of a shape that isn't refused, with its counts.

@@ -4,7 +4,7 @@ use Rattle.std.proofs.lemmas.List.Sums.{count_by-le-length, length-filter}
 use Rattle.ptl_types.specs.declared.headers.Lane.{Lane}
 use Rattle.ptl_types.specs.declared.headers.Lane.TheVariants.{Request, Answer}
 use Rattle.plan_core.specs.Plan.{Plan, all_links}
-use Rattle.plan_calls.specs.Lanes.{goes_along, lane_links, lane_messages}
+use Rattle.plan_core.specs.calls.Lanes.{goes_along, lane_links, lane_messages}
 use Rattle.cuts.proofs.start.Starting.{length-from_to}
 
 at_most-links : (p : Plan) (s d : ℕ) → length (lane_links p s d) ≤ length p.links

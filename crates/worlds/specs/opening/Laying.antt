@@ -2,7 +2,7 @@
 use Rattle.std.specs.Prelude.{ℕ, ◌+◌, ◌^◌, ◌<◌, [], length, min}
 use Rattle.ptl_types.specs.declared.headers.Lane.{Lane}
 use Rattle.pair_wires.specs.Lanes.{Plain, plain}
-use Rattle.plan_calls.specs.Lanes.{lane_messages}
+use Rattle.plan_core.specs.calls.Lanes.{lane_messages}
 use Rattle.plan_core.specs.Plan.{Plan}
 use Rattle.worlds.specs.parts.Keeps.{spare_on}
 use Rattle.worlds.specs.declared.opening.laying.Room.{Room}

@@ -4,9 +4,9 @@ ghost use Rattle.std.specs.Prelude.{ℕ, ◌≡◌, ◌<◌, IfOk, length};
 ghost use Rattle.worlds.specs.parts.Layout.{node_at};
 ghost use Rattle.worlds.specs.opening.Fresh.{IsFresh};
 
+use crate::tasks::install;
 use ptl_types::NoMemory;
 use rank_node::Node;
-use rank_tasks::install;
 use schedule_compiler::Job;
 use std::alloc::Global;
 

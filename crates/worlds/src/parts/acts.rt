@@ -5,7 +5,7 @@ ghost use Rattle.ptl_types.specs.declared.headers.Lane.TheVariants.{Request};
 ghost use Rattle.pair_wires.specs.Lanes.{plain};
 ghost use Rattle.plan_core.specs.Plan.{Plan};
 ghost use Rattle.plan_core.specs.Values.{Inputs};
-ghost use Rattle.plan_calls.specs.Lanes.{is_used_lane};
+ghost use Rattle.plan_core.specs.calls.Lanes.{is_used_lane};
 ghost use Rattle.cuts.specs.histories.Cut.{is_stray};
 ghost use Rattle.cuts.specs.histories.History.{is_start};
 ghost use Rattle.cuts.specs.declared.orders.Step.TheVariants.{Start, Deliver, Fire};

@@ -6,7 +6,7 @@ use Rattle.ptl_types.specs.Messages.{Sent}
 use Rattle.ptl_types.specs.declared.headers.Lane.TheVariants.{Answer, Request}
 use Rattle.plan_core.proofs.Lists.{In-filter_cases}
 use Rattle.cuts.specs.histories.History.{is_for, made, sent}
-use Rattle.plan_calls.specs.Lanes.{lane_links}
+use Rattle.plan_core.specs.calls.Lanes.{lane_links}
 use Rattle.cuts.specs.view.Calls.{prepare}
 use Rattle.cuts.specs.histories.Plans.{start_of}
 use Rattle.cuts.proofs.histories.FromCut.{prepared_of}

@@ -1,5 +1,5 @@
 use Rattle.op_laws.proofs.Starts.{combined-starts}
-use Rattle.plan_calls.specs.Lanes.{lane_messages}
+use Rattle.plan_core.specs.calls.Lanes.{lane_messages}
 use Rattle.cuts.specs.histories.Plans.{system_of}
 use Rattle.cuts.proofs.rest.LaneCuts.{lane_few}
 use Rattle.cuts.proofs.windows.Lanes.{held_few}

@@ -1,7 +1,7 @@
 use Rattle.std.proofs.Common.{◌≡◌, true, nat_lt, subst}
 use Rattle.schedule_compiler.specs.Schedules.{ScheduleOf}
 use Rattle.ptl_types.specs.declared.headers.Lane.TheVariants.{Request}
-use Rattle.plan_calls.specs.Lanes.{is_used_lane}
+use Rattle.plan_core.specs.calls.Lanes.{is_used_lane}
 use Rattle.fabric_cases.proofs.jobs.is_pair.Goals as goal
 
 pub returns-clause-lane : goal.returns-clause-lane

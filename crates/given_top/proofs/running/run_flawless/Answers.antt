@@ -2,7 +2,7 @@ use Rattle.std.proofs.Common.{sym, subst}
 use Rattle.given_lines.specs.Given.{Given}
 use Rattle.schedule_compiler.specs.Jobs.{JobOf}
 use Rattle.verdict_laws.specs.Flawless.{IsFlawless}
-use Rattle.given_runs.specs.GivenJobs.{FitsShape}
+use Rattle.given_top.specs.runs.GivenJobs.{FitsShape}
 use Rattle.given_top.proofs.running.run_flawless.Goals as goal
 
 pub run_given-requires-clause-fits : goal.run_given-requires-clause-fits

@@ -1,6 +1,6 @@
 use Rattle.std.proofs.Common.{◌≡◌, ◌+◌, take}
 use Rattle.std.specs.List.{sum_by}
-use Rattle.shape_plans.specs.declared.judging.TheConstants.{MOST_BYTES}
+use Rattle.schedule_compiler.specs.declared.shapes.judging.TheConstants.{MOST_BYTES}
 use Rattle.given_verdicts.proofs.for_inputs.is_large.Given as goal
 
 abbrev pub invariant-loop-cell : goal.invariant-loop-cell

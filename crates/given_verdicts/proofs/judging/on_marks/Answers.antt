@@ -1,7 +1,7 @@
 -- A plan without a flaw is sound.
 use Rattle.std.proofs.Common.{sym, subst, ◌∙◌}
 use Rattle.plan_core.specs.Sound.{SoundPlan}
-use Rattle.plan_values.specs.Given.{IsGiven}
+use Rattle.plan_judge.specs.values.Given.{IsGiven}
 use Rattle.given_verdicts.specs.Answers.{lengths_of}
 use Rattle.given_verdicts.proofs.Answering.{marked, unmarked}
 use Rattle.given_verdicts.proofs.Lengths.{input_lists}

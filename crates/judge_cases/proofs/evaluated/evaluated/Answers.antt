@@ -1,6 +1,6 @@
 -- A plan without a flaw can be evaluated.
 use Rattle.std.proofs.Common.{◌≡◌, ◌∷◌, [], sym, ◌∙◌, arith}
-use Rattle.plan_values.specs.Given.{AreLists}
+use Rattle.plan_judge.specs.values.Given.{AreLists}
 use Rattle.judge_cases.proofs.evaluated.evaluated.Goals as goal
 
 pub values-requires-clause-given : goal.values-requires-clause-given

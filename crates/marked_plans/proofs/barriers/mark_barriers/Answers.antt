@@ -1,8 +1,8 @@
 -- One step more in each turn.
 use Rattle.std.proofs.Common.{ℕ, List, ◌+◌, ◌++◌, ◌∙◌, ap, ap₂, sym, arith}
 use Rattle.given_lines.specs.declared.given.Mark.{Mark}
-use Rattle.shape_plans.specs.declared.footprints.Size.{Size}
-use Rattle.shape_plans.proofs.Counting.{size-more}
+use Rattle.schedule_compiler.specs.declared.shapes.footprints.Size.{Size}
+use Rattle.schedule_compiler.proofs.shapes.Counting.{size-more}
 use Rattle.marked_plans.specs.Marks.{step_marks}
 use Rattle.marked_plans.proofs.Rows.{one_row_more}
 use Rattle.marked_plans.proofs.barriers.mark_barriers.Goals as goal

@@ -1,7 +1,7 @@
 use Rattle.std.proofs.Common.{◌≡◌, ◌≤◌, ◌+◌, ◌*◌, ◌^◌, ◌++◌}
 use Rattle.std.specs.List.{flat_map}
 use Rattle.number_lists.specs.Numbers.{from_to}
-use Rattle.shape_plans.specs.Judging.{size_upto}
+use Rattle.schedule_compiler.specs.shapes.Judging.{size_upto}
 use Rattle.marked_plans.specs.Marks.{step_marks}
 use Rattle.marked_plans.proofs.barriers.mark_barriers.Given as goal
 

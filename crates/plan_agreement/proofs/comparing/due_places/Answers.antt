@@ -1,7 +1,7 @@
 -- There is a place for each buffer of the shape at each rank.
 use Rattle.std.proofs.Common.{◌<◌, ap, ◌∙◌, sym, subst}
 use Rattle.plan_core.specs.Draw.{HeldCells}
-use Rattle.shape_plans.proofs.Final.{fine-shape}
+use Rattle.schedule_compiler.proofs.shapes.Final.{fine-shape}
 use Rattle.plan_agreement.proofs.comparing.due_places.Goals as goal
 
 pub cell-requires-clause-buffer : goal.cell-requires-clause-buffer

@@ -1,5 +1,5 @@
 use Rattle.std.proofs.Common.{◌≡◌, ◌++◌, map, take}
-use Rattle.plan_calls.specs.Calls.{append_call}
+use Rattle.plan_core.specs.calls.Calls.{append_call}
 use Rattle.plan_tables.proofs.appended.add_append_calls.Given as goal
 
 abbrev pub invariant-loop-c : goal.invariant-loop-c

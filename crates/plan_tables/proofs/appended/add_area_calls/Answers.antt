@@ -3,7 +3,7 @@ use Rattle.std.proofs.Common.{cond, nat_lt, ◌+◌, ◌-◌, ◌*◌, ◌^◌, 
 use Rattle.std.proofs.Common.{append_assoc}
 use Rattle.ptl_types.specs.declared.steps.Call.TheVariants.{Overflow}
 use Rattle.plan_core.specs.Plan.{from_to}
-use Rattle.plan_calls.specs.Bits.{bits_above}
+use Rattle.plan_core.specs.calls.Bits.{bits_above}
 use Rattle.plan_tables.specs.AreaTables.{area_bytes, counted_start}
 use Rattle.plan_tables.proofs.ByClass.{calls-same, end-same}
 use Rattle.plan_tables.proofs.Passes.{length-table}

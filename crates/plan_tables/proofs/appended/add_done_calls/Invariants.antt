@@ -1,6 +1,6 @@
 use Rattle.std.proofs.Common.{◌≡◌, ◌++◌, map, take}
-use Rattle.plan_calls.specs.RankOps.RankOp.{ForDone}
-use Rattle.plan_calls.specs.Calls.{trigger}
+use Rattle.plan_core.specs.calls.RankOps.RankOp.{ForDone}
+use Rattle.plan_core.specs.calls.Calls.{trigger}
 use Rattle.plan_tables.proofs.appended.add_done_calls.Given as goal
 
 abbrev pub invariant-loop-c : goal.invariant-loop-c

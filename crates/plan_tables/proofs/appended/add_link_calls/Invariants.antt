@@ -1,6 +1,6 @@
 use Rattle.std.proofs.Common.{◌≡◌, ◌++◌, map, take}
-use Rattle.plan_calls.specs.RankOps.RankOp.{ForLink}
-use Rattle.plan_calls.specs.Calls.{trigger}
+use Rattle.plan_core.specs.calls.RankOps.RankOp.{ForLink}
+use Rattle.plan_core.specs.calls.Calls.{trigger}
 use Rattle.plan_tables.proofs.appended.add_link_calls.Given as goal
 
 abbrev pub invariant-loop-l : goal.invariant-loop-l

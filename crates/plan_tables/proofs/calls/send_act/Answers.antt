@@ -1,7 +1,7 @@
 -- A link's part lies in its rank's region.
 use Rattle.std.proofs.Common.{arith, ap}
 use Rattle.plan_core.specs.declared.Link.{Link}
-use Rattle.plan_calls.specs.Calls.{cell_start}
+use Rattle.plan_core.specs.calls.Calls.{cell_start}
 use Rattle.plan_tables.proofs.Room.{at_most-sent}
 use Rattle.plan_tables.proofs.calls.send_act.Goals as goal
 

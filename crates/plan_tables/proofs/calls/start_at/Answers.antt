@@ -1,7 +1,7 @@
 -- The table has an entry for each cell.
 use Rattle.std.proofs.Common.{ap, ◌∙◌, arith, length, get_or}
 use Rattle.plan_core.proofs.Drawing.{length-row}
-use Rattle.plan_calls.specs.Calls.{cell_start}
+use Rattle.plan_core.specs.calls.Calls.{cell_start}
 use Rattle.plan_tables.proofs.Passes.{get-row}
 use Rattle.plan_tables.proofs.calls.start_at.Goals as goal
 

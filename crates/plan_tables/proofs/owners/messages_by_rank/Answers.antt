@@ -3,7 +3,7 @@ use Rattle.std.proofs.Common.{ℕ, Bool, true, false, cond, nat_lt, refl, ◌≡
 use Rattle.std.proofs.lemmas.Bool.{ltb-true, ltb-false}
 use Rattle.plan_core.specs.Plan.{from_to}
 use Rattle.plan_core.proofs.Drawing.{row-same}
-use Rattle.plan_calls.specs.Areas.{links_to}
+use Rattle.plan_core.specs.calls.Areas.{links_to}
 use Rattle.plan_tables.specs.Rising.{of_key, no_numbers}
 use Rattle.plan_tables.specs.Tables.{all_ranks, arrival_key}
 use Rattle.plan_tables.proofs.ByClass.{arrivals-same}

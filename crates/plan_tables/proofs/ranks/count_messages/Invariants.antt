@@ -1,5 +1,5 @@
 use Rattle.std.proofs.Common.{◌≡◌, take, count_by}
-use Rattle.plan_calls.specs.RankOps.{is_message}
+use Rattle.plan_core.specs.calls.RankOps.{is_message}
 use Rattle.plan_tables.proofs.ranks.count_messages.Given as goal
 
 abbrev pub invariant-loop-l : goal.invariant-loop-l

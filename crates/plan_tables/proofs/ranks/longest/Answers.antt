@@ -2,7 +2,7 @@
 use Rattle.std.proofs.Common.{suc, ◌+◌, ◌∙◌, ap, ap₂, sym, max, take, get_or, arith, ◌≡◌}
 use Rattle.std.proofs.Math.Seq.{take-suc}
 use Rattle.plan_core.specs.declared.Link.{Link}
-use Rattle.plan_calls.specs.Areas.{longest}
+use Rattle.plan_core.specs.calls.Areas.{longest}
 use Rattle.plan_tables.proofs.Assembling.{longest-more}
 use Rattle.plan_tables.proofs.ranks.longest.Goals as goal
 

@@ -1,5 +1,5 @@
 use Rattle.std.proofs.Common.{◌≡◌, take}
-use Rattle.plan_calls.specs.Areas.{longest}
+use Rattle.plan_core.specs.calls.Areas.{longest}
 use Rattle.plan_tables.proofs.ranks.longest.Given as goal
 
 abbrev pub invariant-loop-l : goal.invariant-loop-l

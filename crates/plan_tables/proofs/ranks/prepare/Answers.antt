@@ -1,9 +1,9 @@
 -- The parts stand one after the other.
 use Rattle.std.proofs.Common.{[], ◌∷◌, ◌++◌, map, ap, ap₂, ◌∙◌}
 use Rattle.ptl_types.specs.declared.steps.Call.TheVariants.{PtAlloc, CtDone, CtCell, MdBind}
-use Rattle.plan_calls.specs.RankOps.RankOp.{ForLink, ForDone}
-use Rattle.plan_calls.specs.Areas.{classes}
-use Rattle.plan_calls.specs.Calls.{area_call, trigger}
+use Rattle.plan_core.specs.calls.RankOps.RankOp.{ForLink, ForDone}
+use Rattle.plan_core.specs.calls.Areas.{classes}
+use Rattle.plan_core.specs.calls.Calls.{area_call, trigger}
 use Rattle.plan_tables.proofs.Assembling.{prepared}
 use Rattle.plan_tables.proofs.ranks.prepare.Goals as goal
 

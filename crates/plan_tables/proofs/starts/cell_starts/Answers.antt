@@ -4,7 +4,7 @@ use Rattle.plan_core.specs.Plan.{from_to}
 use Rattle.plan_core.specs.Places.{cell_length}
 use Rattle.plan_core.proofs.Drawing.{row-more}
 use Rattle.plan_tables.specs.Rising.{nothing, of_key}
-use Rattle.plan_calls.specs.Calls.{cell_start}
+use Rattle.plan_core.specs.calls.Calls.{cell_start}
 use Rattle.plan_tables.specs.Tables.{all_ranks, rank_of}
 use Rattle.plan_tables.proofs.Passes.{get-row, length-table}
 use Rattle.plan_tables.proofs.Sums.{start-own, at_most-bytes, bytes-more}

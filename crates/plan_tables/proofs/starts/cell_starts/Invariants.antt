@@ -2,7 +2,7 @@ use Rattle.std.proofs.Common.{◌≡◌, map, sum_by}
 use Rattle.plan_core.specs.Plan.{from_to}
 use Rattle.plan_core.specs.Places.{cell_length}
 use Rattle.plan_tables.specs.Rising.{of_key}
-use Rattle.plan_calls.specs.Calls.{cell_start}
+use Rattle.plan_core.specs.calls.Calls.{cell_start}
 use Rattle.plan_tables.specs.Tables.{all_ranks, rank_of}
 use Rattle.plan_tables.proofs.starts.cell_starts.Given as goal
 

@@ -2,7 +2,7 @@
 use Rattle.std.proofs.Common.{◌+◌, ◌<◌, [], length, get_or, ap, sym, subst, ◌∙◌, arith}
 use Rattle.plan_core.specs.Plan.{in_links}
 use Rattle.plan_tables.proofs.Passes.{get-row, length-table}
-use Rattle.fold_terms.proofs.Tables.{kept_on, same_table}
+use Rattle.plan_terms.proofs.terms.Tables.{kept_on, same_table}
 use Rattle.plan_terms.specs.Cells.{AreCells, IsNext}
 use Rattle.plan_terms.proofs.NextCell.{come_to, none_yet, one_more}
 use Rattle.plan_terms.proofs.evaluating.all_places.Goals as goal

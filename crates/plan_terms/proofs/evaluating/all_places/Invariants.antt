@@ -1,4 +1,4 @@
-use Rattle.fold_terms.specs.Terms.{Keeps}
+use Rattle.plan_terms.specs.terms.Terms.{Keeps}
 use Rattle.plan_terms.specs.Cells.{AreCells}
 use Rattle.plan_terms.proofs.evaluating.all_places.Given as goal
 

@@ -3,8 +3,8 @@ use Rattle.std.proofs.Common.{◌/◌, List, length, map, ap, ◌∙◌, arith}
 use Rattle.plan_core.specs.declared.Cell.{Cell}
 use Rattle.plan_core.specs.Plan.{cell}
 use Rattle.plan_core.specs.Values.{land_all}
-use Rattle.fold_terms.specs.declared.term.Member.{Member}
-use Rattle.fold_terms.specs.Folds.{folds_bytes}
+use Rattle.plan_terms.specs.declared.terms.term.Member.{Member}
+use Rattle.plan_terms.specs.terms.Folds.{folds_bytes}
 use Rattle.plan_terms.specs.Cells.{carried_from}
 use Rattle.plan_terms.proofs.NextCell.{next_folded, whole_again}
 use Rattle.plan_terms.proofs.evaluating.folded_places.Goals as goal

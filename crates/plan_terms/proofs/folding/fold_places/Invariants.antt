@@ -1,5 +1,5 @@
 use Rattle.std.proofs.Common.{take}
-use Rattle.fold_terms.specs.Terms.{Keeps}
+use Rattle.plan_terms.specs.terms.Terms.{Keeps}
 use Rattle.plan_terms.proofs.Landing.{ArePlacesOf}
 use Rattle.plan_terms.proofs.folding.fold_places.Given as goal
 

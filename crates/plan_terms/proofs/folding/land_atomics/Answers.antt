@@ -1,7 +1,7 @@
 -- One link more in each turn.
 use Rattle.std.proofs.Common.{refl}
 use Rattle.std.proofs.lemmas.List.Elements.{All-get_or}
-use Rattle.fold_terms.proofs.Tables.{kept_on, same_table}
+use Rattle.plan_terms.proofs.terms.Tables.{kept_on, same_table}
 use Rattle.plan_terms.specs.Cells.{ComesTo}
 use Rattle.plan_terms.proofs.Landing.{all_landed, more_landed}
 use Rattle.plan_terms.proofs.folding.land_atomics.Goals as goal

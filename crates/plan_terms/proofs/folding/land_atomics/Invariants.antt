@@ -1,5 +1,5 @@
 use Rattle.std.proofs.Common.{drop}
-use Rattle.fold_terms.specs.Terms.{Keeps}
+use Rattle.plan_terms.specs.terms.Terms.{Keeps}
 use Rattle.plan_terms.proofs.Landing.{AreLandedTo}
 use Rattle.plan_terms.proofs.folding.land_atomics.Given as goal
 

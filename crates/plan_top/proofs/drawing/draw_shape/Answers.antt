@@ -1,4 +1,4 @@
-use Rattle.shape_plans.specs.Footprint.{refusal}
+use Rattle.schedule_compiler.specs.shapes.Footprint.{refusal}
 use Rattle.plan_top.proofs.Plans.{plan_owed}
 use Rattle.plan_top.proofs.drawing.draw_shape.Goals as goal
 

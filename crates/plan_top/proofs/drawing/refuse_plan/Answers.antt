@@ -1,6 +1,6 @@
 -- The refusal that is owed, or no memory.
-use Rattle.shape_plans.specs.Footprint.{refusal}
-use Rattle.shape_plans.specs.Footprint.Excess.{Links, Bytes}
+use Rattle.schedule_compiler.specs.shapes.Footprint.{refusal}
+use Rattle.schedule_compiler.specs.shapes.Footprint.Excess.{Links, Bytes}
 use Rattle.plan_top.proofs.Plans.{excess_owed, memory_owed}
 use Rattle.plan_top.proofs.Steps.{at-step}
 use Rattle.plan_top.proofs.drawing.refuse_plan.Goals as goal

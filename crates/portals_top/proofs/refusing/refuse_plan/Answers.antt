@@ -1,7 +1,7 @@
 -- The refusal that is owed, or no memory.
 use Rattle.std.proofs.Common.{◌∙◌, refl, sym}
-use Rattle.shape_plans.specs.Footprint.{refusal}
-use Rattle.shape_plans.specs.Footprint.Excess.{Links, Bytes}
+use Rattle.schedule_compiler.specs.shapes.Footprint.{refusal}
+use Rattle.schedule_compiler.specs.shapes.Footprint.Excess.{Links, Bytes}
 use Rattle.portals_top.proofs.Answering.{excess-owed, memory-owed}
 use Rattle.portals_top.proofs.Steps.{at-step}
 use Rattle.portals_top.proofs.refusing.refuse_plan.Goals as goal

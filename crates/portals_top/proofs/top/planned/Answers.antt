@@ -1,6 +1,6 @@
 use Rattle.portals_top.proofs.Answering.{plan-owed}
 use Rattle.portals_top.proofs.Telling.{done_tells}
-use Rattle.shape_plans.specs.Footprint.{refusal}
+use Rattle.schedule_compiler.specs.shapes.Footprint.{refusal}
 use Rattle.portals_top.specs.declared.words.Command.TheVariants.{Plan}
 use Rattle.portals_top.proofs.top.planned.Goals as goal
 

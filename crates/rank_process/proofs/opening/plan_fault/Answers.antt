@@ -1,5 +1,5 @@
 -- The step that is named is one of the shape.
-use Rattle.shape_plans.specs.Footprint.Excess.{Links, Bytes}
+use Rattle.schedule_compiler.specs.shapes.Footprint.Excess.{Links, Bytes}
 use Rattle.rank_process.proofs.Steps.{at-step}
 use Rattle.rank_process.proofs.opening.plan_fault.Goals as goal
 

@@ -1,6 +1,6 @@
 use Rattle.std.proofs.Common.{◌<◌, subst, sym}
 use Rattle.schedule_compiler.specs.Jobs.{JobOf}
-use Rattle.shape_plans.proofs.Final.{fine-shape}
+use Rattle.schedule_compiler.proofs.shapes.Final.{fine-shape}
 use Rattle.rank_process.proofs.opening.ready_rank.Goals as goal
 
 pub placed-requires : goal.placed-requires

@@ -3,7 +3,7 @@ use Rattle.run_text.specs.Orders.{order_line}
 use Rattle.run_text.specs.Putting.{FailsWithin, Takes}
 use Rattle.run_text.proofs.Taking.{EndsWith-stops, EndsWith-then, Fails-early, Fails-more, Fails-then, Takes-more, Takes-next, Takes-then}
 use Rattle.rank_frames.specs.Frames.{mark}
-use Rattle.rank_lines.specs.Lines.{own_lines}
+use Rattle.rank_process.specs.lines.Lines.{own_lines}
 use Rattle.rank_process.proofs.printing.write_end.Goals as goal
 
 pub returns-in_err-put : goal.returns-in_err-put

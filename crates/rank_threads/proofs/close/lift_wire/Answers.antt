@@ -3,7 +3,7 @@ use lib.ListN.{get_elem?}
 use Rattle.pair_wires.specs.declared.bounds.Bounds.{Bounds}
 use Rattle.pair_wires.specs.Lanes.{Plain}
 use Rattle.pair_wires.specs.Wires.{one_if}
-use Rattle.plan_calls.specs.Lanes.{is_used_lane}
+use Rattle.plan_core.specs.calls.Lanes.{is_used_lane}
 use Rattle.cuts.specs.windows.Places.{lane_place}
 use Rattle.rank_node.specs.Node.{NodeState}
 use Rattle.schedule_compiler.specs.Jobs.{JobOf}

@@ -1,8 +1,8 @@
 -- The schedule of a shape can run.
 use Rattle.std.proofs.Common.{◌≡◌, IfOk, ap, arith, length, subst, sym}
 use Rattle.plan_core.specs.Draw.{HeldCells}
-use Rattle.shape_plans.proofs.Final.{fine-shape}
-use Rattle.shape_plans.specs.Drawing.{drawing_of, plan_of}
+use Rattle.schedule_compiler.proofs.shapes.Final.{fine-shape}
+use Rattle.schedule_compiler.specs.shapes.Drawing.{drawing_of, plan_of}
 use Rattle.schedule_compiler.specs.Keeping.{CanRun}
 use Rattle.schedule_compiler.specs.Schedules.{ScheduleOf}
 use Rattle.schedule_compiler.proofs.Kept.{same-parts, shape-can}

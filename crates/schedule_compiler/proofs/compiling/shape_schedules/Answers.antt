@@ -1,4 +1,4 @@
-use Rattle.shape_plans.proofs.Final.{fine-shape}
+use Rattle.schedule_compiler.proofs.shapes.Final.{fine-shape}
 use Rattle.schedule_compiler.proofs.Kept.{shape-can, shape-inputs}
 use Rattle.schedule_compiler.proofs.compiling.shape_schedules.Goals as goal
 

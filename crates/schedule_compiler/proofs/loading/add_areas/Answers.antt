@@ -1,7 +1,7 @@
 -- One class more in each turn.
 use Rattle.std.proofs.Common.{◌≡◌, ◌++◌, flat_map, ap, ap₂, ◌∙◌, sym, append_assoc, arith}
 use Rattle.plan_core.specs.Plan.{from_to}
-use Rattle.plan_calls.specs.Areas.{blank_area}
+use Rattle.plan_core.specs.calls.Areas.{blank_area}
 use Rattle.schedule_compiler.proofs.Memory.{all-areas, area_of, flat-next}
 use Rattle.schedule_compiler.proofs.loading.add_areas.Goals as goal
 

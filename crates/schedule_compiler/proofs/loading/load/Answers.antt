@@ -3,7 +3,7 @@ use Rattle.std.proofs.Common.{◌==◌, ◌++◌, ◌*◌, ◌^◌, ◌≤◌, l
 use Rattle.ptl_types.specs.Filled.{Filled}
 use Rattle.plan_core.specs.Plan.{Plan, cell, own}
 use Rattle.plan_core.specs.Values.{initial}
-use Rattle.plan_calls.specs.Areas.{blank_areas}
+use Rattle.plan_core.specs.calls.Areas.{blank_areas}
 use Rattle.plan_tables.specs.Installed.{Installed}
 use Rattle.plan_tables.proofs.Indexed.{all-below}
 use Rattle.schedule_compiler.proofs.Kept.{at_most-inputs}

@@ -2,8 +2,8 @@
 use Rattle.std.proofs.Common.{◌+◌, ◌∙◌, ap, ap₂, arith, sym}
 use Rattle.std.proofs.lemmas.List.{get_or_default}
 use Rattle.coll_lang.specs.declared.choices.ChoiceKind.TheVariants.{Elect}
-use Rattle.choice_texts.specs.machine.Choices.{choice_at}
-use Rattle.choice_texts.specs.machine.Counted.{told_requests}
+use Rattle.plan_choice.specs.texts.machine.Choices.{choice_at}
+use Rattle.plan_choice.specs.texts.machine.Counted.{told_requests}
 use Rattle.plan_choice.proofs.ranks.Numbers.{sum-more}
 use Rattle.plan_choice.proofs.ranks.installing.asked_in.Goals as goal
 

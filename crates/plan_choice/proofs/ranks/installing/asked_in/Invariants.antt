@@ -1,8 +1,8 @@
 use Rattle.std.proofs.Common.{◌*◌, ◌≡◌, ◌≤◌}
 use Rattle.std.specs.Prelude.{sum_by}
 use Rattle.plan_core.specs.Plan.{from_to}
-use Rattle.choice_texts.specs.machine.Choices.{choice_at}
-use Rattle.choice_texts.specs.machine.Counted.{told_requests}
+use Rattle.plan_choice.specs.texts.machine.Choices.{choice_at}
+use Rattle.plan_choice.specs.texts.machine.Counted.{told_requests}
 use Rattle.plan_choice.proofs.ranks.installing.asked_in.Given as goal
 
 abbrev pub invariant-loop-i : goal.invariant-loop-i

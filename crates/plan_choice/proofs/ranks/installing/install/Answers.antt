@@ -4,8 +4,8 @@ use Rattle.ptl_types.specs.declared.calls.Limits.{Limits}
 use Rattle.ni_model.specs.State.{State, opened}
 use Rattle.portals_ni.specs.Fit.{FitLimits}
 use Rattle.rank_node.specs.Handles.{no_handles, room_under}
-use Rattle.choice_texts.specs.view.Calls.{blank, install_calls}
-use Rattle.choice_texts.specs.view.Install.{limits_of}
+use Rattle.plan_choice.specs.texts.view.Calls.{blank, install_calls}
+use Rattle.plan_choice.specs.texts.view.Install.{limits_of}
 use Rattle.plan_choice.specs.ranks.Given.{AreMade}
 use Rattle.plan_choice.specs.ranks.Seats.{IsInstalled, empty_diary}
 use Rattle.plan_choice.proofs.ranks.Installed.{go_first, nic_installed, opened_all, opened_wide, some_counter}

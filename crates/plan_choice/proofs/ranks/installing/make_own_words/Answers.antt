@@ -1,8 +1,8 @@
 -- By the rank.
 use Rattle.std.proofs.Common.{[], eq-eqb, if◌then◌else◌, map, subst, sym}
 use Rattle.std.proofs.lemmas.Bool.{ne_eqb}
-use Rattle.choice_texts.specs.view.Calls.Call.{MeAppend}
-use Rattle.choice_texts.specs.view.Install.{steps}
+use Rattle.plan_choice.specs.texts.view.Calls.Call.{MeAppend}
+use Rattle.plan_choice.specs.texts.view.Install.{steps}
 use Rattle.plan_choice.specs.ranks.Given.{AreMade}
 use Rattle.plan_choice.proofs.ranks.Made.{made-none}
 use Rattle.plan_choice.proofs.ranks.installing.make_own_words.Goals as goal

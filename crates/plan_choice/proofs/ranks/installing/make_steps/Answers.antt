@@ -3,9 +3,9 @@ use Rattle.std.proofs.Common.{◌+◌, ◌≤◌, ◌≡◌, ◌∙◌, ap, ap�
 use Rattle.std.proofs.lemmas.List.{get_or_default}
 use Rattle.coll_lang.specs.declared.choices.ChoiceKind.TheVariants.{Elect}
 use Rattle.plan_core.specs.Plan.{from_to}
-use Rattle.choice_texts.specs.machine.Choices.{choice_at}
-use Rattle.choice_texts.specs.view.Calls.{step_calls}
-use Rattle.choice_texts.specs.view.Install.{before, counters_in, things_in}
+use Rattle.plan_choice.specs.texts.machine.Choices.{choice_at}
+use Rattle.plan_choice.specs.texts.view.Calls.{step_calls}
+use Rattle.plan_choice.specs.texts.view.Install.{before, counters_in, things_in}
 use Rattle.plan_choice.specs.ranks.Given.{AreMade}
 use Rattle.plan_choice.proofs.ranks.Made.{made-none}
 use Rattle.plan_choice.proofs.ranks.Whole.{before-more, counters_now, counters_small, made_more, room_counters, room_descriptors}

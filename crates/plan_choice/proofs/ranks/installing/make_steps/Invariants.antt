@@ -1,7 +1,7 @@
 use Rattle.std.proofs.Common.{◌+◌, ◌≡◌, flat_map}
 use Rattle.plan_core.specs.Plan.{from_to}
-use Rattle.choice_texts.specs.view.Calls.{step_calls}
-use Rattle.choice_texts.specs.view.Install.{before, counters_in}
+use Rattle.plan_choice.specs.texts.view.Calls.{step_calls}
+use Rattle.plan_choice.specs.texts.view.Install.{before, counters_in}
 use Rattle.plan_choice.specs.ranks.Given.{AreMade}
 use Rattle.plan_choice.proofs.ranks.installing.make_steps.Given as goal
 

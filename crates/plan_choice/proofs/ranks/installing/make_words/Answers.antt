@@ -8,9 +8,9 @@ use Rattle.plan_core.specs.Plan.{from_to}
 use Rattle.plan_core.proofs.Drawing.{row-more}
 use Rattle.rank_node.specs.Calls.{NewEntry}
 use Rattle.rank_node.specs.Handles.{Counted}
-use Rattle.choice_texts.proofs.machine.Words.{length-from_to}
-use Rattle.choice_texts.specs.view.Calls.Call.{MeAppend}
-use Rattle.choice_texts.specs.view.Install.{word_entry}
+use Rattle.plan_choice.proofs.texts.machine.Words.{length-from_to}
+use Rattle.plan_choice.specs.texts.view.Calls.Call.{MeAppend}
+use Rattle.plan_choice.specs.texts.view.Install.{word_entry}
 use Rattle.plan_choice.specs.ranks.Given.{AreMade, entries_by}
 use Rattle.plan_choice.proofs.ranks.Made.{made-both, made-word}
 use Rattle.plan_choice.proofs.ranks.installing.make_words.Goals as goal

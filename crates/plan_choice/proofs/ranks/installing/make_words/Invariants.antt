@@ -1,7 +1,7 @@
 use Rattle.std.proofs.Common.{List, map}
 use Rattle.coll_lang.specs.declared.choices.ChoiceKind.{ChoiceKind}
 use Rattle.plan_core.specs.Plan.{from_to}
-use Rattle.choice_texts.specs.view.Calls.Call.{MeAppend}
+use Rattle.plan_choice.specs.texts.view.Calls.Call.{MeAppend}
 use Rattle.plan_choice.specs.ranks.Given.{AreMade}
 use Rattle.plan_choice.proofs.ranks.installing.make_words.Given as goal
 

@@ -2,10 +2,10 @@
 use Rattle.std.proofs.Common.{◌+◌, ◌≤◌, ◌≡◌, ◌∙◌, ap, ap₂, arith, length, map, subst, sym}
 use Rattle.std.proofs.lemmas.List.{get_or_default}
 use Rattle.coll_lang.specs.declared.choices.ChoiceKind.TheVariants.{Elect}
-use Rattle.choice_texts.specs.machine.Choices.{choice_at}
-use Rattle.choice_texts.specs.view.Calls.Call.{Trigger}
-use Rattle.choice_texts.specs.view.Install.{before, counters_in, things_in, works_of}
-use Rattle.choice_texts.proofs.view.Stamps.{before-le}
+use Rattle.plan_choice.specs.texts.machine.Choices.{choice_at}
+use Rattle.plan_choice.specs.texts.view.Calls.Call.{Trigger}
+use Rattle.plan_choice.specs.texts.view.Install.{before, counters_in, things_in, works_of}
+use Rattle.plan_choice.proofs.texts.view.Stamps.{before-le}
 use Rattle.plan_choice.specs.ranks.Given.{AreMade}
 use Rattle.plan_choice.proofs.ranks.Made.{made-none}
 use Rattle.plan_choice.proofs.ranks.Whole.{before-more, counters_small, descriptors_small, posted_more, wide_on, works_until}

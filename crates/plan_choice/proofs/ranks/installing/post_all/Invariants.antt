@@ -1,6 +1,6 @@
 use Rattle.std.proofs.Common.{◌+◌, ◌≡◌, map}
-use Rattle.choice_texts.specs.view.Calls.Call.{Trigger}
-use Rattle.choice_texts.specs.view.Install.{before, counters_in, things_in}
+use Rattle.plan_choice.specs.texts.view.Calls.Call.{Trigger}
+use Rattle.plan_choice.specs.texts.view.Install.{before, counters_in, things_in}
 use Rattle.plan_choice.specs.ranks.Given.{AreMade}
 use Rattle.plan_choice.proofs.ranks.Whole.{works_until}
 use Rattle.plan_choice.proofs.ranks.installing.post_all.Given as goal

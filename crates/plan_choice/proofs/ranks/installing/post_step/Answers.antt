@@ -1,6 +1,6 @@
 -- By the kind.
 use Rattle.std.proofs.Common.{ap, arith}
-use Rattle.choice_texts.specs.view.Install.{counters_in, things_in}
+use Rattle.plan_choice.specs.texts.view.Install.{counters_in, things_in}
 use Rattle.plan_choice.proofs.ranks.installing.post_step.Goals as goal
 
 pub post_elect-requires-clause-counters : goal.post_elect-requires-clause-counters

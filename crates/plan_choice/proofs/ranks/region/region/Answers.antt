@@ -4,9 +4,9 @@ use Rattle.coll_lang.specs.declared.choices.ChoiceKind.TheVariants.{Elect}
 use Rattle.std.proofs.lemmas.List.{get_or_default}
 use Rattle.plan_core.specs.Plan.{from_to}
 use Rattle.ptl_types.specs.Filled.{Filled}
-use Rattle.choice_texts.specs.machine.Machine.{first_word}
-use Rattle.choice_texts.specs.view.Calls.{first_bytes}
-use Rattle.choice_texts.specs.view.Install.{four_words, given_word}
+use Rattle.plan_choice.specs.texts.machine.Machine.{first_word}
+use Rattle.plan_choice.specs.texts.view.Calls.{first_bytes}
+use Rattle.plan_choice.specs.texts.view.Install.{four_words, given_word}
 use Rattle.plan_choice.proofs.ranks.Numbers.{flat-more}
 use Rattle.plan_choice.proofs.ranks.region.region.Goals as goal
 

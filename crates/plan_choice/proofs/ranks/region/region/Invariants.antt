@@ -1,6 +1,6 @@
 use Rattle.std.proofs.Common.{◌≡◌, flat_map}
 use Rattle.plan_core.specs.Plan.{from_to}
-use Rattle.choice_texts.specs.view.Calls.{first_bytes}
+use Rattle.plan_choice.specs.texts.view.Calls.{first_bytes}
 use Rattle.plan_choice.proofs.ranks.region.region.Given as goal
 
 abbrev pub invariant-loop-step : goal.invariant-loop-step

@@ -3,8 +3,8 @@ use Rattle.std.proofs.Common.{ℕ, List, ◌+◌, ◌*◌, ◌<◌, ◌∙◌, a
 use Rattle.std.proofs.lemmas.List.{get_or_read}
 use Rattle.ptl_types.specs.Elements.{part, pattern}
 use Rattle.ni_model.specs.State.{State}
-use Rattle.choice_texts.proofs.laws.Traffic.{words_within}
-use Rattle.choice_texts.specs.laws.Decided.{result_of}
+use Rattle.plan_choice.proofs.texts.laws.Traffic.{words_within}
+use Rattle.plan_choice.specs.texts.laws.Decided.{result_of}
 use Rattle.plan_choice.specs.ranks.Seats.{ChoiceRankState}
 use Rattle.plan_choice.specs.Acts.{no_seated}
 use Rattle.plan_choice.specs.World.{ChoiceState, histories_in, nic_in, scene_in, state_of}

@@ -1,6 +1,6 @@
 -- A row of the table.
 use Rattle.std.proofs.Common.{◌∙◌, ap, arith, get_or}
-use Rattle.plan_calls.specs.Areas.{region_length}
+use Rattle.plan_core.specs.calls.Areas.{region_length}
 use Rattle.plan_tables.proofs.Passes.{get-row, length-table}
 use Rattle.plan_tables.proofs.index.Index.after_cells.Goals as goal
 

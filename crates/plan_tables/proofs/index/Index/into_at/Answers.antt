@@ -1,6 +1,6 @@
 -- A row of the table.
 use Rattle.std.proofs.Common.{◌∙◌, ap, arith, get_or, length, []}
-use Rattle.plan_calls.specs.Areas.{comes_to, links_to}
+use Rattle.plan_core.specs.calls.Areas.{comes_to, links_to}
 use Rattle.plan_tables.proofs.Passes.{get-row, length-table}
 use Rattle.plan_tables.proofs.Indexed.{all-below, at_most-listed}
 use Rattle.plan_tables.proofs.index.Index.into_at.Goals as goal

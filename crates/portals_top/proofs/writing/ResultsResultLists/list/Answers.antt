@@ -2,7 +2,7 @@
 use Rattle.std.proofs.Common.{◌<◌, ◌∙◌, ap, subst, sym}
 use Rattle.cuts.specs.cells.Cells.{result_in}
 use Rattle.schedule_compiler.specs.Schedules.{ScheduleOf}
-use Rattle.shape_plans.proofs.Final.{fine-shape}
+use Rattle.schedule_compiler.proofs.shapes.Final.{fine-shape}
 use Rattle.worlds.specs.World.{memory_in}
 use Rattle.portals_top.proofs.writing.ResultsResultLists.list.Goals as goal
 

@@ -4,7 +4,7 @@ use lib.ListN.{get_elem?}
 use Rattle.ptl_types.specs.declared.headers.Lane.{Lane}
 use Rattle.schedule_compiler.specs.Schedules.{ScheduleOf}
 use Rattle.pair_wires.specs.Wires.{WireState}
-use Rattle.plan_calls.specs.Lanes.{is_used_lane}
+use Rattle.plan_core.specs.calls.Lanes.{is_used_lane}
 use Rattle.cuts.specs.orders.Chosen.{Scene}
 use Rattle.cuts.specs.windows.Places.{lane_place}
 use Rattle.rank_node.specs.Handles.{Agrees}

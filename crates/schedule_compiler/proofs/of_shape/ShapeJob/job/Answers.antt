@@ -2,7 +2,7 @@
 use Rattle.std.proofs.Common.{◌≡◌, ◌∙◌, None, ap, subst}
 use Rattle.coll_shape.specs.Meaning.{AreInputs}
 use Rattle.coll_shape.specs.WellFormed.{IsWellFormed}
-use Rattle.shape_plans.specs.Footprint.{refusal}
+use Rattle.schedule_compiler.specs.shapes.Footprint.{refusal}
 use Rattle.schedule_compiler.specs.Jobs.{ShapeJobOf, job_of}
 use Rattle.schedule_compiler.proofs.of_shape.ShapeJob.job.Goals as goal
 

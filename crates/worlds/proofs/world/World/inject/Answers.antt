@@ -3,7 +3,7 @@ use Rattle.std.proofs.Common.{true, ◌-◌, ◌≡◌, ◌∙◌, ap, arith, le
 use Rattle.std.proofs.lemmas.List.{with_items_is}
 use Rattle.std.specs.Vec.{with_items}
 use Rattle.ptl_types.specs.declared.headers.Lane.TheVariants.{Request}
-use Rattle.plan_calls.specs.Lanes.{is_used_lane}
+use Rattle.plan_core.specs.calls.Lanes.{is_used_lane}
 use Rattle.worlds.specs.parts.Keeps.{IsWorld}
 use Rattle.worlds.specs.parts.Steps.{injected}
 use Rattle.worlds.specs.Later.{IsLater}

@@ -1,8 +1,0 @@
--- By `Traffic`.
-use Rattle.choice_texts.proofs.laws.Traffic.{words_within}
-use Rattle.choice_texts.proofs.laws.Resting.{agrees_reached}
-use Rattle.choice_texts.proofs.laws.words_are_within.Goals as goal
-
-pub returns : goal.returns
-returns c = λ ranks ks slots w held r s in_range reached h. words_within ranks ks slots in_range w held
-    (agrees_reached ranks ks slots in_range w held reached) r s h

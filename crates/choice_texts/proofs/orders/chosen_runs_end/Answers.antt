@@ -1,6 +1,0 @@
--- By `Ending`.
-use Rattle.choice_texts.proofs.orders.Ending.{choice_ends}
-use Rattle.choice_texts.proofs.orders.chosen_runs_end.Goals as goal
-
-pub returns : goal.returns
-returns c = λ ranks ks slots words in_range. choice_ends ranks ks slots in_range words

@@ -1,6 +1,0 @@
-use Rattle.std.proofs.Common.{◌≡◌, map, take}
-use Rattle.fold_terms.specs.declared.term.Member.{Member}
-use Rattle.fold_terms.proofs.words.members_of.Given as goal
-
-abbrev pub invariant-loop-place : goal.invariant-loop-place
-invariant-loop-place l = map (λ (m : Member). m.word) l.members.items ≡ take l.place-index l.places

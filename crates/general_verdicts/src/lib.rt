@@ -1,8 +1,0 @@
-//! The answer on the text of a description and of a plan that is given for it, for all inputs of the description's shape: whether the
-//! plan is right for each of them, or the first line at fault and why, or the first result of which it isn't known.
-#![tactic(auto)]
-
-mod answering;
-mod unknown;
-
-pub use answering::general_answer;

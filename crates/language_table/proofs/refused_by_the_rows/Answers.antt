@@ -1,9 +1,0 @@
-use Rattle.language_table.proofs.Lines.{by_the_rows}
-use Rattle.language_table.proofs.Counting.{lines_count}
-use Rattle.language_table.proofs.refused_by_the_rows.Goals as goal
-
-pub returns-clause-rows : goal.returns-clause-rows
-returns-clause-rows c = by_the_rows
-
-pub returns-clause-counted : goal.returns-clause-counted
-returns-clause-counted c = lines_count

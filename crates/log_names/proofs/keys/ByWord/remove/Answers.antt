@@ -1,5 +1,0 @@
-use Rattle.log_names.proofs.Entries.{word_gone}
-use Rattle.log_names.proofs.keys.ByWord.remove.Goals as goal
-
-pub returns : goal.returns
-returns g c = word_gone c.args.word.now c.self.inside.entries c.remove.new.self c.args.self.now c.self.view_is c.remove.ensures.entries

@@ -1,7 +1,0 @@
-use Rattle.std.proofs.Common.{◌≡◌, ◌++◌}
-use Rattle.log_names.specs.Postings.{waiting_on}
-use Rattle.log_names.proofs.postings.waiting_on.Given as goal
-
--- those that were found with those that are left are all
-abbrev pub invariant-loop-number : goal.invariant-loop-number
-invariant-loop-number l = l.found.items ++ waiting_on l.ct l.number-iterator ≡ waiting_on l.ct l.waiting

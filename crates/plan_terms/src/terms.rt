@@ -1,0 +1,15 @@
+//! What bytes are computed from, whatever the bytes that are given: a table of terms, in which terms that are computed alike are one. A
+//! fold's members may come in any order and grouping, and as often as its operation may meet them.
+
+mod fault;
+mod index;
+mod members;
+mod table;
+mod term;
+mod times;
+mod words;
+
+pub use fault::TermFault;
+pub use members::Members;
+pub use table::Terms;
+pub use term::{Making, Member};

@@ -1,0 +1,243 @@
+//! The members of a fold while it is made.
+
+ghost use Rattle.std.specs.Prelude.{◌≡◌, ◌<◌, ◌≤◌, ◌+◌, true, false, [], ◌∷◌, ◌++◌, suc, length, get_or, set, take, drop, IfOk, OnOk};
+ghost use Rattle.plan_terms.specs.terms.Folds.{AreMore, IsMore};
+ghost use Rattle.plan_terms.specs.terms.Terms.{no_member};
+
+use crate::terms::fault::TermFault;
+use crate::terms::term::Member;
+use crate::terms::times::times_of;
+use ptl_types::{AtomicOp, ElemType};
+use std::alloc::Global;
+use std::marker::Model;
+
+/// A list with so many times more members takes them one by one.
+const FEW: usize = 16;
+
+/// The members of a fold, by rising places, each once.
+#[derive(Drop)]
+pub struct Members {
+    list: Vec<Member>,
+}
+
+impl Model for Members {
+    ghost use Rattle.plan_terms.specs.declared.terms.term.Member.{Member};
+    ghost use Rattle.std.specs.Prelude.{List};
+
+    ghost Value = { List Member };
+
+    ghost view = { λ m. m.list.items };
+}
+
+/// The place of the first member whose word isn't before this one.
+fn first_from(list: &[Member], word: u32) -> usize
+    ensures { result ≤ length list.now }
+{
+    let mut low = 0usize;
+    let mut high = list.len();
+    while low < high {
+        let middle = low + (high - low) / 2;
+        if list[middle].word < word {
+            low = middle + 1;
+        } else {
+            high = middle;
+        }
+    }
+    low
+}
+
+impl Members {
+    /// None yet.
+    pub fn new(alloc: Global) -> Members
+        ensures { result ≡ [] }
+    {
+        Members {
+            list: Vec::new(alloc),
+        }
+    }
+
+    /// None yet, with room for so many.
+    fn with_room(alloc: Global, count: usize) -> Result<Members, TermFault>
+        ensures { IfOk result (λ members. members ≡ []) }
+    {
+        Ok(Members {
+            list: Vec::with_capacity(alloc, count)?,
+        })
+    }
+
+    /// The members.
+    pub fn as_slice(&self) -> &[Member]
+        ensures { result.now ≡ self.now }
+    {
+        self.list.as_slice()
+    }
+
+    /// How many times a member is combined.
+    fn times_at(&self, at: usize) -> u64
+        requires { at < length self.now }
+        ensures { result ≡ (get_or self.now at no_member).times }
+    {
+        self.list[at].times
+    }
+
+    /// The member is combined so many times.
+    fn set_times(&mut self, at: usize, times: u64)
+        requires { at < length self.old }
+        ensures { self.new ≡ set self.old at (record { word = (get_or self.old at no_member).word; times = times }) }
+    {
+        let word = self.list[at].word;
+        self.list[at] = Member { word, times };
+    }
+
+    /// Takes a member out.
+    fn take_out(&mut self, at: usize)
+        requires { at < length self.old }
+        ensures { self.new ≡ take at self.old ++ drop (suc at) self.old }
+    {
+        self.list.remove(at);
+    }
+
+    /// Combines the word of a member so many times more.
+    fn count_up(
+        &mut self,
+        op: AtomicOp,
+        ty: ElemType,
+        at: usize,
+        times: u64,
+    ) -> Result<(), TermFault>
+        requires { at < length self.old }
+        ensures { OnOk result (IsMore op ty self.old self.new (get_or self.old at no_member).word times) }
+    {
+        match times_of(op, self.times_at(at), times) {
+            None => Err(TermFault::TooMany),
+            Some(kept) => {
+                if kept == 0 {
+                    self.take_out(at);
+                } else {
+                    self.set_times(at, kept);
+                }
+                Ok(())
+            }
+        }
+    }
+
+    /// Puts a member in between.
+    fn put_in(&mut self, at: usize, member: Member) -> Result<(), TermFault>
+        requires { at ≤ length self.old }
+        ensures { OnOk result (self.new ≡ take at self.old ++ member ∷ drop at self.old) }
+    {
+        self.list.insert(at, member)?;
+        Ok(())
+    }
+
+    /// Adds a member at its place.
+    fn put(
+        &mut self,
+        op: AtomicOp,
+        ty: ElemType,
+        at: usize,
+        member: Member,
+    ) -> Result<(), TermFault>
+        requires { at ≤ length self.old }
+        ensures { OnOk result (IsMore op ty self.old self.new member.word member.times) }
+    {
+        self.put_in(at, member)
+    }
+
+    /// Combines a word so many times more.
+    pub(crate) fn add(
+        &mut self,
+        op: AtomicOp,
+        ty: ElemType,
+        word: u32,
+        times: u64,
+    ) -> Result<(), TermFault>
+        ensures { OnOk result (IsMore op ty self.old self.new word times) }
+    {
+        let at = first_from(self.list.as_slice(), word);
+        if at < self.list.len() && self.list[at].word == word {
+            self.count_up(op, ty, at, times)
+        } else {
+            self.put(op, ty, at, Member { word, times })
+        }
+    }
+
+    /// Combines a word so many times more: it is that of the last member, or the new last one.
+    fn append(&mut self, op: AtomicOp, ty: ElemType, member: Member) -> Result<(), TermFault>
+        ensures { OnOk result (IsMore op ty self.old self.new member.word member.times) }
+    {
+        let end = self.list.len();
+        if end > 0 && self.list[end - 1].word == member.word {
+            self.count_up(op, ty, end - 1, member.times)
+        } else {
+            self.put(op, ty, end, member)
+        }
+    }
+
+    /// Combines the words of these members, which are few, as many times as they say.
+    fn add_each(&mut self, op: AtomicOp, ty: ElemType, members: &[Member]) -> Result<(), TermFault>
+        ensures { OnOk result (AreMore op ty self.old self.new members.now) }
+    {
+        for member in members {
+            self.add(op, ty, member.word, member.times)?;
+        }
+        Ok(())
+    }
+
+    /// Combines the words of these members as many times as they say. They stand by rising places.
+    pub(crate) fn add_all(
+        &mut self,
+        alloc: Global,
+        op: AtomicOp,
+        ty: ElemType,
+        members: &[Member],
+    ) -> Result<(), TermFault>
+        ensures { OnOk result (AreMore op ty self.old self.new members.now) }
+    {
+        if members.len() < self.list.len() / FEW {
+            return self.add_each(op, ty, members);
+        }
+        *self = merged(alloc, op, ty, self.list.as_slice(), members)?;
+        Ok(())
+    }
+}
+
+/// Whether the next member of the first list comes before that of the second.
+fn is_first_next(first: &[Member], i: usize, second: &[Member], j: usize) -> bool
+    requires some { i + j < length first.now + length second.now }
+    requires within { j ≤ length second.now }
+    ensures first { result ≡ true → i < length first.now }
+    ensures second { result ≡ false → j < length second.now }
+{
+    if i >= first.len() {
+        return false;
+    }
+    j >= second.len() || first[i].word <= second[j].word
+}
+
+/// The members of two lists together, each of which is by rising places.
+#[tactic(auto, using(crate::proofs::terms::Folds::one_more_member, crate::proofs::terms::Folds::one_member_before, crate::proofs::terms::Folds::no_more))]
+fn merged(
+    alloc: Global,
+    op: AtomicOp,
+    ty: ElemType,
+    first: &[Member],
+    second: &[Member],
+) -> Result<Members, TermFault>
+    ensures { IfOk result (λ all. AreMore op ty first.now all second.now) }
+{
+    let total = first.len() + second.len();
+    let mut all = Members::with_room(alloc, total)?;
+    let mut i = 0usize;
+    let mut j = 0usize;
+    for _k in 0..total {
+        if is_first_next(first, i, second, j) {
+            all.append(op, ty, first[i])?;
+            i += 1;
+        } else {
+            all.append(op, ty, second[j])?;
+            j += 1;
+        }
+    }
+    Ok(all)
+}

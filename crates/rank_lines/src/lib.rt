@@ -1,7 +1,0 @@
-//! The lines of one rank of a description: its own list of each buffer that is printed, from its memory.
-#![tactic(auto)]
-
-mod places;
-mod prints;
-
-pub use prints::Prints;

@@ -1,5 +1,0 @@
-//! Logs with their verdicts, by hand.
-#![tactic(auto)]
-
-#[cfg(test)]
-mod verdicts;
