@@ -23,7 +23,7 @@ fn all_steps<'a>(
     requires { AreInputs shape.now inputs.now }
     ensures { IfOk result (λ held. IsThere shape.now kept.now inputs.now (length shape.now.steps) held) }
 {
-    shape.keeps_form();
+    shape.recall_form();
     let ranks = shape.ranks();
     let mut held = Buffers::of(alloc, inputs, shape.input_count(), ranks);
     for k in 0..shape.steps().len() {
@@ -55,7 +55,7 @@ fn all_buffers<'a>(
     ensures shaped { IfOk result (λ held. AreLong shape.now (length shape.now.buffers) held) }
 {
     // With a call on it a shape tells that it is well formed.
-    shape.keeps_form();
+    shape.recall_form();
     let kept = numbers(alloc, shape.buffers().len() as u32)?;
     let held = all_steps(alloc, shape, inputs, kept.as_slice())?;
     Ok(held)
@@ -96,7 +96,7 @@ pub fn printed_of<'a>(
     requires inputs { AreInputs shape.now inputs.now }
     ensures value { IfOk result (λ held. PrintsMeaning shape.now inputs.now held) }
 {
-    shape.keeps_form();
+    shape.recall_form();
     match all_steps(alloc, shape, inputs, shape.prints()) {
         Ok(held) => Ok(held),
         Err(_) => Err(NoMemory),

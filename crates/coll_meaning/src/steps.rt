@@ -124,7 +124,7 @@ pub fn take_step(
     requires asked { FindsAsked shape.now k held.old }
     ensures { OnOk result (IsMade shape.now kept.now k held.old held.new) }
 {
-    shape.keeps_form();
+    shape.recall_form();
     let ranks = shape.ranks();
     let step = step_at(shape, k);
     let Some(a) = step.source() else {

@@ -166,7 +166,7 @@ impl Shape {
     }
 
     /// Every shape is well formed: a call that does nothing, for whoever needs it in a proof.
-    pub fn keeps_form(&self)
+    pub fn recall_form(&self)
         ensures shape { IsWellFormed self.now }
     {
         let _ = &self.parts;

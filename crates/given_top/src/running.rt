@@ -34,7 +34,7 @@ fn run_flawless<R: Threads + Wait + Sync, G: Gate, K: Sink>(
         given,
     } = found;
     let (shape, inputs) = description.into_parts();
-    shape.keeps_form();
+    shape.recall_form();
     let (plan, done, marks) = given.into_parts();
     let Ok(job) = given_job(
         host.alloc,

@@ -125,9 +125,11 @@ wrong_list o values meant (marks.Enter s r c) = None
 wrong_list o values meant (marks.Leave s r c) = None
 
 -- with its line
+abbrev pub at_line : ℕ → Plan → List Mark → ℕ → Option GivenCause → Option WrongResult
+at_line k p ms i = option_map (λ cause. record { line = line_of k p ms (BadResult i); cause = cause })
+
 abbrev pub wrong_result : ℕ → Plan → Outline → List (List ℕ) → Lists → List Mark → ℕ → Option WrongResult
-wrong_result k p o values meant ms i =
-    option_map (λ cause. record { line = line_of k p ms (BadResult i); cause = cause }) (wrong_list o values meant (mark_at ms i))
+wrong_result k p o values meant ms i = at_line k p ms i (wrong_list o values meant (mark_at ms i))
 
 -- the first one
 abbrev pub first_wrong : ℕ → Plan → Outline → List (List ℕ) → Lists → List Mark → Option WrongResult

@@ -31,7 +31,7 @@ pub fn wrong_for(
 {
     judged_plans();
     let shape = text.description.shape();
-    shape.keeps_form();
+    shape.recall_form();
     let given = &text.given;
     let values = values(alloc, given.plan(), inputs, shape.input_count())?;
     let meant = buffers_of(alloc, shape, inputs)?;

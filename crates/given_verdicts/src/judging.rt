@@ -26,7 +26,7 @@ pub const LONGEST_GIVEN: usize = 33_554_432;
 fn input_lengths(alloc: Global, shape: &Shape) -> Result<Vec<u64>, NoMemory>
     ensures { IfOk result (λ lengths. lengths.items ≡ lengths_of shape.now) }
 {
-    shape.keeps_form();
+    shape.recall_form();
     let mut lengths = Vec::new(alloc);
     for b in 0..shape.input_count() {
         lengths.push(shape.buffers()[b as usize].list_bytes())?;
@@ -100,7 +100,7 @@ fn read_plan(alloc: Global, shape: &Shape, first: u32, text: &[u8]) -> Result<Gi
     ensures ranks { IfOk result (λ given. given.plan.ranks ≡ shape.now.ranks) }
     ensures few_marks { IfOk result (λ given. length given.marks < 2 ^ 32) }
 {
-    shape.keeps_form();
+    shape.recall_form();
     let ranks = shape.ranks();
     let least = ranks + shape.input_count() * ranks;
     read_given(alloc, ranks, least, shape.buffers(), first, text)

@@ -3,7 +3,7 @@
 ghost use Rattle.std.specs.Prelude.{◌≡◌, ◌<◌, ◌+◌, ◌-◌, ◌^◌, [], IfOk, get_or, length};
 ghost use Rattle.ptl_types.specs.Operations.{bytes_of};
 ghost use Rattle.coll_shape.specs.Outline.{buffer_at};
-ghost use Rattle.given_verdicts.specs.Answers.{first_wrong, unlike, wrong_list, wrong_result};
+ghost use Rattle.given_verdicts.specs.Answers.{at_line, first_wrong, unlike, wrong_list};
 ghost use Rattle.given_verdicts.specs.Differences.{difference_from};
 
 use crate::answer::{GivenCause, WrongResult};
@@ -92,29 +92,26 @@ fn wrong_list(
     }
 }
 
-/// What is wrong with what a named cell holds, and its line.
-fn wrong_result(
-    alloc: Global,
-    shape: &Shape,
+/// What is wrong with the result that a mark names, with the mark's line in a text whose plan begins at the line `first`.
+fn at_line(
     first: u32,
     given: &GivenPlan,
-    values: &CellValues,
-    meant: &Buffers,
     mark: u32,
-) -> Result<Option<WrongResult>, AllocError>
+    cause: Option<GivenCause>,
+) -> Option<WrongResult>
     requires at_most { length given.now.plan.cells + length given.now.plan.links < 2 ^ 32 - 1 }
     requires few_marks { length given.now.marks < 2 ^ 32 }
     requires mark { mark < length given.now.marks }
-    ensures { IfOk result (λ wrong. wrong ≡ wrong_result first given.now.plan shape.now values.now meant.now given.now.marks mark) }
+    ensures { result ≡ at_line first given.now.plan given.now.marks mark cause }
 {
-    let marks = given.marks();
-    match wrong_list(alloc, shape, values, meant, marks[mark as usize])? {
-        None => Ok(None),
-        Some(cause) => Ok(Some(WrongResult {
-            line: line_of(first, given.plan(), marks, MarkFlaw::BadResult { mark }),
-            cause,
-        })),
-    }
+    let cause = cause?;
+    let line = line_of(
+        first,
+        given.plan(),
+        given.marks(),
+        MarkFlaw::BadResult { mark },
+    );
+    Some(WrongResult { line, cause })
 }
 
 /// The first named cell that holds another list than is meant, in the order of their lines.
@@ -132,7 +129,8 @@ pub(crate) fn first_wrong(
 {
     let count = given.marks().len() as u32;
     for mark in 0..count {
-        let wrong = wrong_result(alloc, shape, first, given, values, meant, mark)?;
+        let cause = wrong_list(alloc, shape, values, meant, given.marks()[mark as usize])?;
+        let wrong = at_line(first, given, mark, cause);
         if wrong.is_some() {
             return Ok(wrong);
         }

@@ -25,7 +25,7 @@ const MANY: usize = 1000;
 fn cell_of(shape: &Shape, drawn: &DrawnShape, buffer: u32, rank: Rank) -> Option<u32>
     requires { drawn.now.held ≡ (drawing_of shape.now).held }
 {
-    shape.keeps_form();
+    shape.recall_form();
     let count = shape.buffers().len();
     let ranks = shape.ranks();
     if buffer as usize >= count {
@@ -68,7 +68,7 @@ fn found_of(
     requires accepted { refusal shape.now ≡ None }
     requires plan { plan.now ≡ plan_of shape.now }
 {
-    shape.keeps_form();
+    shape.recall_form();
     own_plans_fit();
     if marks.len() > MANY {
         return Err(NoMemory);

@@ -107,7 +107,7 @@ fn is_list_of(plan: &Plan, shape: &Shape, b: u32, c: u32) -> bool
     requires cell { c < length plan.now.cells }
     ensures { result ≡ is_list_of plan.now shape.now b c }
 {
-    shape.keeps_form();
+    shape.recall_form();
     let buffer = &shape.buffers()[b as usize];
     let cell = plan.cells()[c as usize];
     same_type(cell.ty, buffer.ty) && cell.length == buffer.list_bytes()

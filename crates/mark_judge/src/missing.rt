@@ -115,7 +115,7 @@ pub(crate) fn missing_barriers(named: &[bool], shape: &Shape) -> Option<MarkFlaw
     requires { length named.now ≡ places }
     ensures { result ≡ missing_barriers shape.now (has named.now) }
 {
-    shape.keeps_form();
+    shape.recall_form();
     for s in 0..shape.steps().len() as u32 {
         let flaw = missing_at(named, shape, s);
         if flaw.is_some() {

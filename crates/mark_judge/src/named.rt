@@ -104,7 +104,7 @@ pub(crate) fn is_first(named: &mut Vec<bool>, plan: &Plan, shape: &Shape, mark: 
     ensures small { result ≡ true → is_small (due_of mark) ≡ true }
     ensures noted { result ≡ true → named.new.items ≡ set named.old.items (place_of (due_of mark)) true }
 {
-    shape.keeps_form();
+    shape.recall_form();
     let due = due_of(mark);
     if !is_good(plan, shape, mark) {
         return false;

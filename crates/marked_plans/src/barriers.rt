@@ -65,7 +65,7 @@ fn links_in(shape: &Shape, k: u32) -> u64
     ensures value { result ≡ (step_size shape.now k).links }
     ensures at_most { result ≤ 2 ^ 18 }
 {
-    shape.keeps_form();
+    shape.recall_form();
     let step = &shape.steps()[k as usize];
     let members = shape.group(k);
     let holding = match step.source() {
@@ -83,7 +83,7 @@ fn links_of_inputs(shape: &Shape) -> u64
     ensures value { result ≡ (size_upto shape.now 0).links }
     ensures at_most { result ≤ 2 ^ 15 }
 {
-    shape.keeps_form();
+    shape.recall_form();
     u64::from(shape.input_count()) * u64::from(shape.ranks())
 }
 
@@ -101,7 +101,7 @@ fn mark_step(
     requires links { links ≡ (size_upto shape.now k).links }
     ensures { IfOk result (λ u. marks.new.items ≡ marks.old.items ++ step_marks shape.now k) }
 {
-    shape.keeps_form();
+    shape.recall_form();
     match shape.steps()[k as usize] {
         CollStep::Barrier => {
             // Its first link comes to its first cell.
@@ -122,7 +122,7 @@ pub(crate) fn mark_barriers(
     requires accepted { refusal shape.now ≡ None }
     ensures { IfOk result (λ u. marks.new.items ≡ marks.old.items ++ barrier_marks shape.now) }
 {
-    shape.keeps_form();
+    shape.recall_form();
     let mut links = links_of_inputs(shape);
     for k in 0..shape.steps().len() as u32 {
         mark_step(marks, shape, plan, k, links)?;

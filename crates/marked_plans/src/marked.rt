@@ -60,7 +60,7 @@ fn marks_of(
     requires held { held.now ≡ (drawing_of shape.now).held }
     ensures { IfOk result (λ marks. marks.items ≡ marks_of shape.now) }
 {
-    shape.keeps_form();
+    shape.recall_form();
     let mut marks = Vec::new(alloc);
     mark_results(&mut marks, shape, held)?;
     mark_barriers(&mut marks, shape, plan)?;
@@ -74,7 +74,7 @@ fn marked(alloc: Global, shape: &Shape, drawn: DrawnShape) -> Result<MarkedPlan,
     requires held { drawn.held ≡ (drawing_of shape.now).held }
     ensures { Answers shape.now (λ m. m ≡ marked_of shape.now) result }
 {
-    shape.keeps_form();
+    shape.recall_form();
     plan_sound();
     sound_plans();
     let DrawnShape { plan, held } = drawn;

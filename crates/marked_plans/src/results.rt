@@ -54,7 +54,7 @@ fn mark_print(
     requires ranks { held.now.ranks ≡ shape.now.ranks }
     ensures { IfOk result (λ u. marks.new.items ≡ marks.old.items ++ print_marks shape.now held.now print) }
 {
-    shape.keeps_form();
+    shape.recall_form();
     let prints = shape.prints();
     let buffer = prints[print];
     if is_in(buffer, &prints[..print]) {

@@ -8,6 +8,7 @@ ghost use Rattle.cuts.specs.orders.Chosen.{first_scene};
 ghost use Rattle.cuts.specs.orders.Taking.{IsNext};
 ghost use Rattle.cuts.specs.orders.Verdict.{IsWhole};
 ghost use Rattle.worlds.specs.Later.{IsLater};
+ghost use Rattle.worlds.specs.Standing.{IsStanding};
 ghost use Rattle.worlds.specs.World.{histories_in, scene_in};
 ghost use Rattle.order_check.specs.Listing.{IsListed, lists_of};
 ghost use Rattle.order_check.specs.Open.{IsOpen, widest};
@@ -135,6 +136,13 @@ fn all_ranks(alloc: Global, count: u32) -> Result<Vec<Rank>, NoMemory>
     Ok(queue)
 }
 
+/// Tells in a proof what holds of a world whatever was done with it; it does nothing.
+fn recall_standing(world: &World)
+    ensures { IsStanding world.now }
+{
+    let _ = world.enabled();
+}
+
 /// Takes of each list what can be taken, in a world in which nothing was done.
 pub fn take_all(alloc: Global, world: &mut World, orders: &Orders) -> Result<(), NoMemory>
     requires lists { length orders.now ≡ world.old.schedule.plan.ranks }
@@ -143,8 +151,7 @@ pub fn take_all(alloc: Global, world: &mut World, orders: &Orders) -> Result<(),
     ensures later { IsLater world.old world.new }
     ensures taken { IfOk result (λ _. IsWork world.new (lists_of orders.now) []) }
 {
-    // What holds of every world is told here.
-    let _ = world.enabled();
+    recall_standing(world);
     let mut queue = all_ranks(alloc, ranks(world))?;
     while let Some(r) = queue.pop() {
         look(world, orders, r, &mut queue)?;

@@ -53,7 +53,7 @@ fn differs(
     requires inputs { AreInputs shape.now inputs.now }
     ensures { IfOk result (λ found. found ≡ true → IsMeant plan.now shape.now inputs.now mark → ⊥) }
 {
-    shape.keeps_form();
+    shape.recall_form();
     let Mark::Result { buffer, rank, cell } = mark else {
         return Ok(false);
     };
@@ -90,7 +90,7 @@ fn search(
 
 /// The bytes of the longest list of an input.
 fn longest(shape: &Shape) -> u64 {
-    shape.keeps_form();
+    shape.recall_form();
     let mut most = 0u64;
     for b in 0..shape.input_count() {
         most = most.max(shape.buffers()[b as usize].list_bytes());
@@ -125,7 +125,7 @@ fn unlike(
     ensures { IfOk result (λ found. MatchOption found (AreMeantTo plan.now shape.now marks.now (length marks.now))
         (IsOpenAt plan.now shape.now marks.now)) }
 {
-    shape.keeps_form();
+    shape.recall_form();
     let ranks = shape.ranks();
     let count = shape.input_count();
     let mut terms = opened(alloc, ranks, count, longest(shape))?;

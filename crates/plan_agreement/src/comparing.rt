@@ -34,7 +34,7 @@ fn due_places<'a>(
     requires rank { rank < shape.now.ranks }
     ensures { result.now ≡ held_places own.now (held_cell (drawing_of shape.now).held buffer rank) }
 {
-    shape.keeps_form();
+    shape.recall_form();
     match held.cell(buffer, rank) {
         Some(cell) => own.cell(cell),
         None => &[],

@@ -43,7 +43,7 @@ fn witness_list(alloc: Global, kind: u32, from: u64, count: u64) -> Result<Input
 fn list_count(shape: &Shape) -> u32
     ensures { result ≡ shape.now.inputs * shape.now.ranks }
 {
-    shape.keeps_form();
+    shape.recall_form();
     shape.input_count() * shape.ranks()
 }
 
@@ -52,7 +52,7 @@ fn bytes_at(shape: &Shape, i: u32) -> u64
     requires { i < shape.now.inputs * shape.now.ranks }
     ensures { result ≡ list_bytes (buffer_at shape.now (i / shape.now.ranks)) }
 {
-    shape.keeps_form();
+    shape.recall_form();
     let buffers = shape.buffers();
     let input = i / shape.ranks();
     buffers[input as usize].list_bytes()
@@ -75,7 +75,7 @@ fn witness_lists(alloc: Global, shape: &Shape, kind: u32) -> Result<Vec<InputLis
 pub(crate) fn witness(alloc: Global, shape: &Shape, kind: u32) -> Result<Inputs, NoMemory>
     ensures { IfOk result (λ inputs. AreInputs shape.now inputs) }
 {
-    shape.keeps_form();
+    shape.recall_form();
     match witness_lists(alloc, shape, kind) {
         Ok(lists) => Ok(Inputs::of(shape.ranks(), shape.input_count(), lists)),
         Err(_) => Err(NoMemory),

@@ -22,7 +22,7 @@ fn ring_cell(site: &StepContext, turn: u32, place: u32) -> u32
     requires place { place < count site.now }
     ensures { result ≡ ring_cell site.now turn place }
 {
-    let _ = site.count();
+    site.recall_members();
     site.in_row(turn + 1, place)
 }
 

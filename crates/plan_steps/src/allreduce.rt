@@ -52,7 +52,7 @@ impl Collective for Allreduce {
             root: 0,
             op: self.op,
         };
-        let _ = site.count();
+        site.recall_members();
         draw_row(plan, site, &FullEntries, 0)?;
         draw_row(plan, site, &up, 0)?;
         draw_row(plan, site, &Results, 0)?;

@@ -73,7 +73,7 @@ impl Collective for Alltoall {
     }
 
     fn end(&self, site: &StepContext, place: u32) -> StepExit {
-        let _ = site.count();
+        site.recall_members();
         giving(site.further(place))
     }
 }

@@ -64,7 +64,7 @@ pub(crate) fn read_data(shape: &Shape, read: Option<u32>) -> (ElemType, u64)
     ensures bytes { result.1 ≡ list_bytes (read_buffer shape.now read) }
     ensures most { result.1 ≤ 2 ^ 27 }
 {
-    shape.keeps_form();
+    shape.recall_form();
     match read {
         Some(a) => {
             let buffer = &shape.buffers()[a as usize];

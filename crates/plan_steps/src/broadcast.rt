@@ -32,7 +32,7 @@ impl Rows for Copies {
         _number: u32,
         place: u32,
     ) -> Result<(), NoMemory> {
-        let _ = site.count();
+        site.recall_members();
         let down = Down {
             root: self.root,
             base: site.further(0),
@@ -63,7 +63,7 @@ impl Collective for Broadcast {
     }
 
     fn end(&self, site: &StepContext, place: u32) -> StepExit {
-        let _ = site.count();
+        site.recall_members();
         giving(site.further(unturned(site, self.root, place)))
     }
 }

@@ -24,7 +24,7 @@ impl Links for Lists {
     ghost link = { λ lists s. gather_link s };
 
     fn link(&self, site: &StepContext, number: u32) -> Incoming {
-        let _ = site.count();
+        site.recall_members();
         let at = u64::from(number) * site.length();
         put(site.length(), site.entry(number), 0, at)
     }
@@ -62,7 +62,7 @@ impl Collective for Gather {
     }
 
     fn end(&self, site: &StepContext, place: u32) -> StepExit {
-        let _ = site.count();
+        site.recall_members();
         if place == self.root {
             giving(site.further(0))
         } else {

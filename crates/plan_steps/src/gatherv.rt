@@ -44,7 +44,7 @@ fn holder_put(site: &StepContext, i: u32) -> Incoming
     requires { i < length site.now.holding }
     ensures { result ≡ holder_put site.now i }
 {
-    let _ = site.count();
+    site.recall_members();
     let place = site.holders()[i as usize];
     put(
         site.length(),
@@ -64,7 +64,7 @@ fn concatenated_links(
     ensures { IfOk result (λ links.
         links.items ≡ bump (entry site.now root) ∷ map (holder_put site.now) (from_to 0 (length site.now.holding))) }
 {
-    let _ = site.count();
+    site.recall_members();
     let holders = site.holders().len() as u32;
     let mut links = Vec::new(alloc);
     links.push(bump(site.entry(root)))?;
@@ -85,7 +85,7 @@ fn draw_concatenated(
     requires room { HasRoom plan.old (concatenated site.now root ∷ []) }
     ensures { IfOk result (λ u. plan.new ≡ add plan.old (concatenated site.now root)) }
 {
-    let _ = site.count();
+    site.recall_members();
     let holders = site.holders().len() as u64;
     let part = site.holding(holders * site.length(), root);
     match concatenated_links(alloc, site, root) {
@@ -114,7 +114,7 @@ impl Collective for Gatherv {
     }
 
     fn end(&self, site: &StepContext, place: u32) -> StepExit {
-        let _ = site.count();
+        site.recall_members();
         if place == self.root {
             giving(site.further(0))
         } else {

@@ -55,7 +55,7 @@ impl Collective for Reducescatter {
             root: 0,
             op: self.op,
         };
-        let _ = site.count();
+        site.recall_members();
         draw_row(plan, site, &FullEntries, 0)?;
         draw_row(plan, site, &up, 0)?;
         draw_row(plan, site, &ResultBlocks, 0)?;

@@ -42,7 +42,7 @@ impl Rows for ScanRounds {
         number: u32,
         place: u32,
     ) -> Result<(), NoMemory> {
-        let _ = site.count();
+        site.recall_members();
         let part = site.summing(self.op, place);
         let length = site.length();
         if number == 0 {

@@ -63,7 +63,7 @@ impl Collective for Scatter {
     }
 
     fn end(&self, site: &StepContext, place: u32) -> StepExit {
-        let _ = site.count();
+        site.recall_members();
         giving(site.further(place))
     }
 }

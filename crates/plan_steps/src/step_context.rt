@@ -97,6 +97,14 @@ impl StepContext {
         self.members.len() as u32
     }
 
+    /// Tells in a proof how many members there may be; it does nothing.
+    pub fn recall_members(&self)
+        ensures some { 1 ≤ count self.now }
+        ensures at_most { count self.now ≤ 256 }
+    {
+        let _ = self.members.len();
+    }
+
     /// The bytes of a list of the buffer that is read.
     pub fn length(&self) -> u64
         ensures value { result ≡ self.now.length }

@@ -86,7 +86,7 @@ pub(crate) fn draw_down_cell(
     requires room { HasRoom plan.old (down_cell site.now down.root down.base down.top below v ∷ []) }
     ensures { IfOk result (λ u. plan.new ≡ add plan.old (down_cell site.now down.root down.base down.top below v)) }
 {
-    let _ = site.count();
+    site.recall_members();
     let part = site.holding(site.length(), turned(site, down.root, v));
     if v == 0 {
         plan.draw(part, &[put_whole(site.length(), down.top)])

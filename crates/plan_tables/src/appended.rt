@@ -12,6 +12,7 @@ ghost use Rattle.plan_tables.specs.AreaTables.{area_counts, area_sums};
 
 use crate::all_areas::Areas;
 use crate::calls::{append_call, bits_of, done_call, link_call, push_call};
+use crate::reading::recall_ranks;
 use plan_core::Plan;
 use ptl_types::{Call, NoMemory, Rank};
 
@@ -56,7 +57,7 @@ pub(crate) fn add_area_calls(
     ensures calls { IfOk result (λ end. calls.new.items ≡ calls.old.items ++ map (area_call plan.now r) (classes plan.now r)) }
     ensures end { IfOk result (λ end. end ≡ region_length plan.now r + areas_length plan.now r) }
 {
-    let _ = plan.ranks();
+    recall_ranks(plan);
     let mut start = after_cells;
     for class in 0..81u32 {
         let key = r as usize * 81 + class as usize;

@@ -7,7 +7,7 @@ ghost use Rattle.plan_core.specs.calls.Bits.{bits_above, cell_bits, class_of, op
 ghost use Rattle.plan_core.specs.calls.Calls.{append_call, cell_start, send_act, trigger};
 ghost use Rattle.plan_tables.specs.Tables.{IsTabled};
 
-use crate::reading::{from_rank, to_rank};
+use crate::reading::{from_rank, recall_cells, to_rank};
 use plan_core::reading::{cell_at, link_at};
 use plan_core::{LinkKind, Plan};
 use ptl_types::{AckRequest, AtomicOp, Call, ElemType, NoMemory, PlannedOp, Rank};
@@ -86,7 +86,7 @@ pub(crate) fn start_at(plan: &Plan, starts: &[u64], c: u32) -> u64
     requires starts { starts.now ≡ map (cell_start plan.now) (all_cells plan.now) }
     ensures { result ≡ cell_start plan.now c }
 {
-    let _ = plan.cells();
+    recall_cells(plan);
     starts[c as usize]
 }
 

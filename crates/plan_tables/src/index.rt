@@ -9,6 +9,7 @@ ghost use Rattle.plan_tables.specs.Ranks.{IsIndex};
 use crate::all_areas::{Areas, find_areas};
 use crate::by_rank::ByRank;
 use crate::owners::{cells_by_rank, links_by_rank, messages_by_rank};
+use crate::reading::recall_ranks;
 use crate::starts::cell_starts;
 use crate::tallies::Tallies;
 use plan_core::Plan;
@@ -67,7 +68,7 @@ impl Index {
         ensures ranks { (i : ℕ) → i < length result.now → (cell plan.now (get_or result.now i 0)).rank ≡ r }
         ensures at_most { length result.now ≤ length plan.now.cells }
     {
-        let _ = plan.ranks();
+        recall_ranks(plan);
         self.own.at(r)
     }
 
@@ -80,7 +81,7 @@ impl Index {
         ensures links { (i : ℕ) → i < length result.now → get_or result.now i 0 < length plan.now.links }
         ensures at_most { length result.now ≤ length plan.now.links }
     {
-        let _ = plan.ranks();
+        recall_ranks(plan);
         self.out.at(r)
     }
 
@@ -93,7 +94,7 @@ impl Index {
         ensures links { (i : ℕ) → i < length result.now → get_or result.now i 0 < length plan.now.links }
         ensures at_most { length result.now ≤ length plan.now.links }
     {
-        let _ = plan.ranks();
+        recall_ranks(plan);
         self.into.at(r)
     }
 
@@ -103,7 +104,7 @@ impl Index {
         requires rank { r < plan.now.ranks }
         ensures { result ≡ region_length plan.now r }
     {
-        let _ = plan.ranks();
+        recall_ranks(plan);
         self.lengths.at(r as usize)
     }
 }

@@ -1,11 +1,25 @@
 //! Between which ranks a link goes.
 
-ghost use Rattle.std.specs.Prelude.{◌≡◌, ◌<◌, ◌+◌, ◌*◌, length};
+ghost use Rattle.std.specs.Prelude.{◌≡◌, ◌<◌, ◌+◌, ◌*◌, ◌^◌, length};
 ghost use Rattle.plan_tables.specs.Tables.{IsTabled, from_rank, lane_key, rank_of, to_rank};
 
 use plan_core::reading::{cell_at, link_at};
 use plan_core::{LinkKind, Plan};
 use ptl_types::Rank;
+
+/// Tells in a proof how many ranks a plan may have; it does nothing.
+pub(crate) fn recall_ranks(plan: &Plan)
+    ensures { plan.now.ranks < 2 ^ 32 }
+{
+    let _ = plan.ranks();
+}
+
+/// Tells in a proof how many cells a plan may have; it does nothing.
+pub(crate) fn recall_cells(plan: &Plan)
+    ensures { length plan.now.cells < 2 ^ 63 }
+{
+    let _ = plan.cells();
+}
 
 /// The rank of a cell.
 pub(crate) fn rank_of(plan: &Plan, c: u32) -> Rank

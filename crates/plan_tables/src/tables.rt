@@ -12,6 +12,7 @@ use crate::calls::start_at;
 use crate::index::Index;
 use crate::lanes::{Lanes, find_lanes};
 use crate::ranks::{RankTable, done, rank_table};
+use crate::reading::recall_ranks;
 use plan_core::Plan;
 use ptl_types::{NoMemory, Rank};
 use std::alloc::Global;
@@ -81,7 +82,7 @@ impl Tables {
         requires class { class < 81 }
         ensures { result ≡ area_length plan.now r class }
     {
-        let _ = plan.ranks();
+        recall_ranks(plan);
         self.index.areas.bytes.at(r as usize * 81 + class as usize)
     }
 }

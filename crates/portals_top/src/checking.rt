@@ -76,7 +76,7 @@ fn verdict_on(
     requires lists { length orders.now ≡ shape.now.ranks }
     ensures { IfOk result (λ verdict. IsVerdictOn shape.now inputs orders.now verdict) }
 {
-    shape.keeps_form();
+    shape.recall_form();
     shape_schedules();
     let job = shape_job(alloc, shape, schedule, inputs)?;
     check(alloc, &job, orders)

@@ -132,7 +132,7 @@ fn described<K: Sink>(
     match d.choices() {
         Some(choices) => {
             let shape = d.shape();
-            shape.keeps_form();
+            shape.recall_form();
             let ranks = shape.ranks();
             let text = ChoiceText { ranks, choices };
             Begun::Answered(chosen(alloc, command, &text, sink, ran, told))

@@ -118,7 +118,7 @@ fn ready_rank(
     ensures place { IfOk result (λ o. IsPlaceOf (plan_of shape) inputs me o.place) }
     ensures prints { IfOk result (λ o. o.prints ≡ record { shape = shape; rank = me }) }
 {
-    shape.keeps_form();
+    shape.recall_form();
     let job = shape_job(alloc, &shape, schedule, inputs)?;
     let place = placed(alloc, &job, me)?;
     let prints = Prints::of(alloc, shape, job.schedule(), me)?;

@@ -35,7 +35,7 @@ pub fn step_line(shape: &Shape, step: u32) -> u32
     requires { step < length shape.now.steps }
     ensures { result ≡ step_line shape.now step }
 {
-    shape.keeps_form();
+    shape.recall_form();
     let ranks = shape.ranks();
     let options = if shape.remote() { 1 } else { 0 };
     let inputs = shape.input_count() * (ranks + 1);

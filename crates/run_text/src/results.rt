@@ -98,7 +98,7 @@ pub(crate) fn put_prints<K: Sink, H: ResultLists>(
         (flat_map (buffer_lines (H.outline held.now) (H.lists held.now)) (H.outline held.now).prints) result }
 {
     let shape = held.shape();
-    shape.keeps_form();
+    shape.recall_form();
     let ranks = shape.ranks() as usize;
     let mut first = 0;
     for buffer in shape.prints() {

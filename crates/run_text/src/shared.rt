@@ -58,7 +58,7 @@ fn is_short<H: ResultLists>(held: &H) -> bool
     requires gives { H.can_give held.now }
 {
     let shape = held.shape();
-    shape.keeps_form();
+    shape.recall_form();
     let mut bytes = 0u64;
     for buffer in shape.prints() {
         bytes = bytes.saturating_add(bytes_of(held, *buffer));
@@ -71,7 +71,7 @@ fn line_count(shape: &Shape) -> usize
     ensures value { result ≡ length shape.now.prints * shape.now.ranks }
     ensures at_most { result ≤ 32768 }
 {
-    shape.keeps_form();
+    shape.recall_form();
     shape.prints().len() * shape.ranks() as usize
 }
 
@@ -83,7 +83,7 @@ fn numbered_text<H: ResultLists>(alloc: Global, held: &H, number: usize) -> Opti
         (number % (H.outline held.now).ranks) result }
 {
     let shape = held.shape();
-    shape.keeps_form();
+    shape.recall_form();
     let ranks = shape.ranks() as usize;
     let buffer = shape.prints()[number / ranks];
     line_text(alloc, held, buffer, (number % ranks) as Rank)

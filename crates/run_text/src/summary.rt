@@ -114,7 +114,7 @@ fn put_sums<K: Sink, H: ResultLists>(out: &mut Pieces, sink: &mut K, held: &H) -
         (flat_map (sum_line_at (H.outline held.now) (H.lists held.now)) (H.outline held.now).prints) result }
 {
     let shape = held.shape();
-    shape.keeps_form();
+    shape.recall_form();
     put_listed(out, sink, &SumRows(held), shape.prints())
 }
 

@@ -25,7 +25,7 @@ fn drawn_schedule(alloc: Global, shape: &Shape, drawn: DrawnShape) -> Result<Sch
     requires held { drawn.held ≡ (drawing_of shape.now).held }
     ensures { IfOk result (λ schedule. schedule ≡ schedule_of shape.now) }
 {
-    shape.keeps_form();
+    shape.recall_form();
     let buffers = shape.buffers().len() as u32;
     Schedule::of(alloc, drawn.plan, drawn.held, shape.input_count(), buffers)
 }
@@ -63,7 +63,7 @@ pub fn shape_job(
     requires inputs { AreInputs shape.now inputs }
     ensures { IfOk result (λ job. job ≡ job_of shape.now inputs) }
 {
-    shape.keeps_form();
+    shape.recall_form();
     Job::new(alloc, schedule, inputs)
 }
 

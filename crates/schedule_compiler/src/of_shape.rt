@@ -82,7 +82,7 @@ impl ShapeJob {
         ensures accepted { refusal self.now.shape ≡ None }
         ensures inputs { AreInputs self.now.shape self.now.inputs }
     {
-        self.shape.keeps_form();
+        self.shape.recall_form();
         &self.job
     }
 }

@@ -14,7 +14,7 @@ fn verdict(rt: &impl Abort, alloc: Global, text: &[u8]) -> Verdict {
     };
     let (shape, inputs) = description.into_parts();
     // What the check asks for: as many orders as the plan has ranks.
-    shape.keeps_form();
+    shape.recall_form();
     shape_schedules();
     let Ok(schedule) = compile(alloc, &shape) else {
         panic!(rt; "a schedule")

@@ -21,7 +21,7 @@ fn results_of(alloc: Global, shape: &Shape, marks: &[Mark]) -> Result<BufferCell
     requires { AreWithin shape.now marks.now }
     ensures { IfOk result (λ held. held ≡ results_of shape.now marks.now) }
 {
-    shape.keeps_form();
+    shape.recall_form();
     let mut held = BufferCells::open(alloc, shape.buffers().len() as u32, shape.ranks())?;
     for i in 0..marks.len() {
         match marks[i] {
@@ -53,7 +53,7 @@ pub fn given_job(
     ensures { IfOk result (λ job. job ≡ given_job shape.now (record { plan = plan; done = done.now; marks = marks.now }) inputs) }
 {
     let _ = done;
-    shape.keeps_form();
+    shape.recall_form();
     flawless_plans_can_run();
     let held = results_of(alloc, shape, marks)?;
     let (count, buffers) = (shape.input_count(), shape.buffers().len() as u32);

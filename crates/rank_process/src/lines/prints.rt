@@ -91,7 +91,7 @@ impl Prints {
         requires { buffer < length self.now.shape.buffers }
         ensures { result.now ≡ result_in (plan_of self.now.shape) (drawing_of self.now.shape).held buffer self.now.rank memory.now }
     {
-        self.shape.keeps_form();
+        self.shape.recall_form();
         match self.places[buffer as usize] {
             Some(place) => part_of(memory, place),
             None => &[],
@@ -122,7 +122,7 @@ impl Prints {
         ensures { Puts (K.outflow sink.old) (K.outflow sink.new) out.old out.new
             (own_lines self.now.shape self.now.rank memory.now) result }
     {
-        self.shape.keeps_form();
+        self.shape.recall_form();
         let rows = OwnRows {
             prints: self,
             memory,

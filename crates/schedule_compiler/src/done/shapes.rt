@@ -18,7 +18,7 @@ fn counted(alloc: Global, shape: &Shape, plan: Plan) -> Result<CountedPlan, Comp
     requires plan { plan ≡ plan_of shape.now }
     ensures { Counts shape.now result }
 {
-    shape.keeps_form();
+    shape.recall_form();
     plan_sound();
     sound_plans();
     match CountedPlan::of(alloc, plan) {

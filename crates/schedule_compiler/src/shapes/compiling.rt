@@ -17,7 +17,7 @@ use std::alloc::Global;
 pub fn drawn_shape(alloc: Global, shape: &Shape) -> Result<DrawnShape, CompileFault>
     ensures { Draws shape.now result }
 {
-    shape.keeps_form();
+    shape.recall_form();
     match judge(shape) {
         Ok(size) => match draw(alloc, shape, size.links) {
             Ok(drawn) => Ok(drawn),

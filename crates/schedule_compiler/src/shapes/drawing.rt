@@ -60,7 +60,7 @@ fn opened(alloc: Global, shape: &Shape, links: u32) -> Result<Drawing, NoMemory>
     requires { links ≤ MOST_LINKS }
     ensures { IfOk result (λ d. d ≡ opened shape.now) }
 {
-    shape.keeps_form();
+    shape.recall_form();
     let ranks = shape.ranks();
     let buffers = shape.buffers().len() as u32;
     let plan = Plan::open(alloc, ranks, shape.remote(), links + MOST_RANKS, links)?;
@@ -74,7 +74,7 @@ fn add_inputs(drawing: &mut Drawing, shape: &Shape) -> Result<(), NoMemory>
     requires { drawing.old ≡ opened shape.now }
     ensures { IfOk result (λ u. drawing.new ≡ drawn_inputs shape.now shape.now.inputs) }
 {
-    shape.keeps_form();
+    shape.recall_form();
     let ranks = shape.ranks();
     for b in 0..shape.input_count() {
         let first = drawing.plan.cells().len() as u32;
@@ -91,7 +91,7 @@ fn add_steps(alloc: Global, drawing: &mut Drawing, shape: &Shape) -> Result<(), 
     requires inputs { drawing.old ≡ drawn_inputs shape.now shape.now.inputs }
     ensures { IfOk result (λ u. drawing.new ≡ drawing_of shape.now) }
 {
-    shape.keeps_form();
+    shape.recall_form();
     for k in 0..shape.steps().len() as u32 {
         let step = &shape.steps()[k as usize];
         add_step(alloc, drawing, step, shape.group(k), shape)?;

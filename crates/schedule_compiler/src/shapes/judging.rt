@@ -35,7 +35,7 @@ fn step_size(shape: &Shape, k: u32) -> Size
     ensures links { result.links ≤ 2 ^ 18 }
     ensures bytes { result.bytes ≤ 2 ^ 45 }
 {
-    shape.keeps_form();
+    shape.recall_form();
     let step = &shape.steps()[k as usize];
     let members = shape.group(k);
     let m = members.len() as u32;
@@ -61,7 +61,7 @@ fn inputs_size(shape: &Shape) -> Size
     ensures links { result.links ≤ 2 ^ 15 }
     ensures bytes { result.bytes ≤ 2 ^ 42 }
 {
-    shape.keeps_form();
+    shape.recall_form();
     let ranks = u64::from(shape.ranks());
     let mut sum = Size { links: 0, bytes: 0 };
     for b in 0..shape.input_count() {
@@ -85,7 +85,7 @@ fn inputs_size(shape: &Shape) -> Size
 pub(crate) fn judge(shape: &Shape) -> Result<Size, CompileFault>
     ensures { Judges shape.now result }
 {
-    shape.keeps_form();
+    shape.recall_form();
     let mut sum = inputs_size(shape);
     for k in 0..shape.steps().len() as u32 {
         sum = add_sizes(sum, step_size(shape, k));

@@ -13,9 +13,9 @@ take_step-requires c =
     in
     record {
       step = l;
-      at_most = few_there c.args.shape.now c.args.kept.now c.args.inputs.now c.loop-k.k c.loop-k.held c.keeps_form.ensures.shape l
+      at_most = few_there c.args.shape.now c.args.kept.now c.args.inputs.now c.loop-k.k c.loop-k.held c.recall_form.ensures.shape l
           c.loop-k.invariant;
-      asked = asked_there c.args.shape.now c.args.kept.now c.args.inputs.now c.loop-k.k c.keeps_form.ensures.shape c.requires l
+      asked = asked_there c.args.shape.now c.args.kept.now c.args.inputs.now c.loop-k.k c.recall_form.ensures.shape c.requires l
           c.loop-k.held c.loop-k.invariant;
     }
 
@@ -25,7 +25,7 @@ loop-k-preserved c =
     in
     let e : suc c.loop-k.k ≡ c.loop-k.k + 1 = omega arith in
     subst (λ v. IsThere c.args.shape.now c.args.kept.now c.args.inputs.now v c.take_step.new.held) e
-    (there_next c.args.shape.now c.args.kept.now c.args.inputs.now c.loop-k.k c.keeps_form.ensures.shape c.requires l c.loop-k.held
+    (there_next c.args.shape.now c.args.kept.now c.args.inputs.now c.loop-k.k c.recall_form.ensures.shape c.requires l c.loop-k.held
     c.loop-k.invariant c.take_step.new.held c.in_ok-take_step.ensures)
 
 pub returns : goal.returns

@@ -18,4 +18,4 @@ run_given-requires-clause-fits g c κs within =
     rw (c.into_parts-shape.ensures.shape, parts.plan, c.as_slice.ensures.value, parts.done, c.as_slice-2.ensures.value, parts.marks)
     (record { ranks = known.ranks; plan = known.plan; lines = known.marks }) in
     subst (λ (j : JobOf). FitsShape o j.schedule) (sym c.in-Ok.ensures)
-    (c.given_jobs.ensures o given c.into_parts-shape.result.1 c.keeps_form.ensures.shape flawless)
+    (c.given_jobs.ensures o given c.into_parts-shape.result.1 c.recall_form.ensures.shape flawless)

@@ -13,7 +13,7 @@ loop-b-preserved c =
     let x = c.index-buffers-b.result in
     let end = c.input_count-b-end.ensures.value in
     let t = c.loop-b-test.true in
-    let few = c.keeps_form.ensures.shape.shape.few_inputs in
+    let few = c.recall_form.ensures.shape.shape.few_inputs in
     let there : b < length o.buffers = omega (arith, end, t, few) in
     let is : x ≡ buffer_at o b =
     get_or_read o.buffers b x there (c.index-buffers-b.is ∙ ap (λ (v : List Buffer). get_or v b x) c.buffers.ensures.value) no_buffer in

@@ -6,14 +6,14 @@ use Rattle.judge_cases.proofs.agreement.cell_of.Goals as goal
 
 pub cell-requires-clause-buffer : goal.cell-requires-clause-buffer
 cell-requires-clause-buffer c =
-    let fine = fine-shape c.args.shape.now c.keeps_form.ensures.shape in
+    let fine = fine-shape c.args.shape.now c.recall_form.ensures.shape in
     let same = ap (λ (h : HeldCells). h.buffers) c.requires ∙ fine.held_buffers in
     let count = ap length c.buffers-count.ensures.value in
     omega (arith, same, count)
 
 pub cell-requires-clause-rank : goal.cell-requires-clause-rank
 cell-requires-clause-rank c =
-    let fine = fine-shape c.args.shape.now c.keeps_form.ensures.shape in
+    let fine = fine-shape c.args.shape.now c.recall_form.ensures.shape in
     let same = ap (λ (h : HeldCells). h.ranks) c.requires ∙ fine.held_ranks in
     let ranks = c.ranks-ranks.ensures.value in
     omega (arith, same, ranks)

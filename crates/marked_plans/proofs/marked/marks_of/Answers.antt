@@ -6,11 +6,11 @@ use Rattle.marked_plans.proofs.marked.marks_of.Goals as goal
 
 pub mark_results-requires-clause-buffers : goal.mark_results-requires-clause-buffers
 mark_results-requires-clause-buffers c =
-    ap (λ (h : HeldCells). h.buffers) c.requires.held ∙ held_buffers c.args.shape.now c.keeps_form.ensures.shape
+    ap (λ (h : HeldCells). h.buffers) c.requires.held ∙ held_buffers c.args.shape.now c.recall_form.ensures.shape
 
 pub mark_results-requires-clause-ranks : goal.mark_results-requires-clause-ranks
 mark_results-requires-clause-ranks c =
-    ap (λ (h : HeldCells). h.ranks) c.requires.held ∙ held_ranks c.args.shape.now c.keeps_form.ensures.shape
+    ap (λ (h : HeldCells). h.ranks) c.requires.held ∙ held_ranks c.args.shape.now c.recall_form.ensures.shape
 
 pub returns : goal.returns
 returns c =

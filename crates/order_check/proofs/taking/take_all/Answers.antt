@@ -14,7 +14,7 @@ loop-r-init c =
     let count : c.ranks.result ≡ w.schedule.plan.ranks = c.ranks.ensures in
     record {
       later = same_world w;
-      work = first_work w (lists_of c.args.orders.now) queue c.enabled.ensures.kept c.requires.wide c.requires.fresh
+      work = first_work w (lists_of c.args.orders.now) queue c.recall_standing.ensures c.requires.wide c.requires.fresh
           (subst (λ n. (r : ℕ) → r < n → In r queue) count c.in_ok-queue.ensures.all)
           (subst (λ n. (r : ℕ) → In r queue → r < n) count c.in_ok-queue.ensures.known);
     }

@@ -8,5 +8,5 @@ overflow_mul-result c =
     let o = c.args.shape.now in
     let same : c.input_count.result * c.ranks.result ≡ o.inputs * o.ranks =
     ap₂ (λ i r. i * r) c.input_count.ensures.value c.ranks.ensures.value in
-    let few = few_lists o c.keeps_form.ensures.shape in
+    let few = few_lists o c.recall_form.ensures.shape in
     omega (arith, same, few)

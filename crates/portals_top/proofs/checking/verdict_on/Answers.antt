@@ -8,7 +8,7 @@ use Rattle.portals_top.proofs.checking.verdict_on.Goals as goal
 
 pub check-requires : goal.check-requires
 check-requires c =
-    c.requires.lists ∙ sym (c.shape_schedules.ensures.ranks c.args.shape.now c.keeps_form.ensures.shape)
+    c.requires.lists ∙ sym (c.shape_schedules.ensures.ranks c.args.shape.now c.recall_form.ensures.shape)
     ∙ sym (ap (λ (j : JobOf). j.schedule.plan.ranks) c.in_ok-job.ensures)
 
 pub returns : goal.returns

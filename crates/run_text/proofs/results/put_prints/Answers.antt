@@ -48,7 +48,7 @@ loop-buffer-preserved g c =
     let same : c.prints-buffer-items.result.now ≡ prints = rw c.shape-shape.ensures at c.prints-buffer-items.ensures.value in
     let in_range : n < length prints = subst (λ xs. n < length xs) same c.loop-buffer-test.true in
     let ranks : c.ranks-ranks.result ≡ o.ranks = rw c.shape-shape.ensures at c.ranks-ranks.ensures.value in
-    let at_most : o.ranks ≤ 256 = rw c.shape-shape.ensures at c.keeps_form.ensures.shape.shape.few_ranks in
+    let at_most : o.ranks ≤ 256 = rw c.shape-shape.ensures at c.recall_form.ensures.shape.shape.few_ranks in
     record {
       taken = Takes-next old before new text c.loop-buffer.out c.put_buffer.new.out (lines (get_or prints n 0))
           (flat_map lines (drop (n + 1) prints))

@@ -14,12 +14,12 @@ of-requires-clause-can c =
     subst CanRun
     (sym (same-parts c.args.drawn.plan (plan_of o) c.args.drawn.held (drawing_of o).held c.input_count.result o.inputs
     c.requires.plan c.requires.held c.input_count.ensures.value))
-    (shape-can o c.keeps_form.ensures.shape c.requires.accepted)
+    (shape-can o c.recall_form.ensures.shape c.requires.accepted)
 
 pub of-requires-clause-buffers : goal.of-requires-clause-buffers
 of-requires-clause-buffers c =
     let many = ap length c.buffers.ensures.value in
-    let fine = (fine-shape c.args.shape.now c.keeps_form.ensures.shape).held_buffers in
+    let fine = (fine-shape c.args.shape.now c.recall_form.ensures.shape).held_buffers in
     let held = ap (λ (h : HeldCells). h.buffers) c.requires.held in
     omega (arith, many, fine, held)
 

@@ -8,7 +8,7 @@ use Rattle.schedule_compiler.proofs.compiling.shape_job.Goals as goal
 pub new-requires : goal.new-requires
 new-requires c =
     subst (λ (s : ScheduleOf). AreInputsFor s c.args.inputs) (sym c.requires.schedule)
-    (shape-inputs c.args.shape.now c.args.inputs c.keeps_form.ensures.shape c.requires.inputs)
+    (shape-inputs c.args.shape.now c.args.inputs c.recall_form.ensures.shape c.requires.inputs)
 
 pub returns : goal.returns
 returns c =

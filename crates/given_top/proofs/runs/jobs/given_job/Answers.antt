@@ -12,7 +12,7 @@ use Rattle.given_top.proofs.runs.jobs.given_job.Goals as goal
 
 pub results_of-requires : goal.results_of-requires
 results_of-requires c =
-    within c.args.plan c.args.shape.now c.args.done.now c.args.marks.now c.requires.flawless c.keeps_form.ensures.shape
+    within c.args.plan c.args.shape.now c.args.done.now c.args.marks.now c.requires.flawless c.recall_form.ensures.shape
 
 pub of-requires-clause-can : goal.of-requires-clause-can
 of-requires-clause-can c =
@@ -20,7 +20,7 @@ of-requires-clause-can c =
     let o = c.args.shape.now in
     let said = c.args.done.now in
     let ms = c.args.marks.now in
-    let inside = within p o said ms c.requires.flawless c.keeps_form.ensures.shape in
+    let inside = within p o said ms c.requires.flawless c.recall_form.ensures.shape in
     let can = c.flawless_plans_can_run.ensures.can_run p o said ms (results_of o ms) c.requires.flawless c.requires.at_most
     (are_named p o said ms c.requires.flawless inside) in
     subst (λ (h : HeldCells). CanRun (scheduled p h c.input_count-count.result)) (sym c.in_ok-held.ensures)

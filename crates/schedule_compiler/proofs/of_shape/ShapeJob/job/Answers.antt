@@ -10,7 +10,7 @@ pub returns-clause-value : goal.returns-clause-value
 returns-clause-value c = c.self.invariant.made ∙ ap (λ (j : ShapeJobOf). job_of j.shape j.inputs) c.self.view_is
 
 pub returns-clause-formed : goal.returns-clause-formed
-returns-clause-formed c = subst (λ (j : ShapeJobOf). IsWellFormed j.shape) c.self.view_is c.keeps_form.ensures.shape
+returns-clause-formed c = subst (λ (j : ShapeJobOf). IsWellFormed j.shape) c.self.view_is c.recall_form.ensures.shape
 
 pub returns-clause-accepted : goal.returns-clause-accepted
 returns-clause-accepted c = subst (λ (j : ShapeJobOf). refusal j.shape ≡ None) c.self.view_is c.self.invariant.accepted

@@ -18,7 +18,7 @@ overflow_cast-first c =
     let o = c.args.shape.now in
     let n = c.input_count-b-end.ensures.value in
     let t = c.loop-b-test.true in
-    let f = (at_most-inputs o c.keeps_form.ensures.shape.shape c.loop-b.b (let z : c.loop-b.b ≤ o.inputs = omega (arith, n, t) in z)).1 in
+    let f = (at_most-inputs o c.recall_form.ensures.shape.shape c.loop-b.b (let z : c.loop-b.b ≤ o.inputs = omega (arith, n, t) in z)).1 in
     let e = ap length c.cells.ensures ∙ ap (λ (d : Drawing). length d.plan.cells) c.loop-b.invariant in
     omega (arith, f, e)
 
@@ -28,9 +28,9 @@ draw_inputs-requires-clause-room c =
     let n = c.input_count-b-end.ensures.value in
     let t = c.loop-b-test.true in
     let P : Plan → Buffer → ℕ → Type 0 = λ p x r. HasRoom p (map (input_cell x) (from_to 0 r)) in
-    let room = room-input o c.keeps_form.ensures.shape.shape c.loop-b.b (let z : c.loop-b.b ≤ o.inputs = omega (arith, n, t) in z) in
+    let room = room-input o c.recall_form.ensures.shape.shape c.loop-b.b (let z : c.loop-b.b ≤ o.inputs = omega (arith, n, t) in z) in
     let x : buffer_at o c.loop-b.b ≡ c.index-buffers-b.result = the-buffer o c.loop-b.b c.buffers.result.now c.index-buffers-b.result
-    c.buffers.ensures.value (let i = c.keeps_form.ensures.shape.shape.few_inputs in let z : c.loop-b.b < length o.buffers =
+    c.buffers.ensures.value (let i = c.recall_form.ensures.shape.shape.few_inputs in let z : c.loop-b.b < length o.buffers =
     omega (arith, n, t, i) in z)
     c.index-buffers-b.is in
     subst (λ p. P p c.index-buffers-b.result c.ranks-ranks.result) (sym (ap (λ (d : Drawing). d.plan) c.loop-b.invariant))
@@ -41,7 +41,7 @@ pub hold_inputs-requires-clause-ranks : goal.hold_inputs-requires-clause-ranks
 hold_inputs-requires-clause-ranks c =
     let o = c.args.shape.now in
     let e = ap (λ (d : Drawing). d.held.ranks) c.loop-b.invariant in
-    let t = (tables-inputs o c.keeps_form.ensures.shape.shape.few_ranks c.loop-b.b).ranks in
+    let t = (tables-inputs o c.recall_form.ensures.shape.shape.few_ranks c.loop-b.b).ranks in
     let r = c.ranks-ranks.ensures.value in
     omega (arith, e, t, r)
 
@@ -49,10 +49,10 @@ pub hold_inputs-requires-clause-buffer : goal.hold_inputs-requires-clause-buffer
 hold_inputs-requires-clause-buffer c =
     let o = c.args.shape.now in
     let e = ap (λ (d : Drawing). d.held.buffers) c.loop-b.invariant in
-    let t = (tables-inputs o c.keeps_form.ensures.shape.shape.few_ranks c.loop-b.b).buffers in
+    let t = (tables-inputs o c.recall_form.ensures.shape.shape.few_ranks c.loop-b.b).buffers in
     let n = c.input_count-b-end.ensures.value in
     let l = c.loop-b-test.true in
-    let i = c.keeps_form.ensures.shape.shape.few_inputs in
+    let i = c.recall_form.ensures.shape.shape.few_inputs in
     omega (arith, e, t, n, l, i)
 
 pub hold_inputs-requires-clause-at_most : goal.hold_inputs-requires-clause-at_most
@@ -60,10 +60,10 @@ hold_inputs-requires-clause-at_most c =
     let o = c.args.shape.now in
     let n = c.input_count-b-end.ensures.value in
     let t = c.loop-b-test.true in
-    let f = (at_most-inputs o c.keeps_form.ensures.shape.shape c.loop-b.b (let z : c.loop-b.b ≤ o.inputs = omega (arith, n, t) in z)).1 in
+    let f = (at_most-inputs o c.recall_form.ensures.shape.shape c.loop-b.b (let z : c.loop-b.b ≤ o.inputs = omega (arith, n, t) in z)).1 in
     let e = ap length c.cells.ensures ∙ ap (λ (d : Drawing). length d.plan.cells) c.loop-b.invariant in
     let r = c.ranks-ranks.ensures.value in
-    let q = c.keeps_form.ensures.shape.shape.few_ranks in
+    let q = c.recall_form.ensures.shape.shape.few_ranks in
     omega (arith, f, e, r, q)
 
 pub loop-b-preserved : goal.loop-b-preserved
@@ -74,7 +74,7 @@ loop-b-preserved c =
     let i = c.loop-b.invariant in
     let n = c.input_count-b-end.ensures.value in
     let t = c.loop-b-test.true in
-    let u = c.keeps_form.ensures.shape.shape.few_inputs in
+    let u = c.recall_form.ensures.shape.shape.few_inputs in
     let below : b < length o.buffers = omega (arith, n, t, u) in
     let x : buffer_at o b ≡ c.index-buffers-b.result =
     the-buffer o b c.buffers.result.now c.index-buffers-b.result c.buffers.ensures.value below c.index-buffers-b.is in

@@ -20,7 +20,7 @@ add_step-requires-clause-begun c =
     let t : step_at o k ≡ get_or c.steps-in-loop-k.result.now k Barrier =
     ap (λ xs. get_or xs k Barrier) (sym c.steps-in-loop-k.ensures.value) in
     as-drawn (λ d s g. IsBegun o d s g) (sym c.loop-k.invariant) t (sym c.group.ensures.value)
-    (begun-step o c.keeps_form.ensures.shape.shape c.requires.steps c.requires.at_most k (let z : k < length o.steps =
+    (begun-step o c.recall_form.ensures.shape.shape c.requires.steps c.requires.at_most k (let z : k < length o.steps =
     omega (arith, n, l) in z))
 
 pub add_step-requires-clause-room : goal.add_step-requires-clause-room
@@ -32,7 +32,7 @@ add_step-requires-clause-room c =
     let t : step_at o k ≡ get_or c.steps-in-loop-k.result.now k Barrier =
     ap (λ xs. get_or xs k Barrier) (sym c.steps-in-loop-k.ensures.value) in
     as-drawn (λ d s g. HasRoom d.plan (cells_of (site o d s g) s)) (sym c.loop-k.invariant) t (sym c.group.ensures.value)
-    (room-step o c.keeps_form.ensures.shape.shape c.requires.steps c.requires.at_most k (let z : k < length o.steps =
+    (room-step o c.recall_form.ensures.shape.shape c.requires.steps c.requires.at_most k (let z : k < length o.steps =
     omega (arith, n, l) in z))
 
 pub loop-k-preserved : goal.loop-k-preserved

@@ -11,7 +11,7 @@ pub index-requires : goal.index-requires
 index-requires c =
     let s = c.self.inside in
     let h = subst (λ (v : PrintsOf). c.args.buffer < length v.shape.buffers) (sym c.self.view_is) c.requires in
-    let many = as-many s.shape s.rank s.places.items c.keeps_form.ensures.shape c.self.invariant in
+    let many = as-many s.shape s.rank s.places.items c.recall_form.ensures.shape c.self.invariant in
     let ok = s.places.ok.0 in
     omega (arith, h, many, ok)
 
@@ -19,23 +19,23 @@ pub returns-in-Some : goal.returns-in-Some
 returns-in-Some c =
     let s = c.self.inside in
     let h = subst (λ (v : PrintsOf). c.args.buffer < length v.shape.buffers) (sym c.self.view_is) c.requires in
-    let many = as-many s.shape s.rank s.places.items c.keeps_form.ensures.shape c.self.invariant in
+    let many = as-many s.shape s.rank s.places.items c.recall_form.ensures.shape c.self.invariant in
     let inside : c.args.buffer < length s.places.items = omega (arith, h, many) in
     let read : get_or s.places.items c.args.buffer None ≡ Some c.in-Some.place =
     sym (get_or_read s.places.items c.args.buffer c.index.result.now inside c.index.ensures None) ∙ c.in-Some.is in
     c.part_of.ensures
     ∙ ap (λ x. part_at x c.args.memory.now) (sym read)
-    ∙ list-is s.shape s.rank s.places.items c.args.memory.now c.args.buffer c.keeps_form.ensures.shape c.self.invariant h
+    ∙ list-is s.shape s.rank s.places.items c.args.memory.now c.args.buffer c.recall_form.ensures.shape c.self.invariant h
     ∙ ap (λ (v : PrintsOf). result_in (plan_of v.shape) (drawing_of v.shape).held c.args.buffer v.rank c.args.memory.now) c.self.view_is
 
 pub returns-in-None : goal.returns-in-None
 returns-in-None c =
     let s = c.self.inside in
     let h = subst (λ (v : PrintsOf). c.args.buffer < length v.shape.buffers) (sym c.self.view_is) c.requires in
-    let many = as-many s.shape s.rank s.places.items c.keeps_form.ensures.shape c.self.invariant in
+    let many = as-many s.shape s.rank s.places.items c.recall_form.ensures.shape c.self.invariant in
     let inside : c.args.buffer < length s.places.items = omega (arith, h, many) in
     let read : get_or s.places.items c.args.buffer None ≡ None =
     sym (get_or_read s.places.items c.args.buffer c.index.result.now inside c.index.ensures None) ∙ c.in-None.is in
     ap (λ x. part_at x c.args.memory.now) (sym read)
-    ∙ list-is s.shape s.rank s.places.items c.args.memory.now c.args.buffer c.keeps_form.ensures.shape c.self.invariant h
+    ∙ list-is s.shape s.rank s.places.items c.args.memory.now c.args.buffer c.recall_form.ensures.shape c.self.invariant h
     ∙ ap (λ (v : PrintsOf). result_in (plan_of v.shape) (drawing_of v.shape).held c.args.buffer v.rank c.args.memory.now) c.self.view_is
