@@ -1,5 +1,5 @@
-//! What no clause of the engines, of the lists below them and of waiting operations says: calls with ample memory and their answers
-//! by hand. Here, so that those crates are proved once and not a second time with their tests.
+//! Tests of the parts of an interface, each part alone, and of the engines over them: what no clause says, that calls succeed with ample
+//! memory, and their answers by hand. Here, so that those crates are proved once and not a second time with their tests.
 #![tactic(auto)]
 
 #[cfg(test)]
@@ -10,6 +10,8 @@ mod chains;
 mod initiator;
 #[cfg(test)]
 mod lists;
+#[cfg(test)]
+mod parts;
 #[cfg(test)]
 mod pending;
 #[cfg(test)]

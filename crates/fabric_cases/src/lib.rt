@@ -1,4 +1,5 @@
-//! Fabrics of worked texts: scripts whose calls are made by one caller, and workers on threads, with gates that watch them.
+//! Wires and turns between threads, messages as bytes and shared calls, each alone; and fabrics of worked texts: scripts whose calls are
+//! made by one caller, and workers on threads, with gates that watch them.
 #![tactic(auto)]
 
 #[cfg(test)]
@@ -17,3 +18,5 @@ mod scripts;
 mod threads;
 #[cfg(test)]
 mod waves;
+#[cfg(test)]
+mod wires;

@@ -1,6 +1,6 @@
 //! What no clause of the language's crates says: words, values and lines whose readings were found by hand; whole texts and whole JSON
-//! values with their answers, from outside; the generated description; texts with orders; notes of what is wrong; sources and sinks.
-//! Here, so that those crates are proved once and not a second time with their tests.
+//! values with their answers, from outside; texts with orders; notes of what is wrong; sources and sinks; pictures. Here, so that those
+//! crates are proved once and not a second time with their tests.
 #![tactic(auto)]
 
 #[cfg(test)]
@@ -13,6 +13,8 @@ mod generated;
 mod json;
 #[cfg(test)]
 mod json_places;
+#[cfg(test)]
+mod language;
 #[cfg(test)]
 mod note_lines;
 #[cfg(test)]

@@ -1,6 +1,7 @@
 //! What is read, and where a text is refused.
 
-use crate::pictures::answers::{gives, is_fault};
+use crate::answers::gives;
+use crate::pictures::answers::is_fault;
 use plan_pictures::lines::{OrderText, PlanText, Refusal, TextFault, read_orders, read_plan};
 use ptl_types::{AtomicOp, ElemType, Lane, LocalStep};
 use std::process::Abort;
