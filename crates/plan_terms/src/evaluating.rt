@@ -108,7 +108,7 @@ fn put_places(
     requires comes { All (ComesTo next.plan.now next.number) links.now }
     requires links { links.now ≡ in_links next.plan.now next.number }
     ensures keeps { Keeps terms.old terms.new }
-    ensures is { IfOk result (λ v. IsNext next.plan.now next.count terms.new next.number next.before.now v) }
+    ensures is { IfOk result (λ v. IsNext next.entry.plan.now next.entry.count terms.new next.entry.number next.entry.before.now v) }
 {
     let mut places = first_places(terms, alloc, next.plan, next.count, next.number, target)?;
     land_all(&mut places, next.plan, next.before, next.number, links)?;
@@ -129,7 +129,7 @@ fn folded_places(
     requires comes { All (ComesTo next.plan.now next.number) links.now }
     requires links { links.now ≡ in_links next.plan.now next.number }
     ensures keeps { Keeps terms.old terms.new }
-    ensures is { IfOk result (λ v. IsNext next.plan.now next.count terms.new next.number next.before.now v) }
+    ensures is { IfOk result (λ v. IsNext next.entry.plan.now next.entry.count terms.new next.entry.number next.entry.before.now v) }
 {
     let cell = cell_at(next.plan, next.number);
     let size = cell.ty.size();
@@ -154,7 +154,7 @@ fn next_places(
     requires comes { All (ComesTo next.plan.now next.number) links.now }
     requires links { links.now ≡ in_links next.plan.now next.number }
     ensures keeps { Keeps terms.old terms.new }
-    ensures is { IfOk result (λ v. IsNext next.plan.now next.count terms.new next.number next.before.now v) }
+    ensures is { IfOk result (λ v. IsNext next.entry.plan.now next.entry.count terms.new next.entry.number next.entry.before.now v) }
 {
     let cell = cell_at(next.plan, next.number);
     match cell.op {

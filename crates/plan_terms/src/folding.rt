@@ -134,9 +134,9 @@ pub(crate) fn land_atomics(
     requires links { All (ComesTo next.plan.now next.number) links.now }
     ensures keeps { Keeps terms.old terms.new }
     ensures landed { OnOk result ((inputs : Lists) (V : ℕ → ℕ) → IsSolution terms.new inputs V →
-        folds_bytes V op (cell next.plan.now next.number).ty folds.new ≡
-        land_all next.plan.now (carried_from next.plan.now (map (map V) next.before.now)) links.now
-        (folds_bytes V op (cell next.plan.now next.number).ty folds.old)) }
+        folds_bytes V op (cell next.entry.plan.now next.entry.number).ty folds.new ≡
+        land_all next.entry.plan.now (carried_from next.entry.plan.now (map (map V) next.entry.before.now)) links.now
+        (folds_bytes V op (cell next.entry.plan.now next.entry.number).ty folds.old)) }
 {
     let cell = cell_at(next.plan, next.number);
     let target = FoldedCell { cell, op };

@@ -92,7 +92,7 @@ fn next_value(
     requires before { before.now ≡ values given.plan.now given.inputs.now c }
     requires many { length before.now ≡ c }
     requires links { links.now ≡ in_links given.plan.now c }
-    ensures { IfOk result (λ bytes. bytes ≡ next_value given.plan.now given.inputs.now before.now c) }
+    ensures { IfOk result (λ bytes. bytes ≡ next_value given.entry.plan.now given.entry.inputs.now before.now c) }
 {
     let mut bytes = first_bytes(alloc, given.plan, given.inputs, given.count, c)?;
     land_all(&mut bytes, given.plan, before, c, links);
