@@ -10,8 +10,7 @@ use Rattle.number_lists.specs.Numbers.{from_to}
 use Rattle.coll_shape.specs.Collectives.{is_in}
 use Rattle.coll_shape.specs.Outline.{Outline, group_at, step_at}
 use Rattle.coll_shape.specs.declared.types.CollStep.{CollStep}
-use Rattle.coll_shape.specs.declared.types.CollStep.TheVariants.{Barrier, Broadcast, Reduce, Allreduce, Gather, Allgather, Alltoall, Scan}
-use Rattle.coll_shape.specs.declared.types.CollStep.TheVariants.{Scatter, Reducescatter, Exscan, Gatherv}
+use Rattle.coll_shape.specs.declared.types.CollStep.TheVariants.{Barrier}
 use Rattle.coll_shape.specs.WellFormed.{IsWellFormed}
 use Rattle.cuts.proofs.orders.Choosing.{In-flat_cases}
 use Rattle.given_lines.specs.declared.given.Mark.{Mark}
@@ -177,17 +176,7 @@ distinct_row s first g =
 
 distinct_of_barrier : (t : CollStep) (ms : List Mark) → Distinct ms → Distinct (of_barrier t ms)
 distinct_of_barrier Barrier ms d = d
-distinct_of_barrier (Broadcast root a b) ms d = tt
-distinct_of_barrier (Reduce root p a b) ms d = tt
-distinct_of_barrier (Allreduce p a b) ms d = tt
-distinct_of_barrier (Gather root a b) ms d = tt
-distinct_of_barrier (Allgather a b) ms d = tt
-distinct_of_barrier (Alltoall a b) ms d = tt
-distinct_of_barrier (Scan p a b) ms d = tt
-distinct_of_barrier (Scatter root a b) ms d = tt
-distinct_of_barrier (Reducescatter p a b) ms d = tt
-distinct_of_barrier (Exscan p a b) ms d = tt
-distinct_of_barrier (Gatherv root a b) ms d = tt
+distinct_of_barrier _ ms d = tt
 
 distinct_barriers : (o : Outline) → Distinct (barrier_marks o)
 distinct_barriers o =

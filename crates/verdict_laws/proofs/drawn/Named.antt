@@ -9,8 +9,7 @@ use Rattle.number_lists.specs.Numbers.{from_to}
 use Rattle.coll_shape.specs.Collectives.{is_in}
 use Rattle.coll_shape.specs.Outline.{Outline, group_at, step_at}
 use Rattle.coll_shape.specs.declared.types.CollStep.{CollStep}
-use Rattle.coll_shape.specs.declared.types.CollStep.TheVariants.{Barrier, Broadcast, Reduce, Allreduce, Gather, Allgather, Alltoall, Scan}
-use Rattle.coll_shape.specs.declared.types.CollStep.TheVariants.{Scatter, Reducescatter, Exscan, Gatherv}
+use Rattle.coll_shape.specs.declared.types.CollStep.TheVariants.{Barrier}
 use Rattle.cuts.proofs.orders.Choosing.{In-flat, In-flat_cases}
 use Rattle.given_lines.specs.declared.given.Mark.{Mark}
 use Rattle.given_lines.specs.declared.given.Mark.TheVariants as marks
@@ -84,17 +83,7 @@ of_member o s i place m (inr (inr none)) = absurd none
 -- a step with lines is a barrier
 pub of_barrier_only : (t : CollStep) (ms : List Mark) (m : Mark) → In m (of_barrier t ms) → (t ≡ Barrier) × In m ms
 of_barrier_only Barrier ms m h = (refl, h)
-of_barrier_only (Broadcast root a b) ms m h = absurd h
-of_barrier_only (Reduce root p a b) ms m h = absurd h
-of_barrier_only (Allreduce p a b) ms m h = absurd h
-of_barrier_only (Gather root a b) ms m h = absurd h
-of_barrier_only (Allgather a b) ms m h = absurd h
-of_barrier_only (Alltoall a b) ms m h = absurd h
-of_barrier_only (Scan p a b) ms m h = absurd h
-of_barrier_only (Scatter root a b) ms m h = absurd h
-of_barrier_only (Reducescatter p a b) ms m h = absurd h
-of_barrier_only (Exscan p a b) ms m h = absurd h
-of_barrier_only (Gatherv root a b) ms m h = absurd h
+of_barrier_only _ ms m h = absurd h
 
 of_step : (o : Outline) (s : ℕ) → s < length o.steps → (m : Mark) → In m (step_marks o s) → IsOf o m
 of_step o s low m h =
