@@ -1,6 +1,6 @@
 -- Messages in the form that C has them: a header of numbers, and bytes beside it.
-use Rattle.std.specs.Prelude.{ℕ, ◌≡◌, ◌==◌, ◌-◌, ◌≤◌, ◌<◌, ◌%◌, ◌++◌, Bool, true, false, List, Option, Some, None, Result, Ok, Err, is_some}
-use Rattle.std.specs.Prelude.{IsTrue, length, take, drop, nat_lt}
+use Rattle.std.specs.Prelude.{ℕ, ◌≡◌, ◌==◌, ◌-◌, ◌%◌, ◌++◌, Bool, true, false, List, Option, Some, None, Result, Ok, Err, is_some}
+use Rattle.std.specs.Prelude.{IsTrue, length, take, drop}
 use Rattle.std.specs.Prelude.{if◌then◌else◌}
 use Rattle.ptl_types.specs.declared.elements.ElemType.{ElemType}
 use Rattle.ptl_types.specs.declared.elements.ElemType.TheVariants.{U8, I8, U16, I16, U32, I32, U64, I64}

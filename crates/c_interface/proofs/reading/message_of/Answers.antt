@@ -1,5 +1,5 @@
 -- By what the header is, and whether the bytes go with it.
-use Rattle.std.proofs.Common.{Ok, Result, ap, refl, subst, sym, ◌∙◌}
+use Rattle.std.proofs.Common.{Ok, ap, refl, subst, sym, ◌∙◌}
 use Rattle.ptl_types.specs.declared.bytes.Bytes.{Bytes}
 use Rattle.ptl_types.specs.Messages.{Sent, message}
 use Rattle.c_interface.specs.Messages.{Reads, header_of}

@@ -1,5 +1,5 @@
 -- What the interface answered is written out, and it is as before.
-use Rattle.std.proofs.Common.{ap, ◌∙◌, Some, refl, sym}
+use Rattle.std.proofs.Common.{ap, ◌∙◌, Some, sym}
 use Rattle.c_interface.specs.Calls.{ReadyAt}
 use Rattle.c_interface.specs.Forms.{one_number}
 use Rattle.c_interface.specs.Statuses.{misuse_number}
