@@ -6,6 +6,6 @@ use Rattle.plan_terms.proofs.folding.land_atomics.Given as goal
 abbrev pub invariant-loop-l : goal.invariant-loop-l
 invariant-loop-l l = record {
   keeps : Keeps l.initial.terms l.terms;
-  landed : AreLandedTo l.terms l.next.plan.now l.op l.next.number l.next.before.now l.links (drop l.l-index l.links) l.initial.folds
+  landed : AreLandedTo l.terms l.next.plan.now l.fn.op l.next.number l.next.before.now l.links (drop l.l-index l.links) l.initial.folds
       l.folds;
 }
