@@ -3,6 +3,7 @@
 ghost use Rattle.std.specs.Prelude.{◌≡◌, ◌<◌, ◌+◌, ◌-◌, ◌^◌, [], IfOk, get_or, length};
 ghost use Rattle.ptl_types.specs.Operations.{bytes_of};
 ghost use Rattle.coll_shape.specs.Outline.{buffer_at};
+ghost use Rattle.mark_judge.specs.Due.{mark_at};
 ghost use Rattle.given_verdicts.specs.Answers.{at_line, first_wrong, unlike, wrong_list};
 ghost use Rattle.given_verdicts.specs.Differences.{difference_from};
 
@@ -92,6 +93,22 @@ fn wrong_list(
     }
 }
 
+/// What is wrong with what the cell of a mark holds, if it is that of a result.
+fn wrong_mark(
+    alloc: Global,
+    shape: &Shape,
+    given: &GivenPlan,
+    values: &CellValues,
+    meant: &Buffers,
+    mark: u32,
+) -> Result<Option<GivenCause>, AllocError>
+    requires mark { mark < length given.now.marks }
+    ensures { IfOk result (λ cause. cause ≡ wrong_list shape.now values.now meant.now (mark_at given.now.marks mark)) }
+{
+    let marks = given.marks();
+    wrong_list(alloc, shape, values, meant, marks[mark as usize])
+}
+
 /// What is wrong with the result that a mark names, with the mark's line in a text whose plan begins at the line `first`.
 fn at_line(
     first: u32,
@@ -129,7 +146,7 @@ pub(crate) fn first_wrong(
 {
     let count = given.marks().len() as u32;
     for mark in 0..count {
-        let cause = wrong_list(alloc, shape, values, meant, given.marks()[mark as usize])?;
+        let cause = wrong_mark(alloc, shape, given, values, meant, mark)?;
         let wrong = at_line(first, given, mark, cause);
         if wrong.is_some() {
             return Ok(wrong);
