@@ -4,7 +4,7 @@ use Rattle.given_verdicts.specs.declared.answer.Judged.TheVariants.{Flawless}
 use Rattle.given_verdicts.specs.Answers.{judged_text}
 use Rattle.verdict_laws.proofs.Holding.{IsOfFlawless, IsTold, text_told}
 use Rattle.verdict_laws.proofs.Links.{few_links}
-use Rattle.given_top.proofs.Runs.{no_memory}
+use Rattle.given_top.proofs.ReadTexts.{no_memory}
 use Rattle.given_top.proofs.running.run_text.Goals as goal
 
 -- so few links are read

@@ -1,6 +1,6 @@
 use Rattle.run_text.proofs.Told.{told-read}
 use Rattle.given_verdicts.specs.declared.judging.TheConstants.{LONGEST_GIVEN}
-use Rattle.given_top.proofs.Runs.{answered_read, failed, without_memory}
+use Rattle.given_top.proofs.ReadTexts.{answered_read, failed, without_memory}
 use Rattle.given_top.proofs.top.read_and_run.Goals as goal
 
 pub returns-in-Ok : goal.returns-in-Ok
