@@ -5,7 +5,7 @@ from plans import Plan, words
 
 ranks, wrong = words()
 plan = Plan(ranks, "u32", 2 * ranks)
-block = 8
+block = plan.length // ranks
 own = [[plan.copy(plan.input[r], block, s * block) for s in range(ranks)] for r in range(ranks)]
 
 # partial[r]: what rank r has of block r - step, from all ranks that it has passed

@@ -6,7 +6,7 @@ from plans import Plan, words
 
 ranks, wrong = words()
 plan = Plan(ranks, "u8", 2 * ranks)
-block = 2
+block = plan.length // ranks
 
 held = [[plan.copy(plan.input[r], block, (r + d) % ranks * block) for d in range(ranks)] for r in range(ranks)]
 bit = 1

@@ -8,11 +8,15 @@ WIDTH = {"u8": 1, "i8": 1, "u16": 2, "i16": 2, "u32": 4, "i32": 4, "u64": 8, "i6
 
 
 class Plan:
-    """The plan of a description with one input of `count` elements a rank: `go[r]` are the go cells, `input[r]` those of the input."""
+    """The plan of a description with one input of `count` elements a rank: `go[r]` are the go cells, `input[r]` those of the input.
+    Where the command line has a number of bytes, the input has so many, as u64."""
 
     def __init__(self, ranks, kind, count):
+        if asked:
+            kind, count = "u64", asked // 8
         self.ranks, self.kind, self.count = ranks, kind, count
         self.cells, self.links, self.marks = [], [], []
+        self.turned = False
         self.length = count * WIDTH[kind]
         self.go = [self.cell(r, 0, "u8") for r in range(ranks)]
         self.input = [self.cell(r, self.length) for r in range(ranks)]
@@ -51,13 +55,17 @@ class Plan:
     def leave(self, step, rank, cell):
         self.marks.append(f"leave {step} {rank} {cell}")
 
+    def keep_order(self):
+        """Links are numbered as they were made, not by their target: of messages that are ready at once the lower number is sent first."""
+        self.turned = True
+
     def lines(self, needs):
         done = [0] * self.ranks
         yield f"plan {self.ranks} {len(self.cells)} {len(self.links)} local"
         for number, (rank, kind, op, length) in enumerate(self.cells):
             done[rank] += 1
             yield f"cell {number} {rank} {kind} {op} {length} {needs[number]}"
-        for number, (target, source, start, length, to, what) in enumerate(sorted(self.links, key=lambda link: link[0])):
+        for number, (target, source, start, length, to, what) in enumerate(self.links if self.turned else sorted(self.links, key=lambda link: link[0])):
             yield f"link {number} {source} {start} {length} {target} {to} {what}"
         for rank in range(self.ranks):
             yield f"done {rank} {done[rank]}"
@@ -73,14 +81,17 @@ class Plan:
             needs[rank] = 1
         if fewer is not None:
             needs[fewer] -= 1
-        print(f"coll 1\nranks {self.ranks}\ninput a {self.kind} {self.count}")
+        print(f"coll 2\nranks {self.ranks}\ninput a {self.kind} {self.count}")
         for rank in range(self.ranks):
-            print(*((rank * 37 + place * 11 + 5) % 100 for place in range(self.count)))
+            print(*((rank * 37 + place * 11 + 5) % (10 if asked else 100) for place in range(self.count)))
         print(*steps, "end", *self.lines(needs), sep="\n")
 
 
+asked = int(sys.argv[2]) if len(sys.argv) == 3 and sys.argv[2].isdigit() else 0
+
+
 def words():
-    """The number of ranks, and whether the wrong twin is asked for: `PROGRAM RANKS [wrong]`."""
-    if len(sys.argv) not in (2, 3) or not sys.argv[1].isdigit() or sys.argv[2:] not in ([], ["wrong"]):
-        sys.exit(f"usage: {sys.argv[0]} RANKS [wrong]")
-    return int(sys.argv[1]), len(sys.argv) == 3
+    """The number of ranks, and whether the wrong twin is asked for: `PROGRAM RANKS [wrong|BYTES]`."""
+    if len(sys.argv) not in (2, 3) or not sys.argv[1].isdigit() or not (sys.argv[2:] in ([], ["wrong"]) or asked):
+        sys.exit(f"usage: {sys.argv[0]} RANKS [wrong|BYTES]")
+    return int(sys.argv[1]), sys.argv[2:] == ["wrong"]
