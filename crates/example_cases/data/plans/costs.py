@@ -50,7 +50,8 @@ def times(ranks, cells, links, numbers):
 
 
 def read(text):
-    """The ranks, cells and links of a plan's text."""
+    """The ranks, cells and links of a plan's text, which may come after a description."""
+    text = "\n" + text
     lines = [line.split(" ") for line in text[text.index("\nplan ") + 1:].splitlines()]
     cells = [int(words[2]) for words in lines if words[0] == "cell"]
     links = [(int(words[2]), int(words[5]), int(words[4]), words[7] == "atomic") for words in lines if words[0] == "link"]

@@ -1,0 +1,10 @@
+pub mod Order
+pub mod Ports
+pub mod Sums
+pub mod Counting
+pub mod Sending
+pub mod Taking
+pub mod Ends
+pub mod Opening
+pub mod Steps
+pub mod RankTimes

@@ -1,0 +1,6 @@
+pub mod Soonest
+pub mod Times
+pub mod Events
+pub mod State
+pub mod Answers
+pub mod Ranks
