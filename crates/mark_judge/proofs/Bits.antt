@@ -1,20 +1,21 @@
 -- Words of bits: which entries lie in a cell, and which lead to it.
-use Rattle.std.proofs.Common.{ℕ, Bool, ◌&&◌, ◌||◌, ◌≡◌, ◌+◌, ◌*◌, ◌%◌, ◌^◌, ◌<◌, ◌≤◌, ◌==◌, List}
-use Rattle.std.proofs.Common.{[], ◌∷◌, ◌++◌, ap, ap₂, ◌∙◌, sym, length, get_or, set, ltb, max, inl, inr, arith}
-use Rattle.std.specs.Int.{bit_at, w64}
+use Rattle.std.proofs.Common.{ℕ, Bool, true, false, cond, ◌&&◌, ◌||◌, ◌≡◌, ◌+◌, ◌-◌, ◌*◌, ◌%◌, ◌^◌, ◌<◌, ◌≤◌, ◌==◌, nat_lt, List}
+use Rattle.std.proofs.Common.{[], ◌∷◌, ◌++◌, ap, ap₂, ◌∙◌, sym, length, get_or, set, ltb, max, inl, inr, refl, arith}
+use Rattle.std.specs.Int.{bit_at, w128}
 use Rattle.std.specs.Int.RustNames.{bit_or}
 use Rattle.std.specs.List.{list_any}
-use Rattle.std.proofs.lemmas.Bool.{cases_eq, cases_lt, eq-eqb, le-ltb, lt-ltb, ne_eqb, or_left, or_right}
+use Rattle.std.proofs.lemmas.Bool.{cases_eq, cases_lt, eq-eqb, le-ltb, lt-ltb, ltb-false, ltb-true, ne_eqb, or_left, or_right}
 use Rattle.std.proofs.lemmas.List.{get_or-set_other, get_or-set_same, get_or_append_left, get_or_push}
 use Rattle.std.proofs.lemmas.Nat.Bits.{bit_at-lt, bit_at_or, bit_at_set_other, bit_at_set_same}
+use Rattle.mark_judge.specs.declared.entry_bits.Bits.{Bits}
 use Rattle.mark_judge.specs.declared.entries.Entry.{Entry}
 use Rattle.mark_judge.specs.Leading.{leads}
-use Rattle.mark_judge.specs.Tables.{AreBegun, entry_at, has_bit}
+use Rattle.mark_judge.specs.Tables.{AreBegun, entry_at, has_bit, no_bits}
 use Rattle.mark_judge.proofs.Chains.{Rising, from_below, leads_step}
 use Rattle.mark_judge.proofs.Tests.{and-false, and-true, any_same, or-false, or_assoc}
 use Rattle.plan_core.specs.Plan.{Plan, in_links, link}
 
--- ---- bits of a word
+-- ---- bits of a number
 most_one : (x y : ℕ) → x < 2 → y < 2 → (max x y == 1) ≡ ((x == 1) || (y == 1))
 most_one x y h k =
     elim (cases_eq x 1) [
@@ -23,48 +24,91 @@ most_one x y h k =
           ∙ sym (ap (λ t. t || (y == 1)) (ne_eqb x 1 ne))
     ]
 
-pub bits_joined : (a b j : ℕ) → has_bit (bit_or a b) j ≡ (has_bit a j || has_bit b j)
-bits_joined a b j = ap (λ v. v == 1) (bit_at_or a b j) ∙ most_one (bit_at a j) (bit_at b j) (bit_at-lt a j) (bit_at-lt b j)
+number_joined : (a b j : ℕ) → (bit_at (bit_or a b) j == 1) ≡ ((bit_at a j == 1) || (bit_at b j == 1))
+number_joined a b j = ap (λ v. v == 1) (bit_at_or a b j) ∙ most_one (bit_at a j) (bit_at b j) (bit_at-lt a j) (bit_at-lt b j)
 
-pub bits_with : (a k j : ℕ) → k < 64 → has_bit (bit_or a (1 * 2 ^ k % 2 ^ 64)) j ≡ (has_bit a j || (j == k))
-bits_with a k j h =
+number_with : (a k j : ℕ) → k < 128 → (bit_at (bit_or a (1 * 2 ^ k % 2 ^ 128)) j == 1) ≡ ((bit_at a j == 1) || (j == k))
+number_with a k j h =
     elim (cases_eq j k) [
-      | inl e ↦ ap (λ i. has_bit (bit_or a (1 * 2 ^ k % 2 ^ 64)) i) e
-          ∙ ap (λ v. v == 1) (bit_at_set_same w64 a k h)
-          ∙ sym (or_right (has_bit a j) (j == k) (eq-eqb j k e))
-      | inr ne ↦ ap (λ v. v == 1) (bit_at_set_other w64 a k h j ne)
-          ∙ sym (ap (λ t. has_bit a j || t) (ne_eqb j k ne) ∙ or-false (has_bit a j))
+      | inl e ↦ ap (λ i. bit_at (bit_or a (1 * 2 ^ k % 2 ^ 128)) i == 1) e
+          ∙ ap (λ v. v == 1) (bit_at_set_same w128 a k h)
+          ∙ sym (or_right (bit_at a j == 1) (j == k) (eq-eqb j k e))
+      | inr ne ↦ ap (λ v. v == 1) (bit_at_set_other w128 a k h j ne)
+          ∙ sym (ap (λ t. (bit_at a j == 1) || t) (ne_eqb j k ne) ∙ or-false (bit_at a j == 1))
     ]
+
+-- ---- and of two of them
+both : (t a b c d e f : Bool) → a ≡ (b || c) → d ≡ (e || f) → cond t a d ≡ (cond t b e || cond t c f)
+both true a b c d e f h k = h
+both false a b c d e f h k = k
+
+pub bits_joined : (a b : Bits) (low high j : ℕ) → low ≡ bit_or a.low b.low → high ≡ bit_or a.high b.high
+    → has_bit (record { low = low; high = high }) j ≡ (has_bit a j || has_bit b j)
+bits_joined a b low high j l h =
+    both (nat_lt j 128) (bit_at low j == 1) (bit_at a.low j == 1) (bit_at b.low j == 1)
+    (bit_at high (j - 128) == 1) (bit_at a.high (j - 128) == 1) (bit_at b.high (j - 128) == 1)
+    (ap (λ n. bit_at n j == 1) l ∙ number_joined a.low b.low j)
+    (ap (λ n. bit_at n (j - 128) == 1) h ∙ number_joined a.high b.high (j - 128))
+
+one_part : (t a b c x : Bool) → (t ≡ true → a ≡ (b || x)) → (t ≡ false → x ≡ false) → cond t a c ≡ (cond t b c || x)
+one_part true a b c x h k = h refl
+one_part false a b c x h k = sym (ap (λ y. c || y) (k refl) ∙ or-false c)
+
+other_part : (t a b c x : Bool) → (t ≡ false → a ≡ (b || x)) → (t ≡ true → x ≡ false) → cond t c a ≡ (cond t c b || x)
+other_part true a b c x h k = sym (ap (λ y. c || y) (k refl) ∙ or-false c)
+other_part false a b c x h k = h refl
+
+pub bits_with_low : (a : Bits) (low k j : ℕ) → k < 128 → low ≡ bit_or a.low (1 * 2 ^ k % 2 ^ 128)
+    → has_bit (record { low = low; high = a.high }) j ≡ (has_bit a j || (j == k))
+bits_with_low a low k j h l =
+    one_part (nat_lt j 128) (bit_at low j == 1) (bit_at a.low j == 1) (bit_at a.high (j - 128) == 1) (j == k)
+    (λ t. ap (λ n. bit_at n j == 1) l ∙ number_with a.low k j h)
+    (λ t. let u = ltb-false j 128 t in ne_eqb j k (λ e. absurd (omega (arith, h, u, e))))
+
+pub bits_with_high : (a : Bits) (high k j : ℕ) → 128 ≤ k → k < 256 → high ≡ bit_or a.high (1 * 2 ^ (k - 128) % 2 ^ 128)
+    → has_bit (record { low = a.low; high = high }) j ≡ (has_bit a j || (j == k))
+bits_with_high a high k j h below l =
+    other_part (nat_lt j 128) (bit_at high (j - 128) == 1) (bit_at a.high (j - 128) == 1) (bit_at a.low j == 1) (j == k)
+    (λ t. ap (λ n. bit_at n (j - 128) == 1) l ∙ number_with a.high (k - 128) (j - 128) (omega (arith, h, below))
+    ∙ ap (λ x. (bit_at a.high (j - 128) == 1) || x) (same_place (ltb-false j 128 t)))
+    (λ t. let u = ltb-true j 128 t in ne_eqb j k (λ e. absurd (omega (arith, h, u, e))))
+  where
+    same_place : 128 ≤ j → (j - 128 == k - 128) ≡ (j == k)
+    same_place u =
+        elim (cases_eq j k) [
+          | inl e ↦ ap (λ n. n - 128 == k - 128) e ∙ eq-eqb (k - 128) (k - 128) refl ∙ sym (eq-eqb j k e)
+          | inr ne ↦ ne_eqb (j - 128) (k - 128) (λ e. ne (omega (arith, h, u, e))) ∙ sym (ne_eqb j k ne)
+        ]
 
 -- ---- which entries lie in a cell
 -- entry k is noted at its cell
-pub bits_begun : (words : List ℕ) (cell k v : ℕ) → cell < length words
-    → ((j : ℕ) → has_bit v j ≡ (has_bit (get_or words cell 0) j || (j == k))) → (c j : ℕ)
-    → has_bit (get_or (set words cell v) c 0) j ≡ (has_bit (get_or words c 0) j || ((j == k) && (cell == c)))
+pub bits_begun : (words : List Bits) (cell k : ℕ) (v : Bits) → cell < length words
+    → ((j : ℕ) → has_bit v j ≡ (has_bit (get_or words cell no_bits) j || (j == k))) → (c j : ℕ)
+    → has_bit (get_or (set words cell v) c no_bits) j ≡ (has_bit (get_or words c no_bits) j || ((j == k) && (cell == c)))
 bits_begun words cell k v h is c j =
     elim (cases_eq c cell) [
-      | inl e ↦ ap (λ i. has_bit (get_or (set words cell v) i 0) j) e
-          ∙ ap (λ w. has_bit w j) (get_or-set_same words cell v 0 h)
+      | inl e ↦ ap (λ i. has_bit (get_or (set words cell v) i no_bits) j) e
+          ∙ ap (λ w. has_bit w j) (get_or-set_same words cell v no_bits h)
           ∙ is j
-          ∙ ap (λ i. has_bit (get_or words i 0) j || (j == k)) (sym e)
-          ∙ ap (λ t. has_bit (get_or words c 0) j || t) (sym (ap (λ t. (j == k) && t) (eq-eqb cell c (sym e)) ∙ and-true (j == k)))
-      | inr ne ↦ ap (λ w. has_bit w j) (get_or-set_other words cell c v 0 ne)
-          ∙ sym (ap (λ t. has_bit (get_or words c 0) j || t)
-          (ap (λ t. (j == k) && t) (ne_eqb cell c (λ q. ne (sym q))) ∙ and-false (j == k)) ∙ or-false (has_bit (get_or words c 0) j))
+          ∙ ap (λ i. has_bit (get_or words i no_bits) j || (j == k)) (sym e)
+          ∙ ap (λ t. has_bit (get_or words c no_bits) j || t) (sym (ap (λ t. (j == k) && t) (eq-eqb cell c (sym e)) ∙ and-true (j == k)))
+      | inr ne ↦ ap (λ w. has_bit w j) (get_or-set_other words cell c v no_bits ne)
+          ∙ sym (ap (λ t. has_bit (get_or words c no_bits) j || t)
+          (ap (λ t. (j == k) && t) (ne_eqb cell c (λ q. ne (sym q))) ∙ and-false (j == k)) ∙ or-false (has_bit (get_or words c no_bits) j))
     ]
 
 -- no cell has its number
-pub bits_kept : (words : List ℕ) (cell k : ℕ) → length words ≤ cell → (c j : ℕ) → c < length words
-    → has_bit (get_or words c 0) j ≡ (has_bit (get_or words c 0) j || ((j == k) && (cell == c)))
+pub bits_kept : (words : List Bits) (cell k : ℕ) → length words ≤ cell → (c j : ℕ) → c < length words
+    → has_bit (get_or words c no_bits) j ≡ (has_bit (get_or words c no_bits) j || ((j == k) && (cell == c)))
 bits_kept words cell k h c j low =
-    sym (ap (λ t. has_bit (get_or words c 0) j || t)
+    sym (ap (λ t. has_bit (get_or words c no_bits) j || t)
     (ap (λ t. (j == k) && t) (ne_eqb cell c (λ q. absurd (omega (arith, h, low, q)))) ∙ and-false (j == k))
-    ∙ or-false (has_bit (get_or words c 0) j))
+    ∙ or-false (has_bit (get_or words c no_bits) j))
 
 -- the entries before place k are noted
-abbrev pub AreBegunTo : List Entry → ℕ → ℕ → List ℕ → Type 0
+abbrev pub AreBegunTo : List Entry → ℕ → ℕ → List Bits → Type 0
 AreBegunTo es cells k words =
-    (c j : ℕ) → c < cells → has_bit (get_or words c 0) j ≡ (ltb j k && ((entry_at es j).cell == c))
+    (c j : ℕ) → c < cells → has_bit (get_or words c no_bits) j ≡ (ltb j k && ((entry_at es j).cell == c))
 
 begun_test : (es : List Entry) (c j k : ℕ)
     → ((ltb j k && ((entry_at es j).cell == c)) || ((j == k) && ((entry_at es k).cell == c)))
@@ -87,8 +131,8 @@ begun_test es c j k =
           | inr h ↦ le-ltb j k h ∙ sym (le-ltb j (k + 1) (omega (arith, h, ne)))
         ]
 
-pub begun_more : (es : List Entry) (cells k : ℕ) (old new : List ℕ) → length old ≡ cells → AreBegunTo es cells k old
-    → ((c j : ℕ) → c < length old → has_bit (get_or new c 0) j ≡ (has_bit (get_or old c 0) j || ((j == k) && ((entry_at es k).cell == c))))
+pub begun_more : (es : List Entry) (cells k : ℕ) (old new : List Bits) → length old ≡ cells → AreBegunTo es cells k old
+    → ((c j : ℕ) → c < length old → has_bit (get_or new c no_bits) j ≡ (has_bit (get_or old c no_bits) j || ((j == k) && ((entry_at es k).cell == c))))
     → AreBegunTo es cells (k + 1) new
 begun_more es cells k old new many before noted c j h =
     noted c j (omega (arith, many, h))
@@ -96,7 +140,7 @@ begun_more es cells k old new many before noted c j h =
     ∙ begun_test es c j k
 
 -- all are
-pub begun_all : (es : List Entry) (cells k : ℕ) (words : List ℕ) → length es ≤ k → AreBegunTo es cells k words → AreBegun es cells words
+pub begun_all : (es : List Entry) (cells k : ℕ) (words : List Bits) → length es ≤ k → AreBegunTo es cells k words → AreBegun es cells words
 begun_all es cells k words all noted c j h low =
     noted c j h ∙ ap (λ a. a && ((entry_at es j).cell == c)) (lt-ltb j k (omega (arith, all, low)))
 
@@ -107,29 +151,29 @@ pub gathered_more : (own : Bool) (before one : Bool) (word : Bool) (all : Bool) 
 gathered_more own before one word all e f = ap (λ t. t || one) e ∙ or_assoc own before one ∙ ap (λ t. own || t) (sym f)
 
 -- the words of the cells below c tell which entries lead there
-abbrev pub AreReachedTo : Plan → List Entry → ℕ → List ℕ → Type 0
-AreReachedTo p es c words = (d k : ℕ) → d < c → k < length es → has_bit (get_or words d 0) k ≡ leads p (entry_at es k).cell d
+abbrev pub AreReachedTo : Plan → List Entry → ℕ → List Bits → Type 0
+AreReachedTo p es c words = (d k : ℕ) → d < c → k < length es → has_bit (get_or words d no_bits) k ≡ leads p (entry_at es k).cell d
 
-pub next_reached : (p : Plan) → Rising p → (es : List Entry) (c : ℕ) (words links : List ℕ) (own word : ℕ) → links ≡ in_links p c
+pub next_reached : (p : Plan) → Rising p → (es : List Entry) (c : ℕ) (words : List Bits) (links : List ℕ) (own word : Bits) → links ≡ in_links p c
     → AreReachedTo p es c words → (k : ℕ) → k < length es → has_bit own k ≡ ((entry_at es k).cell == c)
-    → has_bit word k ≡ (has_bit own k || list_any (λ l. has_bit (get_or words (link p l).source 0) k) links)
+    → has_bit word k ≡ (has_bit own k || list_any (λ l. has_bit (get_or words (link p l).source no_bits) k) links)
     → has_bit word k ≡ leads p (entry_at es k).cell c
 next_reached p up es c words links own word are before k h begun gathered =
     gathered
     ∙ ap₂ (λ a b. a || b) begun
-    (ap (λ ls. list_any (λ l. has_bit (get_or words (link p l).source 0) k) ls) are
-    ∙ any_same (λ l. has_bit (get_or words (link p l).source 0) k) (λ l. leads p (entry_at es k).cell (link p l).source) (in_links p c)
+    (ap (λ ls. list_any (λ l. has_bit (get_or words (link p l).source no_bits) k) ls) are
+    ∙ any_same (λ l. has_bit (get_or words (link p l).source no_bits) k) (λ l. leads p (entry_at es k).cell (link p l).source) (in_links p c)
     (λ l i. before (link p l).source k (from_below p up c l i) h))
     ∙ sym (leads_step p up (entry_at es k).cell c)
 
-pub reached_more : (p : Plan) (es : List Entry) (c word : ℕ) (words : List ℕ) → length words ≡ c → AreReachedTo p es c words
+pub reached_more : (p : Plan) (es : List Entry) (c : ℕ) (word : Bits) (words : List Bits) → length words ≡ c → AreReachedTo p es c words
     → ((k : ℕ) → k < length es → has_bit word k ≡ leads p (entry_at es k).cell c) → AreReachedTo p es (c + 1) (words ++ word ∷ [])
 reached_more p es c word words many before here d k h low =
     elim (cases_eq d c) [
-      | inl e ↦ ap (λ i. has_bit (get_or (words ++ word ∷ []) i 0) k) e
-          ∙ ap (λ w. has_bit w k) (get_or_push words word 0 c many)
+      | inl e ↦ ap (λ i. has_bit (get_or (words ++ word ∷ []) i no_bits) k) e
+          ∙ ap (λ w. has_bit w k) (get_or_push words word no_bits c many)
           ∙ here k low
           ∙ ap (leads p (entry_at es k).cell) (sym e)
-      | inr ne ↦ ap (λ w. has_bit w k) (get_or_append_left words (word ∷ []) 0 d (omega (arith, many, h, ne)))
+      | inr ne ↦ ap (λ w. has_bit w k) (get_or_append_left words (word ∷ []) no_bits d (omega (arith, many, h, ne)))
           ∙ before d k (omega (arith, h, ne)) low
     ]

@@ -7,23 +7,24 @@ use Rattle.std.proofs.lemmas.List.{get_or-set_other, get_or-set_same, length-set
 use Rattle.std.proofs.lemmas.List.Folds.{list_any-append}
 use Rattle.given_lines.specs.declared.given.Mark.{Mark}
 use Rattle.given_lines.specs.declared.given.Mark.TheVariants.{Result, Enter, Leave}
+use Rattle.mark_judge.specs.declared.entry_bits.Bits.{Bits}
 use Rattle.mark_judge.specs.declared.entries.Entry.{Entry}
 use Rattle.mark_judge.specs.Due.{cell_of, mark_at}
 use Rattle.mark_judge.specs.Judged.{is_apart, is_open}
 use Rattle.mark_judge.specs.Leading.{leads}
-use Rattle.mark_judge.specs.Tables.{AreReached, does_lack, does_miss, entries_in, entry_at, is_unmet, no_entry}
+use Rattle.mark_judge.specs.Tables.{AreReached, does_lack, does_miss, entries_in, entry_at, is_unmet, no_bits, no_entry}
 use Rattle.mark_judge.proofs.Tests.{any_none, any_places, or-false, or_assoc}
 use Rattle.plan_core.specs.Plan.{Plan}
 
 -- ---- a line by the words of its cell
-pub unmet_is : (p : Plan) (es : List Entry) (words : List ℕ) (m : Mark) → AreReached p es words → cell_of m < length p.cells
+pub unmet_is : (p : Plan) (es : List Entry) (words : List Bits) (m : Mark) → AreReached p es words → cell_of m < length p.cells
     → is_unmet words es m ≡ list_any (does_miss p m) es
 unmet_is p es words (Result b r c) reached h = sym (any_none (does_miss p (Result b r c)) es (λ e i. refl))
 unmet_is p es words (Enter s r c) reached h = sym (any_none (does_miss p (Enter s r c)) es (λ e i. refl))
 unmet_is p es words (Leave s r c) reached h =
-    any_places (does_miss p (Leave s r c)) no_entry (does_lack (get_or words c 0) es s) 0 es
+    any_places (does_miss p (Leave s r c)) no_entry (does_lack (get_or words c no_bits) es s) 0 es
     (λ i j lt e. let q : j ≡ i = omega (arith, e) in
-    ap (does_lack (get_or words c 0) es s) q
+    ap (does_lack (get_or words c no_bits) es s) q
     ∙ ap (λ t. ((entry_at es i).step == s) && not t) (reached c i h lt))
 
 -- ---- a line among all that is noted
@@ -40,7 +41,7 @@ open_is p ms (Leave s r c) = among ms
     among (Leave t q d ∷ xs) = among xs
 
 -- ---- a line is noted
-abbrev pub AreUnmetTo : List Bool → List ℕ → List Entry → List Mark → ℕ → List Bool → Type 0
+abbrev pub AreUnmetTo : List Bool → List Bits → List Entry → List Mark → ℕ → List Bool → Type 0
 AreUnmetTo old words es ms n new =
     ((j : ℕ) → j < n → get_or new j false ≡ (get_or old j false || is_unmet words es (mark_at ms j)))
     × ((j : ℕ) → n ≤ j → get_or new j false ≡ get_or old j false)
@@ -62,7 +63,7 @@ pub length_noted : (xs : List Bool) (i : ℕ) (so : Bool) → length (cond so (s
 length_noted xs i true = length-set xs i true
 length_noted xs i false = refl
 
-pub unmet_more : (old : List Bool) (words : List ℕ) (es : List Entry) (ms : List Mark) (i : ℕ) (now new : List Bool) (m : Mark) (so : Bool)
+pub unmet_more : (old : List Bool) (words : List Bits) (es : List Entry) (ms : List Mark) (i : ℕ) (now new : List Bool) (m : Mark) (so : Bool)
     → i < length now → m ≡ mark_at ms i → so ≡ is_unmet words es m → new ≡ cond so (set now i true) now
     → AreUnmetTo old words es ms i now → AreUnmetTo old words es ms (i + 1) new
 unmet_more old words es ms i now new m so h is told noted before = (

@@ -1,5 +1,5 @@
 -- Tables of what was found so far.
-use Rattle.std.specs.Prelude.{ℕ, Bool, false, not, ◌≡◌, ◌<◌, ◌==◌, ◌&&◌, ◌+◌, ◌*◌, nat_lt, List, Option, Some, None, length, get_or}
+use Rattle.std.specs.Prelude.{ℕ, Bool, false, not, ◌≡◌, ◌<◌, ◌==◌, ◌&&◌, ◌+◌, ◌-◌, ◌*◌, nat_lt, List, Option, Some, None, length, get_or, if◌then◌else◌}
 use Rattle.std.specs.Int.{bit_at}
 use Rattle.std.specs.List.{filter_map, list_any}
 use Rattle.number_lists.specs.Numbers.{from_to}
@@ -8,6 +8,7 @@ use Rattle.given_lines.specs.declared.given.Mark.{Mark}
 use Rattle.given_lines.specs.declared.given.Mark.TheVariants as marks
 use Rattle.mark_judge.specs.declared.flaw.Due.{Due}
 use Rattle.mark_judge.specs.declared.flaw.Due.TheVariants.{Result, Enter, Leave}
+use Rattle.mark_judge.specs.declared.entry_bits.Bits.{Bits}
 use Rattle.mark_judge.specs.declared.entries.Entry.{Entry}
 use Rattle.mark_judge.specs.Due.{is_named}
 use Rattle.mark_judge.specs.Leading.{leads}
@@ -52,29 +53,32 @@ entry_of _ = None
 abbrev pub entries_in : List Mark → List Entry
 entries_in ms = filter_map entry_of ms
 
--- ---- a bit for each of up to 64 entries
-abbrev pub has_bit : ℕ → ℕ → Bool
-has_bit word k = bit_at word k == 1
+-- ---- a bit for each of up to 256 entries
+abbrev pub no_bits : Bits
+no_bits = record { low = 0; high = 0 }
+
+abbrev pub has_bit : Bits → ℕ → Bool
+has_bit bits k = if nat_lt k 128 then bit_at bits.low k == 1 else bit_at bits.high (k - 128) == 1
 
 -- which of these entries lead to each cell
-abbrev pub AreReached : Plan → List Entry → List ℕ → Type 0
-AreReached p es words = (c k : ℕ) → c < length p.cells → k < length es → has_bit (get_or words c 0) k ≡ leads p (entry_at es k).cell c
+abbrev pub AreReached : Plan → List Entry → List Bits → Type 0
+AreReached p es words = (c k : ℕ) → c < length p.cells → k < length es → has_bit (get_or words c no_bits) k ≡ leads p (entry_at es k).cell c
 
 -- which of them lie in each cell
-abbrev pub AreBegun : List Entry → ℕ → List ℕ → Type 0
-AreBegun es cells words = (c k : ℕ) → c < cells → k < length es → has_bit (get_or words c 0) k ≡ ((entry_at es k).cell == c)
+abbrev pub AreBegun : List Entry → ℕ → List Bits → Type 0
+AreBegun es cells words = (c k : ℕ) → c < cells → k < length es → has_bit (get_or words c no_bits) k ≡ ((entry_at es k).cell == c)
 
--- entry k is one into step s and has no bit in this word
-abbrev pub does_lack : ℕ → List Entry → ℕ → ℕ → Bool
-does_lack word es s k = ((entry_at es k).step == s) && not (has_bit word k)
+-- entry k is one into step s and none of these
+abbrev pub does_lack : Bits → List Entry → ℕ → ℕ → Bool
+does_lack bits es s k = ((entry_at es k).step == s) && not (has_bit bits k)
 
 -- one of them is
-abbrev pub lacks_one : ℕ → List Entry → ℕ → Bool
-lacks_one word es s = list_any (does_lack word es s) (from_to 0 (length es))
+abbrev pub lacks_one : Bits → List Entry → ℕ → Bool
+lacks_one bits es s = list_any (does_lack bits es s) (from_to 0 (length es))
 
 -- the line names where a rank leaves a step, and one of these entries into it doesn't lead there
-abbrev pub is_unmet : List ℕ → List Entry → Mark → Bool
-is_unmet words es (marks.Leave s r c) = lacks_one (get_or words c 0) es s
+abbrev pub is_unmet : List Bits → List Entry → Mark → Bool
+is_unmet words es (marks.Leave s r c) = lacks_one (get_or words c no_bits) es s
 is_unmet words es _ = false
 
 -- it names where a rank leaves a step, and this entry is one into it and doesn't lead there

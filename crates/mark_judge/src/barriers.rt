@@ -14,6 +14,7 @@ ghost use Rattle.plan_judge.specs.Causes.{first_found};
 
 use crate::asked::mark_at;
 use crate::entries::{Entry, entries_of, lacks_one};
+use crate::entry_bits::Bits;
 use crate::flaw::MarkFlaw;
 use crate::named::all_false;
 use crate::reaching::words_reached;
@@ -25,8 +26,8 @@ use ptl_types::NoMemory;
 use std::alloc::{AllocError, Global};
 
 /// Whether a line names where a rank leaves a step, and one of these entries into that step doesn't lead there.
-fn is_unmet(words: &[u64], entries: &[Entry], mark: Mark) -> bool
-    requires one_word { length entries.now ≤ 64 }
+fn is_unmet(words: &[Bits], entries: &[Entry], mark: Mark) -> bool
+    requires few { length entries.now ≤ 256 }
     requires cell { cell_of mark < length words.now }
     ensures { result ≡ is_unmet words.now entries.now mark }
 {
@@ -47,9 +48,9 @@ fn note_line(unmet: &mut Vec<bool>, i: usize, so: bool)
 }
 
 /// Notes of each line whether one of these entries doesn't lead to it.
-fn note_unmet(unmet: &mut Vec<bool>, marks: &[Mark], entries: &[Entry], words: &[u64])
+fn note_unmet(unmet: &mut Vec<bool>, marks: &[Mark], entries: &[Entry], words: &[Bits])
     requires many { length unmet.old.items ≡ length marks.now }
-    requires one_word { length entries.now ≤ 64 }
+    requires few { length entries.now ≤ 256 }
     requires known { (i : ℕ) → i < length marks.now → cell_of (mark_at marks.now i) < length words.now }
     ensures many { length unmet.new.items ≡ length marks.now }
     ensures noted { (i : ℕ) → i < length marks.now → get_or unmet.new.items i false ≡
@@ -60,7 +61,7 @@ fn note_unmet(unmet: &mut Vec<bool>, marks: &[Mark], entries: &[Entry], words: &
     }
 }
 
-/// Notes of each line whether one of these entries, at most 64, doesn't lead to it. One pass over the plan.
+/// Notes of each line whether one of these entries, at most 256, doesn't lead to it. One pass over the plan.
 fn note_entries(
     alloc: Global,
     unmet: &mut Vec<bool>,
@@ -70,7 +71,7 @@ fn note_entries(
     entries: &[Entry],
 ) -> Result<(), AllocError>
     requires many { length unmet.old.items ≡ length marks.now }
-    requires one_word { length entries.now ≤ 64 }
+    requires few { length entries.now ≤ 256 }
     requires at_most { length plan.now.cells + length plan.now.links < 2 ^ 32 - 1 }
     requires links { (l : ℕ) → l < length plan.now.links → SoundLink plan.now l }
     requires table { into.now ≡ map (in_links plan.now) (all_cells plan.now) }
@@ -84,7 +85,7 @@ fn note_entries(
     Ok(())
 }
 
-/// Of each line whether some entry into its step doesn't lead to it, where it names where a rank leaves one. For each 64 entries it
+/// Of each line whether some entry into its step doesn't lead to it, where it names where a rank leaves one. For each 256 entries it
 /// takes one pass over the plan.
 fn open_lines(
     alloc: Global,
@@ -104,7 +105,7 @@ fn open_lines(
     let mut unmet = all_false(alloc, marks.len())?;
     let mut left = entries.as_slice();
     while !left.is_empty() {
-        let (some, rest) = left.split_at(left.len().min(64));
+        let (some, rest) = left.split_at(left.len().min(256));
         note_entries(alloc, &mut unmet, plan, into, marks, some)?;
         left = rest;
     }

@@ -1,8 +1,9 @@
-//! The cells at which barriers are entered, and a bit for each of up to 64 of them.
+//! The cells at which barriers are entered.
 
 ghost use Rattle.std.specs.Prelude.{ℕ, ◌≡◌, ◌<◌, ◌≤◌, ◌==◌, ◌||◌, ◌&&◌, false, IfOk, get_or, length};
-ghost use Rattle.mark_judge.specs.Tables.{AreBegun, does_lack, entries_in, entry_at, entry_of, has_bit, lacks_one};
+ghost use Rattle.mark_judge.specs.Tables.{AreBegun, does_lack, entries_in, entry_at, entry_of, has_bit, lacks_one, no_bits};
 
+use crate::entry_bits::{Bits, NO_BITS, has_bit, with_bit};
 use given_lines::Mark;
 use std::alloc::{AllocError, Global};
 
@@ -43,72 +44,49 @@ fn entry_at(entries: &[Entry], k: usize) -> Entry
     entries[k]
 }
 
-/// Whether a word has the bit of this number.
-fn has_bit(word: u64, k: u32) -> bool
-    requires { k < 64 }
-    ensures { result ≡ has_bit word k }
-{
-    (word >> k) & 1 == 1
-}
-
-/// The word with that bit too.
-fn with_bit(word: u64, k: u32) -> u64
-    requires { k < 64 }
-    ensures { (j : ℕ) → has_bit result j ≡ (has_bit word j || (j == k)) }
-{
-    word | (1 << k)
-}
-
-/// The bits of two words.
-pub(crate) fn joined(a: u64, b: u64) -> u64
-    ensures { (j : ℕ) → has_bit result j ≡ (has_bit a j || has_bit b j) }
-{
-    a | b
-}
-
-/// Whether the entry at a place is one into a step and has no bit in a word.
-fn does_lack(word: u64, entries: &[Entry], step: u32, k: usize) -> bool
-    requires one_word { length entries.now ≤ 64 }
+/// Whether the entry at a place is one into a step and is none of these.
+fn does_lack(bits: Bits, entries: &[Entry], step: u32, k: usize) -> bool
+    requires few { length entries.now ≤ 256 }
     requires place { k < length entries.now }
-    ensures { result ≡ does_lack word entries.now step k }
+    ensures { result ≡ does_lack bits entries.now step k }
 {
-    entry_at(entries, k).step == step && !has_bit(word, k as u32)
+    entry_at(entries, k).step == step && !has_bit(bits, k as u32)
 }
 
-/// Whether one of these entries into a step has no bit in a word.
-pub(crate) fn lacks_one(word: u64, entries: &[Entry], step: u32) -> bool
-    requires { length entries.now ≤ 64 }
-    ensures { result ≡ lacks_one word entries.now step }
+/// Whether one of these entries into a step is none of these.
+pub(crate) fn lacks_one(bits: Bits, entries: &[Entry], step: u32) -> bool
+    requires { length entries.now ≤ 256 }
+    ensures { result ≡ lacks_one bits entries.now step }
 {
     for k in 0..entries.len() {
-        if does_lack(word, entries, step, k) {
+        if does_lack(bits, entries, step, k) {
             return true;
         }
     }
     false
 }
 
-/// For each of so many cells a word without bits.
-fn no_bits(alloc: Global, cells: usize) -> Result<Vec<u64>, AllocError>
+/// For each of so many cells no entry.
+fn no_bits(alloc: Global, cells: usize) -> Result<Vec<Bits>, AllocError>
     ensures many { IfOk result (λ words. length words.items ≡ cells) }
-    ensures none { IfOk result (λ words. (c j : ℕ) → has_bit (get_or words.items c 0) j ≡ false) }
+    ensures none { IfOk result (λ words. (c j : ℕ) → has_bit (get_or words.items c no_bits) j ≡ false) }
 {
-    vec![in alloc; 0; cells]
+    vec![in alloc; NO_BITS; cells]
 }
 
-/// Adds the bit of this number to the word of a cell, if there is one.
-fn begin_at(words: &mut Vec<u64>, cell: u32, k: u32)
-    requires { k < 64 }
+/// Adds the entry of this number to those of a cell, if there is one.
+fn begin_at(words: &mut Vec<Bits>, cell: u32, k: u32)
+    requires { k < 256 }
     ensures many { length words.new.items ≡ length words.old.items }
     ensures bits { (c j : ℕ) → c < length words.old.items →
-        has_bit (get_or words.new.items c 0) j ≡ (has_bit (get_or words.old.items c 0) j || ((j == k) && (cell == c))) }
+        has_bit (get_or words.new.items c no_bits) j ≡ (has_bit (get_or words.old.items c no_bits) j || ((j == k) && (cell == c))) }
 {
     if (cell as usize) < words.len() {
         words[cell as usize] = with_bit(words[cell as usize], k);
     }
 }
 
-/// For each of so many cells a word with the bits of the entries that lie there.
+/// For each of so many cells the entries that lie there.
 ///
 /// # Errors
 ///
@@ -117,8 +95,8 @@ pub(crate) fn words_begun(
     alloc: Global,
     cells: usize,
     entries: &[Entry],
-) -> Result<Vec<u64>, AllocError>
-    requires { length entries.now ≤ 64 }
+) -> Result<Vec<Bits>, AllocError>
+    requires { length entries.now ≤ 256 }
     ensures many { IfOk result (λ words. length words.items ≡ cells) }
     ensures begun { IfOk result (λ words. AreBegun entries.now cells words.items) }
 {

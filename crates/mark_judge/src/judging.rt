@@ -49,7 +49,7 @@ fn marks_flaw(
 /// `result`, `enter` and `leave` one by one, in order; then what the description asks for and no line is for, results before barriers;
 /// then the first `leave` to which not each `enter` of its step leads. None: `no_mark_flaw` says what then holds.
 ///
-/// It takes a number of steps in the order of the plan's cells and links, once for each 64 lines `enter`, of which a description asks
+/// It takes a number of steps in the order of the plan's cells and links, once for each 256 lines `enter`, of which a description asks
 /// for 16,384 at most.
 ///
 /// # Errors

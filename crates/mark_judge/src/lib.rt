@@ -14,6 +14,7 @@ mod asked;
 mod barriers;
 mod done;
 mod entries;
+mod entry_bits;
 mod flaw;
 mod judging;
 mod lines;

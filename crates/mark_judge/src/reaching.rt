@@ -1,13 +1,14 @@
-//! Which of up to 64 cells lead to each cell.
+//! Which of up to 256 cells lead to each cell.
 
 ghost use Rattle.std.specs.Prelude.{ℕ, ◌≡◌, ◌<◌, ◌≤◌, ◌+◌, ◌-◌, ◌^◌, ◌||◌, All, IfOk, get_or, length, map};
 ghost use Rattle.std.specs.List.{list_any};
 ghost use Rattle.mark_judge.specs.Leading.{leads};
-ghost use Rattle.mark_judge.specs.Tables.{AreBegun, AreReached, entry_at, has_bit};
+ghost use Rattle.mark_judge.specs.Tables.{AreBegun, AreReached, entry_at, has_bit, no_bits};
 ghost use Rattle.plan_core.specs.Plan.{all_cells, in_links, link};
 ghost use Rattle.plan_core.specs.Sound.{SoundLink};
 
-use crate::entries::{Entry, joined, words_begun};
+use crate::entries::{Entry, words_begun};
+use crate::entry_bits::{Bits, joined};
 use plan_core::Plan;
 use plan_judge::links_to;
 use plan_tables::ByRank;
@@ -21,12 +22,12 @@ fn source_of(plan: &Plan, l: u32) -> u32
     plan.links()[l as usize].source
 }
 
-/// A word with the bits of the cells from which these links come.
-fn gathered(words: &[u64], plan: &Plan, links: &[u32], own: u64) -> u64
+/// The entries of a cell itself and of the cells from which these links come.
+fn gathered(words: &[Bits], plan: &Plan, links: &[u32], own: Bits) -> Bits
     requires known { All (λ l. l < length plan.now.links) links.now }
     requires sources { All (λ l. (link plan.now l).source < length words.now) links.now }
     ensures { (k : ℕ) → has_bit result k ≡
-        (has_bit own k || list_any (λ l. has_bit (get_or words.now (link plan.now l).source 0) k) links.now) }
+        (has_bit own k || list_any (λ l. has_bit (get_or words.now (link plan.now l).source no_bits) k) links.now) }
 {
     let mut word = own;
     for l in links {
@@ -35,29 +36,29 @@ fn gathered(words: &[u64], plan: &Plan, links: &[u32], own: u64) -> u64
     word
 }
 
-/// The word of a cell: the bits of the entries that lie there, and of the cells before it from which links come.
+/// The entries that lead to a cell: those that lie there, and those of the cells before it from which links come.
 fn next_word(
-    begun: &[u64],
-    before: &[u64],
+    begun: &[Bits],
+    before: &[Bits],
     plan: &Plan,
     into: &ByRank,
     entries: &[Entry],
     c: u32,
-) -> u64
+) -> Bits
     requires cell { c < length plan.now.cells }
     requires table { into.now ≡ map (in_links plan.now) (all_cells plan.now) }
     requires links { (l : ℕ) → l < length plan.now.links → SoundLink plan.now l }
     requires cells { length begun.now ≡ length plan.now.cells }
     requires begun { AreBegun entries.now (length plan.now.cells) begun.now }
     requires place { length before.now ≡ c }
-    requires before { (d k : ℕ) → d < c → k < length entries.now → has_bit (get_or before.now d 0) k ≡ leads plan.now
+    requires before { (d k : ℕ) → d < c → k < length entries.now → has_bit (get_or before.now d no_bits) k ≡ leads plan.now
         (entry_at entries.now k).cell d }
     ensures { (k : ℕ) → k < length entries.now → has_bit result k ≡ leads plan.now (entry_at entries.now k).cell c }
 {
     gathered(before, plan, links_to(plan, into, c), begun[c as usize])
 }
 
-/// For each cell a word with the bits of the entries that lead there. One pass over the links, which rise.
+/// For each cell the entries that lead there. One pass over the links, which rise.
 ///
 /// # Errors
 ///
@@ -67,8 +68,8 @@ pub(crate) fn words_reached(
     plan: &Plan,
     into: &ByRank,
     entries: &[Entry],
-) -> Result<Vec<u64>, AllocError>
-    requires one_word { length entries.now ≤ 64 }
+) -> Result<Vec<Bits>, AllocError>
+    requires few { length entries.now ≤ 256 }
     requires at_most { length plan.now.cells + length plan.now.links < 2 ^ 32 - 1 }
     requires links { (l : ℕ) → l < length plan.now.links → SoundLink plan.now l }
     requires table { into.now ≡ map (in_links plan.now) (all_cells plan.now) }

@@ -3,6 +3,7 @@ use Rattle.std.proofs.Common.{ℕ, ◌<◌, length, get_or, subst, arith}
 use Rattle.mark_judge.proofs.Bits.{next_reached}
 use Rattle.mark_judge.proofs.Chains.{Rising, from_below}
 use Rattle.mark_judge.proofs.Tests.{In-get_or}
+use Rattle.mark_judge.specs.Tables.{no_bits}
 use Rattle.plan_core.specs.Members.{In}
 use Rattle.plan_core.specs.Plan.{Plan}
 use Rattle.plan_core.specs.Sound.{SoundLink}
@@ -26,5 +27,5 @@ gathered-requires-clause-sources c = λ k d h.
 pub returns : goal.returns
 returns c = λ k h.
     next_reached c.args.plan.now (up c.args.plan.now c.requires.links) c.args.entries.now c.args.c c.args.before.now c.links_to.result.now
-    (get_or c.args.begun.now c.args.c 0) c.gathered.result c.links_to.ensures c.requires.before k h
+    (get_or c.args.begun.now c.args.c no_bits) c.gathered.result c.links_to.ensures c.requires.before k h
     (c.requires.begun c.args.c k c.requires.cell h) (c.gathered.ensures k)
