@@ -1,5 +1,5 @@
 -- By `Bits`.
-use Rattle.std.proofs.Common.{◌+◌, ◌*◌, ◌%◌, ◌^◌, ◌-◌, refl}
+use Rattle.std.proofs.Common.{◌*◌, ◌%◌, ◌^◌, ◌-◌, refl}
 use Rattle.std.specs.Int.RustNames.{bit_or}
 use Rattle.mark_judge.proofs.Bits.{bits_with_high, bits_with_low}
 use Rattle.mark_judge.proofs.entry_bits.with_bit.Goals as goal
