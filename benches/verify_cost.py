@@ -195,19 +195,13 @@ def bytes_combined(times=100):
     """A cell with many bytes, to which the one before it comes a hundred times: a text of a few thousand bytes."""
     g = begun(2, 1)
     a, b = g.cell(0, 64_000_000, "sum"), g.cell(0, 64_000_000, "sum")
-    g.link(2, a)
     for _ in range(times):
         g.link(a, b, "atomic", 64_000_000)
     return g.text()
 
 
-def bytes_combined_often():
-    """The same 100,000 times: a text of four megabytes."""
-    return bytes_combined(100_000)
-
-
 def falling():
-    """A hundred thousand atomics into one cell, each from a cell before the last one's source."""
+    """A hundred thousand atomics into one cell, the greatest of sums, each from a cell before the last one's source."""
     g = begun(2, 1)
     count, lists = 100_000, []
     for n in range(count):
@@ -215,7 +209,7 @@ def falling():
         g.link(2, c, "atomic", 1)
         g.link(2 if n == 0 else c - 1, c, "atomic", 1)
         lists.append(c)
-    total = g.cell(0, 1, "sum")
+    total = g.cell(0, 1, "max")
     for c in reversed(lists):
         g.link(c, total, "atomic", 1)
     return g.text()
@@ -227,7 +221,7 @@ def folds():
     cells = [g.cell(0, 64, "sum") for _ in range(2)]
     for c in cells:
         g.link(2, c, "atomic", 64)
-    for _ in range(200_000):
+    for _ in range(100_000):
         c = g.cell(0, 64, "sum")
         for source in cells[-2:]:
             g.link(source, c, "atomic", 64)
@@ -239,7 +233,7 @@ def ordered_folds():
     """Two operations by turns, so that each cell's fold has the one before it as its member."""
     g = begun(2, 64)
     last = 2
-    for n in range(200_000):
+    for n in range(20_000):
         c = g.cell(0, 64, ["min", "sum"][n % 2])
         g.link(last, c, "atomic", 64)
         g.link(2, c, "atomic", 64)
@@ -248,7 +242,7 @@ def ordered_folds():
 
 
 KINDS = [digits, blank, spaces, digits_in_a_plan, blank_after_a_plan, words_in_a_plan, enters, cells, links, links_that_overlap, barriers,
-         barriers_far, bytes_put, bytes_combined, bytes_combined_often, falling, folds, ordered_folds]
+         barriers_far, bytes_put, bytes_combined, falling, folds, ordered_folds]
 
 
 def measured(words, text):
@@ -260,10 +254,11 @@ def measured(words, text):
             given.seek(0)
             said.seek(0)
             said.truncate()
-            child = subprocess.Popen(words, stdin=given, stdout=said, stderr=subprocess.DEVNULL)
-            _, _, used = os.wait4(child.pid, 0)
+            # (a child of this process would have its memory counted as its own)
+            timed = ["/usr/bin/time", "-q", "-f", "%U %S %M", *words]
+            user, system, kilobytes = subprocess.run(timed, stdin=given, stdout=said, stderr=subprocess.PIPE, text=True).stderr.split()[-3:]
             said.seek(0)
-            run = used.ru_utime + used.ru_stime, used.ru_maxrss / 1024, said.read().decode()
+            run = float(user) + float(system), float(kilobytes) / 1024, said.read().decode()
             best = min(best or run, run)
     return best
 
