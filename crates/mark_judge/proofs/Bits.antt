@@ -132,7 +132,8 @@ begun_test es c j k =
         ]
 
 pub begun_more : (es : List Entry) (cells k : ℕ) (old new : List Bits) → length old ≡ cells → AreBegunTo es cells k old
-    → ((c j : ℕ) → c < length old → has_bit (get_or new c no_bits) j ≡ (has_bit (get_or old c no_bits) j || ((j == k) && ((entry_at es k).cell == c))))
+    → ((c j : ℕ) → c < length old →
+    has_bit (get_or new c no_bits) j ≡ (has_bit (get_or old c no_bits) j || ((j == k) && ((entry_at es k).cell == c))))
     → AreBegunTo es cells (k + 1) new
 begun_more es cells k old new many before noted c j h =
     noted c j (omega (arith, many, h))
@@ -154,7 +155,8 @@ gathered_more own before one word all e f = ap (λ t. t || one) e ∙ or_assoc o
 abbrev pub AreReachedTo : Plan → List Entry → ℕ → List Bits → Type 0
 AreReachedTo p es c words = (d k : ℕ) → d < c → k < length es → has_bit (get_or words d no_bits) k ≡ leads p (entry_at es k).cell d
 
-pub next_reached : (p : Plan) → Rising p → (es : List Entry) (c : ℕ) (words : List Bits) (links : List ℕ) (own word : Bits) → links ≡ in_links p c
+pub next_reached : (p : Plan) → Rising p → (es : List Entry) (c : ℕ) (words : List Bits) (links : List ℕ) (own word : Bits)
+    → links ≡ in_links p c
     → AreReachedTo p es c words → (k : ℕ) → k < length es → has_bit own k ≡ ((entry_at es k).cell == c)
     → has_bit word k ≡ (has_bit own k || list_any (λ l. has_bit (get_or words (link p l).source no_bits) k) links)
     → has_bit word k ≡ leads p (entry_at es k).cell c
@@ -162,7 +164,8 @@ next_reached p up es c words links own word are before k h begun gathered =
     gathered
     ∙ ap₂ (λ a b. a || b) begun
     (ap (λ ls. list_any (λ l. has_bit (get_or words (link p l).source no_bits) k) ls) are
-    ∙ any_same (λ l. has_bit (get_or words (link p l).source no_bits) k) (λ l. leads p (entry_at es k).cell (link p l).source) (in_links p c)
+    ∙ any_same (λ l. has_bit (get_or words (link p l).source no_bits) k) (λ l. leads p (entry_at es k).cell (link p l).source)
+    (in_links p c)
     (λ l i. before (link p l).source k (from_below p up c l i) h))
     ∙ sym (leads_step p up (entry_at es k).cell c)
 

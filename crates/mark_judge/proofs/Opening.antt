@@ -63,7 +63,8 @@ pub length_noted : (xs : List Bool) (i : ℕ) (so : Bool) → length (cond so (s
 length_noted xs i true = length-set xs i true
 length_noted xs i false = refl
 
-pub unmet_more : (old : List Bool) (words : List Bits) (es : List Entry) (ms : List Mark) (i : ℕ) (now new : List Bool) (m : Mark) (so : Bool)
+pub unmet_more : (old : List Bool) (words : List Bits) (es : List Entry) (ms : List Mark) (i : ℕ) (now new : List Bool)
+    → (m : Mark) (so : Bool)
     → i < length now → m ≡ mark_at ms i → so ≡ is_unmet words es m → new ≡ cond so (set now i true) now
     → AreUnmetTo old words es ms i now → AreUnmetTo old words es ms (i + 1) new
 unmet_more old words es ms i now new m so h is told noted before = (
