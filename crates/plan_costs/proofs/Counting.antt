@@ -1,5 +1,6 @@
 -- What a pass keeps as a link is counted.
-use Rattle.std.proofs.Common.{ℕ, Bool, true, false, cond, not, ◌&&◌, ◌==◌, ◌≡◌, ◌<◌, ◌≤◌, ◌+◌, ◌⊎◌, inl, inr, List, length, get_or, max, arith}
+use Rattle.std.proofs.Common.{ℕ, Bool, true, false, cond, not, ◌&&◌, ◌==◌, ◌≡◌, ◌<◌, ◌≤◌, ◌+◌, ◌⊎◌, inl, inr, List, length, get_or, max}
+use Rattle.std.proofs.Common.{arith}
 use Rattle.std.proofs.Common.{refl, sym, ◌∙◌, ap, ap₂, subst, eq-eqb}
 use Rattle.std.proofs.lemmas.Bool.{ne_eqb}
 use Rattle.plan_core.specs.Plan.{Plan, link}
@@ -9,9 +10,12 @@ use Rattle.plan_costs.specs.declared.numbers.LogGp.{LogGp}
 use Rattle.plan_costs.specs.declared.state.Stage.{Stage}
 use Rattle.plan_costs.specs.declared.state.Stage.TheVariants.{Waiting, Sent, Counted}
 use Rattle.plan_costs.specs.Soonest.{Before, IsSoonest}
-use Rattle.plan_costs.specs.Times.{IsTimed, arrival, counted, handling, in_turn, ready, receiving, received_at, received_through, sending, sent_at, sent_through, stays, travel}
+use Rattle.plan_costs.specs.Times.{IsTimed, arrival, counted, handling, in_turn, ready, receiving, received_at, received_through, sending}
+use Rattle.plan_costs.specs.Times.{sent_at, sent_through, stays, travel}
 use Rattle.plan_costs.specs.Events.{Comes, Has, Popped}
-use Rattle.plan_costs.specs.State.{StateOf, HasRoom, IsCounted, IsDue, IsFlow, IsOrdered, IsReceived, IsSent, Opens, Port, Settled, awaited_of, awaits, cell_time, due_time, is_counted, is_sent, left_for, receipt_of, rest, sending_of, stage_of}
+use Rattle.plan_costs.specs.State.{StateOf, HasRoom, IsCounted, IsDue, IsFlow, IsOrdered, IsReceived, IsSent, Opens, Port, Settled}
+use Rattle.plan_costs.specs.State.{awaited_of, awaits, cell_time, due_time, is_counted, is_sent, left_for, receipt_of, rest, sending_of}
+use Rattle.plan_costs.specs.State.{stage_of}
 use Rattle.plan_costs.proofs.Order.{comes_sooner}
 use Rattle.plan_costs.proofs.Ports.{port_more, port_same, same_or_not, soonest_more, soonest_same}
 use Rattle.plan_costs.proofs.Sums.{changed_sum, same_sum}
@@ -223,7 +227,8 @@ module _ (n : LogGp) (p : Plan) (s s' : StateOf) (x : Event) (at : ℕ) where
       at' (inr ne) = k.awaited c ne ∙ flow.awaited c h ∙ sym (left_else k c ne)
 
   pub flow_on : Step → IsTimed p → (q q' q'' : List Event) → IsFlow n p s q → Popped q x q' → Settled p s' There q' q''
-      → (stays p x.link ≡ true → (sent_at s'.times x.link ≡ ready p s'.times x.link) × (received_at s'.times x.link ≡ ready p s'.times x.link))
+      → (stays p x.link ≡ true → (sent_at s'.times x.link ≡ ready p s'.times x.link) × (received_at s'.times x.link ≡ ready p s'.times
+      x.link))
       → IsFlow n p s' q''
   flow_on k timed q q' q'' flow popped settled home = record {
     due = due;

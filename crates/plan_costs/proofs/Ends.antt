@@ -1,5 +1,6 @@
 -- The pass before anything is sent, and once nothing is due.
-use Rattle.std.proofs.Common.{ℕ, zero, suc, Bool, true, false, cond, not, ◌&&◌, ◌==◌, nat_lt, ◌≡◌, ◌<◌, ◌+◌, ◌⊎◌, inl, inr, List, [], ◌∷◌, length, get_or, filter, replicate, sum_by, arith}
+use Rattle.std.proofs.Common.{ℕ, zero, suc, Bool, true, false, cond, not, ◌&&◌, ◌==◌, nat_lt, ◌≡◌, ◌<◌, ◌+◌, ◌⊎◌, inl, inr, List, [], ◌∷◌}
+use Rattle.std.proofs.Common.{length, get_or, filter, replicate, sum_by, arith}
 use Rattle.std.proofs.Common.{refl, sym, ◌∙◌, ap}
 use Rattle.std.proofs.lemmas.Bool.{ltb-true, ltb-false}
 use Rattle.std.proofs.lemmas.List.{length-replicate}
@@ -12,8 +13,10 @@ use Rattle.plan_costs.specs.declared.events.Event.{Event}
 use Rattle.plan_costs.specs.declared.numbers.LogGp.{LogGp}
 use Rattle.plan_costs.specs.declared.state.Stage.TheVariants.{Waiting}
 use Rattle.plan_costs.specs.Soonest.{Before, IsSoonest}
-use Rattle.plan_costs.specs.Times.{AreTimes, ComesTo, IsTimed, Precedes, alone, arrival, counted, in_turn, ready, received_at, received_through, sent_at, sent_through, stays}
-use Rattle.plan_costs.specs.State.{StateOf, Filled, IsCounted, IsDue, IsPass, IsReceived, IsSent, Opens, Port, awaited_first, awaited_of, awaits, cell_time, due_time, first, is_counted, is_sent, left_for, rest, rest_by, stage_of}
+use Rattle.plan_costs.specs.Times.{AreTimes, ComesTo, IsTimed, Precedes, alone, arrival, counted, in_turn, ready, received_at}
+use Rattle.plan_costs.specs.Times.{received_through, sent_at, sent_through, stays}
+use Rattle.plan_costs.specs.State.{StateOf, Filled, IsCounted, IsDue, IsPass, IsReceived, IsSent, Opens, Port, awaited_first, awaited_of}
+use Rattle.plan_costs.specs.State.{awaits, cell_time, due_time, first, is_counted, is_sent, left_for, rest, rest_by, stage_of}
 use Rattle.plan_costs.proofs.Ports.{same_or_not, soonest_same}
 use Rattle.plan_costs.proofs.Sums.{no_sum, same_sum}
 use Rattle.plan_costs.proofs.Counting.{awaits_else, awaits_none, clash, counted_sent}
@@ -107,7 +110,8 @@ module _ (n : LogGp) (p : Plan) where
       sent = λ m k. absurd (not_sent m k.sent);
       received = λ m k. absurd (uncounted m k.counted);
     };
-    sends = no_port (from_rank p) (IsSent p (first p)) (ready p (first p).times) (sent_at (first p).times) (sent_through n p (first p).times)
+    sends = no_port (from_rank p) (IsSent p (first p)) (ready p (first p).times) (sent_at (first p).times) (sent_through n p (first
+        p).times)
         (λ r. get_or (first p).senders r 0) (λ m k. not_sent m k.sent) (zero_at p.ranks);
     receipts = no_port (to_rank p) (IsReceived p (first p)) (arrival n p (first p).times) (received_at (first p).times)
         (received_through n p (first p).times) (λ r. get_or (first p).receivers r 0) (λ m k. uncounted m k.counted) (zero_at p.ranks);

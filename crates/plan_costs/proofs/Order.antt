@@ -45,11 +45,13 @@ not_equal o e f = cc
 
 nat_less : (x y : ℕ) → nat_cmp x y ≡ Less → x < y
 nat_less x y e = by_ranked (x < y) (x ≡ y) (y < x) (nat_cmp x y) (ranked x y (nat_cmp x y) refl) (λ _ h. h)
-    (λ (f : nat_cmp x y ≡ Equal) _. absurd (not_both (nat_cmp x y) f e)) (λ (f : nat_cmp x y ≡ Greater) _. absurd (not_more (nat_cmp x y) f e))
+    (λ (f : nat_cmp x y ≡ Equal) _. absurd (not_both (nat_cmp x y) f e)) (λ (f : nat_cmp x y ≡ Greater) _. absurd (not_more (nat_cmp x y) f
+    e))
 
 nat_equal : (x y : ℕ) → nat_cmp x y ≡ Equal → x ≡ y
 nat_equal x y e = by_ranked (x < y) (x ≡ y) (y < x) (nat_cmp x y) (ranked x y (nat_cmp x y) refl)
-    (λ (f : nat_cmp x y ≡ Less) _. absurd (not_both (nat_cmp x y) e f)) (λ _ h. h) (λ (f : nat_cmp x y ≡ Greater) _. absurd (not_equal (nat_cmp x y) f e))
+    (λ (f : nat_cmp x y ≡ Less) _. absurd (not_both (nat_cmp x y) e f)) (λ _ h. h) (λ (f : nat_cmp x y ≡ Greater) _. absurd (not_equal
+    (nat_cmp x y) f e))
 
 then_less : (p o : Ordering) (P : Type 0) → ordering_then p o ≡ Less → (p ≡ Less → P) → (p ≡ Equal → o ≡ Less → P) → P
 then_less Less o P e f g = f refl
@@ -65,7 +67,12 @@ pub comes_sooner : (a b : Event) → a.time < b.time → Comes a b
 comes_sooner a b h = record { not_after = omega (arith, h); strict = λ _ _. h; by_number = λ _ e. absurd (omega (arith, h, e)) }
 
 comes_first : (a b : Event) → a.time ≡ b.time → a.between ≡ false → b.between ≡ true → Comes a b
-comes_first a b e x y = record { not_after = omega (arith, e); strict = λ p _. absurd (apart _ p x); by_number = λ p _. absurd (apart _ y (sym p ∙ x)) }
+comes_first a b e x y = record {
+  not_after = omega (arith, e);
+  strict = λ p _. absurd (apart _ p x);
+  by_number = λ p _. absurd (apart _ y
+      (sym p ∙ x));
+}
 
 comes_before : (a b : Event) → a.time ≡ b.time → a.between ≡ b.between → a.link < b.link → Comes a b
 comes_before a b e x h = record { not_after = omega (arith, e); strict = λ p q. absurd (apart _ p (x ∙ q)); by_number = λ _ _. h }
@@ -87,7 +94,15 @@ equal_same a b e =
 put_at : (o : Ordering) (x k : Event) (xs ks : List Event) → event_cmp k x ≡ o
     → ((y : Event) → Has xs y → Has ks y) → Has ks k → ((y : Event) → Has ks y → (y ≡ k) ⊎ Has xs y)
     → Pushed (x ∷ xs) k (match_ordering o (k ∷ x ∷ xs) (x ∷ xs) (x ∷ ks))
-put_at Less x k xs ks e keeps has only = record { keeps = λ y h. inr h; has = inl refl; only = λ y h. elim h [ inl p ↦ inl (sym p) | inr r ↦ inr r ] }
+put_at Less x k xs ks e keeps has only = record {
+  keeps = λ y h. inr h;
+  has = inl refl;
+  only = λ y h. elim h [
+    | inl p ↦ inl (sym p)
+    | inr r
+        ↦ inr r
+  ];
+}
 put_at Equal x k xs ks e keeps has only = record { keeps = λ y h. h; has = inl (sym (equal_same k x e)); only = λ y h. inr h }
 put_at Greater x k xs ks e keeps has only = record {
   keeps = λ y h. elim h [ inl p ↦ inl p | inr r ↦ inr (keeps y r) ];
@@ -103,7 +118,10 @@ put_in (x ∷ xs) k =
 
 all_has : (P : Event → Type 0) (xs : List Event) (x : Event) → All P xs → Has xs x → P x
 all_has P [] x a h = absurd h
-all_has P (y ∷ ys) x a h = elim h [ inl p ↦ subst P p (a 0 y (omega arith)) | inr r ↦ all_has P ys x (λ k d l. a (suc k) d (omega arith)) r ]
+all_has P (y ∷ ys) x a h = elim h [
+  | inl p ↦ subst P p (a 0 y (omega arith))
+  | inr r ↦ all_has P ys x (λ k d l. a (suc k) d (omega arith)) r
+]
 
 pub taken_out : (old new : List Event) (e : Event) → old ≡ e ∷ new → All (IsLtBy event_cmp e) new → Popped old e new
 taken_out old new e p a =

@@ -1,5 +1,6 @@
 -- What a pass keeps as a message is sent.
-use Rattle.std.proofs.Common.{ℕ, Bool, true, false, cond, not, ◌&&◌, ◌==◌, ◌≡◌, ◌<◌, ◌≤◌, ◌+◌, ◌⊎◌, inl, inr, List, length, get_or, max, arith}
+use Rattle.std.proofs.Common.{ℕ, Bool, true, false, cond, not, ◌&&◌, ◌==◌, ◌≡◌, ◌<◌, ◌≤◌, ◌+◌, ◌⊎◌, inl, inr, List, length, get_or, max}
+use Rattle.std.proofs.Common.{arith}
 use Rattle.std.proofs.Common.{refl, sym, ◌∙◌, ap, subst}
 use Rattle.std.proofs.lemmas.List.{get_or-set_same, get_or-set_other, length-set}
 use Rattle.plan_core.specs.Plan.{Plan, link}
@@ -8,9 +9,11 @@ use Rattle.plan_costs.specs.declared.events.Event.{Event}
 use Rattle.plan_costs.specs.declared.numbers.LogGp.{LogGp}
 use Rattle.plan_costs.specs.declared.state.Stage.TheVariants.{Waiting, Sent}
 use Rattle.plan_costs.specs.Soonest.{Before}
-use Rattle.plan_costs.specs.Times.{IsTimed, arrival, counted, in_turn, ready, receiving, received_at, received_through, sending, sent_at, sent_through, stays, travel}
+use Rattle.plan_costs.specs.Times.{IsTimed, arrival, counted, in_turn, ready, receiving, received_at, received_through, sending, sent_at}
+use Rattle.plan_costs.specs.Times.{sent_through, stays, travel}
 use Rattle.plan_costs.specs.Events.{Comes, Has, Popped, Pushed}
-use Rattle.plan_costs.specs.State.{StateOf, HasRoom, IsCounted, IsDue, IsFlow, IsOrdered, IsPass, IsReceived, IsSent, after_send, awaits, cell_time, due_time, is_counted, is_sent, receipt_of, rest, rest_by, sending_of, stage_of}
+use Rattle.plan_costs.specs.State.{StateOf, HasRoom, IsCounted, IsDue, IsFlow, IsOrdered, IsPass, IsReceived, IsSent, after_send, awaits}
+use Rattle.plan_costs.specs.State.{cell_time, due_time, is_counted, is_sent, receipt_of, rest, rest_by, sending_of, stage_of}
 use Rattle.plan_costs.proofs.Order.{comes_sooner, same_event}
 use Rattle.plan_costs.proofs.Ports.{port_more, port_same, same_or_not, soonest_same}
 use Rattle.plan_costs.proofs.Sums.{changed_sum, same_sum}
@@ -194,7 +197,8 @@ module _ (n : LogGp) (p : Plan) (s : StateOf) (x : Event) (at : ℕ) where
 
         itself : (m : ℕ) → m ≡ x.link → (e : Event) → Has q'' e → Comes (sending_of p After m) e
         itself m y e w =
-            let same : sending_of p After m ≡ x = same_event (sending_of p After m) x (ap (ready p s.times) y ∙ sym was_ready) (sym is_away) y in
+            let same : sending_of p After m ≡ x = same_event (sending_of p After m) x (ap (ready p s.times) y ∙ sym was_ready) (sym
+            is_away) y in
             let P : Event → Type 0 = λ a. Comes a e in
             subst P (sym same) (elim (k.pushed.only e w) [
               | inl z ↦ later x e z (omega arith)
@@ -240,7 +244,8 @@ module _ (n : LogGp) (p : Plan) (s : StateOf) (x : Event) (at : ℕ) where
       ];
     }
       where
-        senders : (r : ℕ) → (r ≡ from_rank p x.link) ⊎ (r ≡ from_rank p x.link → ⊥) → get_or After.senders r 0 + rest n p After ≤ in_turn n p
+        senders : (r : ℕ) → (r ≡ from_rank p x.link) ⊎ (r ≡ from_rank p x.link → ⊥) → get_or After.senders r 0 + rest n p After ≤ in_turn n
+        p
         senders r (inl e) =
             let P : ℕ → Type 0 = λ y. get_or After.senders y 0 + rest n p After ≤ in_turn n p in
             let a = k.pass.room.queue x k.popped.had in let b = k.pass.room.senders (from_rank p x.link) in

@@ -9,7 +9,8 @@ use Rattle.plan_costs.specs.declared.state.Stage.{Stage}
 use Rattle.plan_costs.specs.declared.state.Stage.TheVariants.{Waiting, Sent, Counted}
 use Rattle.plan_costs.specs.Times.{alone, handling, receiving, sending, stays}
 use Rattle.plan_costs.specs.Events.{Pushed}
-use Rattle.plan_costs.specs.State.{StateOf, CanPass, Further, IsDue, MayTake, Settled, after_count, after_receive, after_send, after_stay, awaited_of, events_by, events_left, is_counted, rest, rest_by, stage_of}
+use Rattle.plan_costs.specs.State.{StateOf, CanPass, Further, IsDue, MayTake, Settled, after_count, after_receive, after_send, after_stay}
+use Rattle.plan_costs.specs.State.{awaited_of, events_by, events_left, is_counted, rest, rest_by, stage_of}
 use Rattle.plan_costs.proofs.Sums.{changed_sum, term_within}
 use Rattle.plan_costs.proofs.Counting.{clash, unsent}
 use Rattle.plan_costs.proofs.Sending.{Receipt, Sends, sent_pass, stage_else, stage_there}

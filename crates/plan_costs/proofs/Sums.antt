@@ -20,7 +20,8 @@ pub changed_sum : (f g : ℕ → ℕ) (k n x : ℕ) → k ≤ x → x < k + n �
     → sum_by g (from_to k n) + f x ≡ sum_by f (from_to k n) + g x
 changed_sum f g k zero x low high h = absurd (omega (arith, low, high))
 changed_sum f g k (suc n) x low high h =
-    at (same_or_not k x) (λ ne. changed_sum f g (suc k) n x (omega (arith, low, ne)) (omega (arith, high)) (λ j u v. h j (omega (arith, u)) v))
+    at (same_or_not k x) (λ ne. changed_sum f g (suc k) n x (omega (arith, low, ne)) (omega (arith, high)) (λ j u v. h j (omega (arith, u))
+    v))
   where
     a : sum_by f (k ∷ from_to (suc k) n) ≡ f k + sum_by f (from_to (suc k) n)
     a = sum_by-cons f k (from_to (suc k) n)

@@ -9,10 +9,12 @@ use Rattle.plan_costs.specs.declared.numbers.LogGp.{LogGp}
 use Rattle.plan_costs.specs.declared.state.Stage.TheVariants.{Waiting, Sent, Counted}
 use Rattle.plan_costs.specs.Times.{IsTimed, arrival, handling, in_turn, ready, receiving, received_at, sending, sent_at, stays}
 use Rattle.plan_costs.specs.Events.{Popped}
-use Rattle.plan_costs.specs.State.{StateOf, IsDue, IsPass, Settled, after_count, after_receive, after_stay, awaited_of, awaits, cell_time, due_time, is_counted, is_sent, rest, rest_by, stage_of}
+use Rattle.plan_costs.specs.State.{StateOf, IsDue, IsPass, Settled, after_count, after_receive, after_stay, awaited_of, awaits, cell_time}
+use Rattle.plan_costs.specs.State.{due_time, is_counted, is_sent, rest, rest_by, stage_of}
 use Rattle.plan_costs.proofs.Ports.{same_or_not}
 use Rattle.plan_costs.proofs.Sums.{changed_sum, term_within}
-use Rattle.plan_costs.proofs.Counting.{Counts, awaits_one, clash, flow_on, ordered_on, receipts_kept, receipts_more, room_on, sends_on, ready_kept}
+use Rattle.plan_costs.proofs.Counting.{Counts, awaits_one, clash, flow_on, ordered_on, receipts_kept, receipts_more, room_on, sends_on}
+use Rattle.plan_costs.proofs.Counting.{ready_kept}
 
 -- a link that isn't counted is awaited
 pub still_awaited : (n : LogGp) (p : Plan) (s : StateOf) (q : List Event) → IsPass n p s q → (l : ℕ) → l < length p.links
@@ -69,7 +71,8 @@ module _ (n : LogGp) (p : Plan) (s : StateOf) (x : Event) where
       sent = λ m ne. get_or-set_other s.times.sent x.link m x.time 0 ne;
       sent_here = λ z. absurd (clash (stays p x.link) k.home z);
       received = λ m ne. get_or-set_other s.times.received x.link m x.time 0 ne;
-      time = ap (λ b. cond b (received_at Stayed.times x.link) (received_at Stayed.times x.link + handling n p x.link)) k.home ∙ received_there;
+      time = ap (λ b. cond b (received_at Stayed.times x.link) (received_at Stayed.times x.link + handling n p x.link)) k.home ∙
+      received_there;
       cell_there = (let a = k.pass.sizes.cells in let h = target in
           let lt : (link p x.link).target < length s.times.cells = omega (arith, a, h) in
           get_or-set_same s.times.cells (link p x.link).target (max (cell_time s (link p x.link).target) x.time) 0 lt);
@@ -235,7 +238,8 @@ module _ (n : LogGp) (p : Plan) (s : StateOf) (x : Event) (at : ℕ) where
           (λ r. receivers r (same_or_not r (to_rank p x.link)));
     }
       where
-        receivers : (r : ℕ) → (r ≡ to_rank p x.link) ⊎ (r ≡ to_rank p x.link → ⊥) → get_or Received.receivers r 0 + rest n p Received ≤ in_turn n p
+        receivers : (r : ℕ) → (r ≡ to_rank p x.link) ⊎ (r ≡ to_rank p x.link → ⊥) → get_or Received.receivers r 0 + rest n p Received ≤
+        in_turn n p
         receivers r (inl e) =
             let P : ℕ → Type 0 = λ y. get_or Received.receivers y 0 + rest n p Received ≤ in_turn n p in
             let a = in_time in let b = rest_less in let f = receivers_there in

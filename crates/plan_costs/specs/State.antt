@@ -1,5 +1,6 @@
 -- A pass over a plan in the order of time: what is known of the times so far.
-use Rattle.std.specs.Prelude.{ℕ, Bool, true, false, not, nat_lt, ◌&&◌, ◌==◌, ◌≡◌, ◌<◌, ◌≤◌, ◌^◌, ◌+◌, ◌-◌, ◌⊎◌, List, length, get_or, set, map, max, replicate, sum_by, if◌then◌else◌}
+use Rattle.std.specs.Prelude.{ℕ, Bool, true, false, not, nat_lt, ◌&&◌, ◌==◌, ◌≡◌, ◌<◌, ◌≤◌, ◌^◌, ◌+◌, ◌-◌, ◌⊎◌, List, length, get_or, set}
+use Rattle.std.specs.Prelude.{map, max, replicate, sum_by, if◌then◌else◌}
 use Rattle.plan_core.specs.Plan.{Plan, all_cells, all_links, cell, link}
 use Rattle.plan_core.specs.Members.{In}
 use Rattle.plan_tables.specs.Rising.{of_key}
@@ -9,7 +10,8 @@ use Rattle.plan_costs.specs.declared.numbers.LogGp.{LogGp}
 use Rattle.plan_costs.specs.declared.state.Stage.{Stage}
 use Rattle.plan_costs.specs.declared.state.Stage.TheVariants.{Waiting, Sent, Counted}
 use Rattle.plan_costs.specs.Soonest.{Before, IsSoonest}
-use Rattle.plan_costs.specs.Times.{IsTimed, TimesOf, arrival, counted, in_turn, ready, receiving, received_at, received_through, sending, sent_at, sent_through, stays}
+use Rattle.plan_costs.specs.Times.{IsTimed, TimesOf, arrival, counted, in_turn, ready, receiving, received_at, received_through, sending}
+use Rattle.plan_costs.specs.Times.{sent_at, sent_through, stays}
 use Rattle.plan_costs.specs.Events.{Comes, Has, Popped}
 
 -- the times so far, where each link stands, how many links each cell still awaits, and when each rank's ports are free

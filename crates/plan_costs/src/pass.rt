@@ -2,7 +2,8 @@
 
 ghost use Rattle.std.specs.Prelude.{ℕ, ◌≡◌, ◌<◌, ◌≤◌, ◌^◌, false, true, [], IfOk, MatchResult, length};
 ghost use Rattle.plan_core.specs.Plan.{link};
-ghost use Rattle.plan_costs.specs.State.{AreLinksFrom, Filled, Further, IsCourse, IsPass, MayTake, Opened, Settled, after_count, awaited_of, links_from, opening, stage_of};
+ghost use Rattle.plan_costs.specs.State.{AreLinksFrom, Filled, Further, IsCourse, IsPass, MayTake, Opened, Settled, after_count};
+ghost use Rattle.plan_costs.specs.State.{awaited_of, links_from, opening, stage_of};
 ghost use Rattle.plan_costs.specs.Times.{AreTimes, IsTimed, in_turn, stays};
 
 use crate::events::{Event, Queue};

@@ -2,7 +2,8 @@
 
 ghost use Rattle.std.specs.Prelude.{◌≡◌, ◌<◌, ◌≤◌, ◌+◌, ◌^◌, ◌↔◌, IfOk, IsTrue, get_or, length, map, max, replicate};
 ghost use Rattle.plan_core.specs.Plan.{all_cells};
-ghost use Rattle.plan_costs.specs.State.{HaveSizes, after_count, after_receive, after_send, after_stay, awaited_first, awaited_of, cell_time, first, stage_of};
+ghost use Rattle.plan_costs.specs.State.{HaveSizes, after_count, after_receive, after_send, after_stay, awaited_first, awaited_of};
+ghost use Rattle.plan_costs.specs.State.{cell_time, first, stage_of};
 ghost use Rattle.plan_costs.specs.Times.{IsTimed};
 
 use crate::times::Times;

@@ -13,7 +13,8 @@ settle-requires-clause-some c =
     let target = ap (λ (k : Link). k.target) c.link_at-target.ensures in
     let P : ℕ → Type 0 = λ t. 1 ≤ awaited_of c.args.state.now t in
     let R : StateOf → Type 0 = λ s. 1 ≤ awaited_of s c.link_at-target.result.target in
-    subst R (sym c.stay.ensures) (subst P (sym target) (may_await n p c.args.state.now c.args.event c.args.queue.now c.requires.course.can c.requires.may))
+    subst R (sym c.stay.ensures) (subst P (sym target) (may_await n p c.args.state.now c.args.event c.args.queue.now c.requires.course.can
+    c.requires.may))
 
 pub returns : goal.returns
 returns c =

@@ -29,7 +29,8 @@ overflow_add-at c =
     let n = c.args.course.now.numbers in
     let p = c.args.course.now.plan.now in
     let f = receiving_fits n p c.args.state.now c.args.event c.args.queue.now c.requires.course.can c.requires.may c.requires.sent in
-    let a = c.receive-at.ensures.at ∙ ap (λ r. max c.args.event.time (get_or c.args.state.now.receivers r 0)) c.to_rank-rank.ensures.value in
+    let a = c.receive-at.ensures.at ∙ ap (λ r. max c.args.event.time (get_or c.args.state.now.receivers r 0)) c.to_rank-rank.ensures.value
+    in
     let b = c.spans_of-spans.ensures.handling in
     omega (arith, f, a, b)
 
@@ -56,5 +57,6 @@ returns c =
     c.to_rank-rank.ensures.value c.to_rank-rank.ensures.rank c.spans_of-spans.ensures.receiving
     (ap (λ v. c.receive-at.result + v) c.spans_of-spans.ensures.handling) c.receive-at.ensures.at
     (c.settle.ensures.state
-    ∙ ap (λ s. after_count s c.link_at-target.result.target (c.receive-at.result + c.spans_of-spans.result.handling)) c.receive-at.ensures.after) o)
+    ∙ ap (λ s. after_count s c.link_at-target.result.target (c.receive-at.result + c.spans_of-spans.result.handling))
+    c.receive-at.ensures.after) o)
     c.settle.ensures.queue
