@@ -731,7 +731,8 @@ def judge(program):
         print(f"{rule}: {', '.join(found)}")
 
 
-if sys.argv[1:2] == ["--judge"]:
-    judge(sys.argv[2])
-else:
-    print("\n".join(answered(sys.stdin.read().splitlines(), *sys.argv[1:2])))
+if __name__ == "__main__":
+    if sys.argv[1:2] == ["--judge"]:
+        judge(sys.argv[2])
+    else:
+        print("\n".join(answered(sys.stdin.read().splitlines(), *sys.argv[1:2])))
