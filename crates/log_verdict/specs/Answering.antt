@@ -155,7 +155,7 @@ filled_text k o None = owed_text k o
 filled_text k o (Some name) = before_name k o ++ 32 ∷ name
 
 abbrev pub filled_as : Option (List ℕ) → After → Scene → Came
-filled_as name a others = taken_as a name 1 (steps.Owes (filled_text (known_at (Some a.seat) [] others) a.owed name)) others
+filled_as name a others = came (with_answer a name others) (steps.Owes (filled_text (known_at (Some a.seat) [] others) a.owed name))
 
 -- ---- what comes of the answer of an interface among others
 

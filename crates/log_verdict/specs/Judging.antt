@@ -136,6 +136,11 @@ abbrev pub verdict_given : Taken → Option Verdict
 verdict_given (takes.Ends v) = Some v
 verdict_given _ = None
 
+-- where answers are written, a line that is refused or differs changes nothing but the number of lines
+abbrev pub Unchanged : Judge → Taken → Judge → Type 0
+Unchanged j (takes.Ends v) k = j.fills ≡ true → k ≡ next_line j
+Unchanged j _ k = Unit {0}
+
 -- a line after which the log goes on
 pub data Passes (j : Judge) (line : List ℕ) (k : Judge) : Type 0 where
   Judged : LineTook (next_line j) line (took k takes.Goes) → Passes j line k

@@ -3,3 +3,4 @@ pub mod Answering
 pub mod Settling
 pub mod Steps
 pub mod Judging
+pub mod Filling

@@ -12,6 +12,7 @@ ghost use Rattle.log_verdict.specs.declared.answering.Compared.TheVariants as co
 ghost use Rattle.log_verdict.specs.declared.answering.Step.TheVariants as steps;
 
 use crate::filling::{chosen_name, filled_text};
+use crate::kept::Kept;
 use crate::printed::Printed;
 use crate::scenes::{Around, Scene};
 use log_answers::names::Flights;
@@ -137,7 +138,7 @@ fn is_taken(flights: &Flights, sent: &Option<Message>, word: Option<&[u8]>) -> b
 }
 
 /// An interface with the word for what is new there.
-fn with_new(alloc: Global, seat: Seat, owed: &Owed, word: Option<&[u8]>) -> Result<Seat, NoMemory>
+fn with_new(alloc: Global, seat: Kept, owed: &Owed, word: Option<&[u8]>) -> Result<Kept, NoMemory>
     ensures { IfOk result (λ s. s ≡ with_new owed.now (option_copied word.entry) seat) }
 {
     let mut seat = seat;
@@ -174,7 +175,7 @@ fn send(
 pub(crate) fn takes(
     alloc: Global,
     scene: &mut Scene,
-    seat: Seat,
+    seat: Kept,
     after: After,
     word: Option<&[u8]>,
 ) -> Result<(), NoMemory>
@@ -182,7 +183,7 @@ pub(crate) fn takes(
 {
     let After { owed, sent } = after;
     let named = with_new(alloc, seat, &owed, word)?;
-    let rank = named.nic.rank();
+    let rank = named.seat().nic.rank();
     scene.seats.put(u64::from(rank), named)?;
     send(alloc, &mut scene.flights, sent, word)
 }
@@ -191,7 +192,7 @@ pub(crate) fn takes(
 fn taken_as(
     alloc: Global,
     scene: &mut Scene,
-    seat: Seat,
+    seat: Kept,
     after: After,
     word: Option<&[u8]>,
     column: usize,
@@ -210,7 +211,7 @@ fn taken_as(
 fn agreed(
     alloc: Global,
     scene: &mut Scene,
-    seat: Seat,
+    seat: Kept,
     after: After,
     word: Option<Word>,
 ) -> Result<Step, NoMemory>
@@ -243,27 +244,24 @@ fn bytes_of(name: &Option<Printed>) -> Option<&[u8]>
 fn filled_as(
     alloc: Global,
     scene: &mut Scene,
-    seat: Seat,
+    seat: Kept,
     after: After,
     word: Option<&[u8]>,
 ) -> Result<Step, NoMemory>
     ensures { IfOk result (λ step.
         came scene.new step ≡ filled_as (option_copied word.entry) (left seat after) scene.old) }
 {
-    if is_taken(&scene.flights, &after.sent, word) {
-        return Ok(flawed(1, Flaw::NameTaken));
-    }
-    let text = filled_text(alloc, scene, &seat, &after.owed, word)?;
+    let text = filled_text(alloc, scene, seat.seat(), &after.owed, word)?;
     takes(alloc, scene, seat, after, word)?;
     Ok(Step::Owes(text))
 }
 
 /// Writes what is owed, with a name of its own for what is new.
-fn filled(alloc: Global, scene: &mut Scene, seat: Seat, after: After) -> Result<Step, NoMemory>
+fn filled(alloc: Global, scene: &mut Scene, seat: Kept, after: After) -> Result<Step, NoMemory>
     ensures { IfOk result (λ step.
         came scene.new step ≡ filled_as (chosen_name scene.old.flights seat after.owed) (left seat after) scene.old) }
 {
-    let name = chosen_name(alloc, &scene.flights, &seat, &after.owed)?;
+    let name = chosen_name(alloc, &scene.flights, seat.seat(), &after.owed)?;
     let step = filled_as(alloc, scene, seat, after, bytes_of(&name))?;
     Ok(step)
 }
@@ -272,14 +270,14 @@ fn filled(alloc: Global, scene: &mut Scene, seat: Seat, after: After) -> Result<
 fn judged(
     alloc: Global,
     scene: &mut Scene,
-    seat: Seat,
+    seat: Kept,
     said: &Rest,
     after: After,
 ) -> Result<Step, NoMemory>
     ensures { IfOk result (λ step. came scene.new step ≡
         judged_as (compared_with (known_at (Some seat) [] scene.old) after.owed said.now) (left seat after) scene.old) }
 {
-    let compared = held_against(alloc, scene, Some(&seat), b"", said, &after.owed)?;
+    let compared = held_against(alloc, scene, Some(seat.seat()), b"", said, &after.owed)?;
     match compared {
         Compared::Agrees(word) => {
             let step = agreed(alloc, scene, seat, after, word)?;
@@ -294,7 +292,7 @@ fn judged(
 pub(crate) fn answered(
     alloc: Global,
     scene: &mut Scene,
-    seat: Seat,
+    seat: Kept,
     said: Option<Rest>,
     after: After,
 ) -> Result<Step, NoMemory>

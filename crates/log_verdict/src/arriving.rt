@@ -9,7 +9,7 @@ use crate::answering::{Step, answered, flawed, spaced};
 use crate::scenes::Scene;
 use guarded_ni::Misuse;
 use log_answers::names::{Flight, Flights};
-use log_seats::{arrives, misuse_word, told};
+use log_seats::{misuse_word, told};
 use log_words::{Flaw, Rest, Word};
 use ptl_types::{NoMemory, Rank};
 use std::alloc::Global;
@@ -93,7 +93,7 @@ fn arrives_at(
     let Some(message) = scene.flights.take(age) else {
         return Err(NoMemory);
     };
-    let after = arrives(&mut seat, message);
+    let after = seat.arrives(message);
     let step = answered(alloc, scene, seat, said, after)?;
     Ok(step)
 }

@@ -4,7 +4,7 @@ ghost use Rattle.std.specs.Prelude.{◌≡◌, ◌∷◌, [], IfOk, false, true}
 ghost use Rattle.coll_text.specs.Text.{words};
 ghost use Rattle.log_verdict.specs.Judging.{BodyTook, IsNew, LineJudged, LineTook, ShortTook, StepTook, became, end_verdict, ended_with};
 ghost use Rattle.log_verdict.specs.Judging.{heads, next_line, ranks_of, ranks_taken, refused, refuses, refuses_long, tells_ranks};
-ghost use Rattle.log_verdict.specs.Judging.{too_long, took, unended_with, verdict_given, with_counted};
+ghost use Rattle.log_verdict.specs.Judging.{Unchanged, too_long, took, unended_with, verdict_given, with_counted};
 
 use crate::answering::Step;
 use crate::printed::Printed;
@@ -301,13 +301,15 @@ impl Judge {
         }
     }
 
-    /// Takes the next line, without its LF. A line that is refused changes nothing but the number of lines.
+    /// Takes the next line, without its LF. Where answers are filled in, a line that is refused or differs changes nothing but the number
+    /// of lines.
     ///
     /// # Errors
     ///
     /// There was no memory; there is no verdict then.
     pub fn take(&mut self, line: &[u8]) -> Result<Taken, NoMemory>
-        ensures { IfOk result (λ t. LineTook (next_line self.old) line.now (took self.new t)) }
+        ensures took { IfOk result (λ t. LineTook (next_line self.old) line.now (took self.new t)) }
+        ensures stays { IfOk result (λ t. Unchanged self.old t self.new) }
     {
         self.line = self.line.saturating_add(1);
         let taken = self.take_due(line)?;

@@ -6,14 +6,17 @@
 
 mod answering;
 mod arriving;
+mod filler;
 mod filling;
 mod judge;
+mod kept;
 mod printed;
 mod scenes;
 mod settling;
 mod steps;
 mod whole;
 
+pub use filler::{Filled, Filler, filled_logs_conform};
 pub use judge::{Judge, Taken, Verdict};
 pub use printed::Printed;
 pub use whole::verdict_of;

@@ -4,6 +4,7 @@ ghost use Rattle.std.specs.Prelude.{◌≡◌, is_some};
 ghost use Rattle.std.specs.Option.{option_copied};
 ghost use Rattle.log_verdict.specs.Scenes.{descriptor_word_at, known_at, no_interfaces, part_of, seat_at, seat_of};
 
+use crate::kept::Kept;
 use log_answers::names::{ByNumber, Flights};
 use log_answers::{Knows, Sort};
 use log_seats::Seat;
@@ -15,7 +16,7 @@ use std::alloc::Global;
 pub(crate) struct Scene {
     pub(crate) ranks: u32,
     pub(crate) any_order: bool,
-    pub(crate) seats: ByNumber<Seat>,
+    pub(crate) seats: ByNumber<Kept>,
     pub(crate) flights: Flights,
 }
 
@@ -36,7 +37,10 @@ impl Scene {
     pub(crate) fn seat(&self, rank: Rank) -> Option<&Seat>
         ensures { option_copied result ≡ seat_at rank self.now }
     {
-        self.seats.get(u64::from(rank))
+        match self.seats.get(u64::from(rank)) {
+            Some(kept) => Some(kept.seat()),
+            None => None,
+        }
     }
 
     /// Whether the interface of a rank is open.

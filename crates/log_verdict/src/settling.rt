@@ -5,7 +5,7 @@ ghost use Rattle.log_verdict.specs.Settling.{ArrivesAs, FiredOrRests, FiresAs, M
 
 use crate::answering::takes;
 use crate::scenes::Scene;
-use log_seats::{arrives, fire_number, ready_number};
+use log_seats::ready_number;
 use ptl_types::{NoMemory, Rank};
 use std::alloc::Global;
 
@@ -32,7 +32,7 @@ fn arrive(alloc: Global, scene: &mut Scene, age: u64, target: Rank) -> Result<()
     let Some(message) = scene.flights.take(age) else {
         return Err(NoMemory);
     };
-    let after = arrives(&mut seat, message);
+    let after = seat.arrives(message);
     takes(alloc, scene, seat, after, None)?;
     Ok(())
 }
@@ -41,8 +41,9 @@ fn arrive(alloc: Global, scene: &mut Scene, age: u64, target: Rank) -> Result<()
 fn next_ready(scene: &Scene) -> Option<(Rank, u32)>
     ensures { result ≡ next_ready scene.now.seats }
 {
-    for (rank, seat) in scene.seats.iter() {
+    for (rank, kept) in scene.seats.iter() {
         let _ = rank;
+        let seat = kept.seat();
         if let Some(number) = ready_number(&seat.nic, 0) {
             return Some((seat.nic.rank(), number));
         }
@@ -57,7 +58,7 @@ fn fire(alloc: Global, scene: &mut Scene, rank: Rank, number: u32) -> Result<(),
     let Some(mut seat) = scene.seats.take(u64::from(rank)) else {
         return Err(NoMemory);
     };
-    let after = fire_number(&mut seat, number);
+    let after = seat.fire(number);
     takes(alloc, scene, seat, after, None)?;
     Ok(())
 }

@@ -10,13 +10,14 @@ ghost use Rattle.log_verdict.specs.Steps.{says_no_memory, taken_by, taken_word, 
 
 use crate::answering::{Step, answered, flawed, said_of, said_or_owed};
 use crate::arriving::deliver;
+use crate::kept::Kept;
 use crate::scenes::Scene;
 use crate::settling::settle;
 use coll_text::is;
 use log_answers::Owed;
 use log_answers::names::Flight;
 use log_lines::{Call, Line};
-use log_seats::{Seat, answer, bytes_in, refused, word};
+use log_seats::{Seat, bytes_in, refused, word};
 use log_words::call_fields::Opening;
 use log_words::{Flaw, LineFault, Rest, Word, at};
 use ptl_types::{Bytes, NoMemory, Rank};
@@ -49,7 +50,8 @@ fn open(
     match guarded_ni::open(alloc, rank, scene.ranks, opening.limits, region) {
         Ok(nic) => {
             let step = said_or_owed(alloc, scene, said, &word(b"ok"))?;
-            scene.seats.put(u64::from(rank), Seat::new(alloc, nic))?;
+            let kept = Kept::of(alloc, Seat::new(alloc, nic))?;
+            scene.seats.put(u64::from(rank), kept)?;
             Ok(step)
         }
         Err(fault) => {
@@ -208,7 +210,7 @@ fn asks(
     let Some(mut seat) = scene.seats.take(u64::from(rank)) else {
         return Err(NoMemory);
     };
-    let after = answer(alloc, &mut seat, call)?;
+    let after = seat.answer(alloc, call)?;
     let step = answered(alloc, scene, seat, said, after)?;
     Ok(step)
 }

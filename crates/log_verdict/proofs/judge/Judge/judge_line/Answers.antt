@@ -12,4 +12,4 @@ judged j k line (takes.Owes text) h = Written text h
 judged j k line (takes.Ends v) h = h
 
 pub returns : goal.returns
-returns c = rw c.verdict_given.ensures (judged _ _ _ _ c.in_ok-taken.ensures)
+returns c = rw c.verdict_given.ensures (judged _ _ _ _ c.in_ok-taken.ensures.took)
