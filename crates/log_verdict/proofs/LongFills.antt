@@ -30,7 +30,7 @@ long_ends f g line more v long (Refused h) =
     let same : t.v ≡ v = let e = t.is in cc in
     record {
       fill_ends = Refused (subst (λ (w : Verdict). LineTook (next_line f.fills) (line ++ more) (took g.fills (takes.Ends w))) same t.took);
-      ends = ap (λ (w : Verdict). end_or w (end_verdict (next_line f.judges) [])) t.ends ∙ t.stops (end_verdict (next_line f.judges) []) ∙ same;
+      ends = let other = end_verdict (next_line f.judges) [] in ap (λ (w : Verdict). end_or w other) t.ends ∙ t.stops other ∙ same;
     }
 long_ends f g line more v long (Unfit taken text h is wrong) =
     let t = long_took (next_line f.fills) g.fills line [] taken long h in

@@ -1,5 +1,6 @@
 -- A line after which a log goes on has no LF.
-use Rattle.std.proofs.Common.{◌≡◌, ◌≢◌, ℕ, ◌-◌, ◌^◌, ◌≤◌, List, [], ◌∷◌, length, Bool, true, false, cond, codes, not, ◌&&◌, get_or, Option, Some, None}
+use Rattle.std.proofs.Common.{◌≡◌, ◌≢◌, ℕ, ◌-◌, ◌^◌, ◌≤◌, List, [], ◌∷◌, length, Bool, true, false, cond, codes, not, ◌&&◌, get_or}
+use Rattle.std.proofs.Common.{Option, Some, None}
 use Rattle.std.proofs.Common.{Ok, refl, sym, subst, arith}
 use Rattle.std.specs.Prelude.{◌==◌, All, nat_le, option_and_then}
 use Rattle.std.specs.List.{AllByRecursion, list_all, position, position_or_len}
@@ -78,11 +79,14 @@ number_digits (b ∷ c ∷ bs) h =
     let q = both (is_digit b) (not (b == 48)) p.0 in
     rw (q.0, p.1) refl
 
+abbrev in_range : ℕ → ℕ → ℕ → Option ℕ
+in_range low high n = cond (nat_le low n && nat_le n high) (Some n) None
+
 between_allowed : (low high n : ℕ) (w : List ℕ) → number_between low high w ≡ Some n → Allowed w
 between_allowed low high n w e = at (is_number w) refl e
   where
     at : (b : Bool) → is_number w ≡ b
-        → option_and_then (λ n. cond (nat_le low n && nat_le n high) (Some n) None) (cond b (Some (with_digits 0 w)) None) ≡ Some n → Allowed w
+        → option_and_then (in_range low high) (cond b (Some (with_digits 0 w)) None) ≡ Some n → Allowed w
     at true is e = passes_too is_digit is_allowed w digit_allowed (number_digits w is)
     at false is e = absurd cc
 

@@ -142,7 +142,8 @@ module _ (j : Judge) (v : Verdict) where
 
   heads_kept : (line : List ℕ) → Keeps (heads j line)
   heads_kept line =
-      either (too_long line) _ _ (λ e. refl) (either (bytes_eq line (codes "ni 1")) _ _ (λ (e : takes.Goes ≡ takes.Ends v). absurd cc) (λ e. refl))
+      let goes : Keeps (took (record j { stage = Ranks }) takes.Goes) = λ (e : takes.Goes ≡ takes.Ends v). absurd cc in
+      either (too_long line) _ _ (λ e. refl) (either (bytes_eq line (codes "ni 1")) _ _ goes (λ e. refl))
 
   ranks_kept : (o : Option ℕ) → Keeps (ranks_taken o j)
   ranks_kept None = λ e. refl
