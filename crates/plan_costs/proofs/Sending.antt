@@ -245,7 +245,7 @@ module _ (n : LogGp) (p : Plan) (s : StateOf) (x : Event) (at : ℕ) where
     }
       where
         senders : (r : ℕ) → (r ≡ from_rank p x.link) ⊎ (r ≡ from_rank p x.link → ⊥) → get_or After.senders r 0 + rest n p After ≤ in_turn n
-        p
+            p
         senders r (inl e) =
             let P : ℕ → Type 0 = λ y. get_or After.senders y 0 + rest n p After ≤ in_turn n p in
             let a = k.pass.room.queue x k.popped.had in let b = k.pass.room.senders (from_rank p x.link) in

@@ -72,7 +72,7 @@ module _ (n : LogGp) (p : Plan) (s : StateOf) (x : Event) where
       sent_here = λ z. absurd (clash (stays p x.link) k.home z);
       received = λ m ne. get_or-set_other s.times.received x.link m x.time 0 ne;
       time = ap (λ b. cond b (received_at Stayed.times x.link) (received_at Stayed.times x.link + handling n p x.link)) k.home ∙
-      received_there;
+          received_there;
       cell_there = (let a = k.pass.sizes.cells in let h = target in
           let lt : (link p x.link).target < length s.times.cells = omega (arith, a, h) in
           get_or-set_same s.times.cells (link p x.link).target (max (cell_time s (link p x.link).target) x.time) 0 lt);
@@ -239,7 +239,7 @@ module _ (n : LogGp) (p : Plan) (s : StateOf) (x : Event) (at : ℕ) where
     }
       where
         receivers : (r : ℕ) → (r ≡ to_rank p x.link) ⊎ (r ≡ to_rank p x.link → ⊥) → get_or Received.receivers r 0 + rest n p Received ≤
-        in_turn n p
+            in_turn n p
         receivers r (inl e) =
             let P : ℕ → Type 0 = λ y. get_or Received.receivers y 0 + rest n p Received ≤ in_turn n p in
             let a = in_time in let b = rest_less in let f = receivers_there in
