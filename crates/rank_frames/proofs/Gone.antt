@@ -1,31 +1,34 @@
 -- Steps one after the other, and each kind of step.
 use Rattle.std.proofs.Common.{ℕ, zero, suc, Bool, true, false, not, cond, ◌&&◌, ◌≡◌, ◌+◌, ◌-◌, ◌<◌, ◌≤◌, ◌==◌, List, [], ◌∷◌, ◌++◌}
 use Rattle.std.proofs.Common.{Result, Ok, Err, length, refl, sym, ap, ap₂, ◌∙◌, subst, arith}
-use Rattle.std.proofs.Common.{append_assoc, length-append, get_or, eqb-true, inl, inr}
+use Rattle.std.proofs.Common.{append_assoc, count_by, length-append, get_or, eqb-true, inl, inr, Option}
 use Rattle.std.proofs.Common.{get_or-set_other, get_or-set_same, length-set}
-use Rattle.std.proofs.lemmas.Bool.{cases_Bool, eqb-false}
+use Rattle.std.specs.Result.{OnOk}
+use Rattle.std.proofs.lemmas.Bool.{cases_Bool, eqb-false, ne_eqb}
 use Rattle.std.proofs.lemmas.List.Elements.{filter-append}
 use Rattle.std.proofs.lemmas.Grind.{flat_map-append}
 use Rattle.std.proofs.lemmas.List.{append-nil}
+use Rattle.std.proofs.lemmas.List.Sums.{sum_by-append}
 use Rattle.ptl_types.specs.Kinds.{lane_of}
 use Rattle.ptl_types.specs.Messages.{Sent}
 use Rattle.ptl_types.specs.declared.headers.Lane.{Lane}
 use Rattle.ptl_types.specs.declared.headers.Lane.TheVariants.{Request, Answer}
 use Rattle.port_io.specs.Ends.{Outflow}
 use Rattle.run_text.specs.Putting.{Takes}
-use Rattle.run_text.proofs.Taking.{Takes-none, Takes-then, Takes-more}
+use Rattle.run_text.proofs.Taking.{Rose-later, Takes-none, Takes-then, Takes-more}
 use Rattle.cuts.specs.histories.Cut.{is_stray, owned}
-use Rattle.cuts.specs.histories.History.{Local, and_then, got, made, made_by, same_lane, state}
+use Rattle.cuts.specs.histories.History.{Local, and_then, got, is_start, made, made_by, same_lane, state}
 use Rattle.cuts.specs.histories.History.Local.{Start, Receive, Fire}
 use Rattle.cuts.proofs.histories.Fronts.{got-append, made-append, state-append}
 use Rattle.rank_node.specs.Copies.{Diary, bytes_received}
 use Rattle.rank_node.specs.Node.{IsStarted, start_of}
-use Rattle.rank_frames.specs.Due.{Dues, due_on, with_taken}
+use Rattle.rank_frames.specs.Due.{Dues, due_on, messages_due, with_taken}
 use Rattle.message_codec.specs.Encoding.{encoding}
 use Rattle.rank_frames.specs.Frames.{frame, frames_for, frames_of, given}
-use Rattle.rank_frames.specs.Going.{Goes, GoesOn, HasGone, IsOutside, Stops, Writes}
-use Rattle.rank_frames.specs.Place.{PlaceState, fired_place, received_place}
+use Rattle.rank_frames.specs.Going.{Fails, Goes, GoesOn, HasGone, Wants, Writes}
+use Rattle.rank_frames.specs.Place.{PlaceState, fired_place, frames_left, is_new, received_place}
 use Rattle.rank_frames.specs.declared.fault.Stop.{Stop}
+use Rattle.rank_frames.specs.declared.fault.Stop.TheVariants.{Read, Write, NoMemory, Frame}
 
 -- ---- none, and one after the other
 
@@ -221,32 +224,101 @@ goes-then p q r a b c xs ys rest g h = record {
       (Takes-more a b (frames_of g.messages) [] (frames_of h.messages) g.text) h.text);
 }
 
-pub stops-then : (e : Stop) (p q r : PlaceState) (a b c : Outflow) (xs : List ℕ) → GoesOn p q a b xs [] → Stops e q r b c → Stops e p r a c
-stops-then e p q r a b c xs g h = record {
-  bytes = xs ++ h.bytes;
+-- the sink failed later on
+pub fails-then : (p q r : PlaceState) (a b c : Outflow) (xs ys : List ℕ) → GoesOn p q a b xs [] → Fails q r b c ys
+    → Fails p r a c (xs ++ ys)
+fails-then p q r a b c xs ys g h = record {
   rest = h.rest;
-  on = goes-then p q r a b c xs h.bytes h.rest g h.on;
-  outside = h.outside;
+  on = goes-then p q r a b c xs ys h.rest g h.on;
+  rose = Rose-later a.faults b.faults c.faults g.text.faults h.rose;
 }
 
--- steps that were made, and what was written of their messages
-pub step-goes : (p q : PlaceState) (es : List Local) (ms : List Sent) (bytes : List ℕ) (r : Result (Unit {0}) Stop) (a b : Outflow)
-    → HasGone p q es ms → frames_for es ≡ bytes → Writes r a b (frames_of ms) → Goes r p q a b bytes
-step-goes p q es ms bytes (Ok done) a b gone fed text = record { steps = es; messages = ms; gone = gone; fed = fed; text = text }
-step-goes p q es ms bytes (Err e) a b gone fed left = record {
-  bytes = bytes;
-  rest = left.0;
-  on = record { steps = es; messages = ms; gone = gone; fed = fed; text = left.1 };
-  outside = left.2;
+-- later on there was no memory
+pub wants-then : (p q r : PlaceState) (a b c : Outflow) (xs ys : List ℕ) → GoesOn p q a b xs [] → Wants q r b c ys
+    → Wants p r a c (xs ++ ys)
+wants-then p q r a b c xs ys g h = record {
+  unsent = h.unsent;
+  on = goes-then p q r a b c xs ys (frames_of (and_then h.unsent [])) g h.on;
 }
+
+-- steps that were made, and what was written of their message
+pub step-goes : (p q : PlaceState) (es : List Local) (o : Option Sent) (bytes : List ℕ) (r : Result (Unit {0}) Stop) (a b : Outflow)
+    → HasGone p q es (and_then o []) → frames_for es ≡ bytes → Writes r a b (frames_of (and_then o [])) → Goes r p q a b bytes
+step-goes p q es o bytes (Ok done) a b gone fed text =
+    record { steps = es; messages = and_then o []; gone = gone; fed = fed; text = text }
+step-goes p q es o bytes (Err Write) a b gone fed fails = record {
+  rest = fails.rest;
+  on = record { steps = es; messages = and_then o []; gone = gone; fed = fed; text = fails.begun };
+  rose = fails.rose;
+}
+step-goes p q es o bytes (Err NoMemory) a b gone fed same =
+    let text = frames_of (and_then o []) in
+    record {
+      unsent = o;
+      on = record {
+        steps = es;
+        messages = and_then o [];
+        gone = gone;
+        fed = fed;
+        text = subst (λ x. Takes a x text text) (sym same) (Takes-none a text);
+      };
+    }
+step-goes p q es o bytes (Err Read) a b gone fed none = absurd none
+step-goes p q es o bytes (Err (Frame fault)) a b gone fed none = absurd none
 
 -- then more
 pub goes-on : (p q s : PlaceState) (a b c : Outflow) (xs ys : List ℕ) (r : Result (Unit {0}) Stop)
     → GoesOn p q a b xs [] → Goes r q s b c ys
     → Goes r p s a c (xs ++ ys)
 goes-on p q s a b c xs ys (Ok done) g h = goes-then p q s a b c xs ys [] g h
-goes-on p q s a b c xs ys (Err e) g h = stops-then e p q s a b c xs g h
+goes-on p q s a b c xs ys (Err Write) g h = fails-then p q s a b c xs ys g h
+goes-on p q s a b c xs ys (Err NoMemory) g h = wants-then p q s a b c xs ys g h
+goes-on p q s a b c xs ys (Err Read) g none = absurd none
+goes-on p q s a b c xs ys (Err (Frame fault)) g none = absurd none
 
--- nothing was done
-pub stops-none : (e : Stop) (p : PlaceState) (o : Outflow) → IsOutside e → Stops e p p o o
-stops-none e p o outside = record { bytes = []; rest = []; on = goes-none p o; outside = outside }
+-- ---- how many frames are left
+
+-- of what there was more of nothing there is less than nothing
+fewer-new : (m n : ℕ) → m ≤ n → cond (n == 0) 1 0 ≤ cond (m == 0) 1 0
+fewer-new m n h = elim (cases_Bool (n == 0)) [
+  | inl none ↦ (let e = eqb-true n 0 none in let z : m ≡ 0 = omega (arith, h, e) in rw (z, none) (omega arith))
+  | inr some ↦ rw some (omega arith)
+]
+
+-- who has started stays so
+pub no-newer : (p q : PlaceState) (es : List Local) (ms : List Sent) → HasGone p q es ms
+    → cond (is_new q) 1 0 ≤ cond (is_new p) 1 0
+no-newer p q es ms gone =
+    let before = p.node.diary.locals in
+    let more : count_by is_start q.node.diary.locals ≡ count_by is_start before + count_by is_start es =
+    ap (λ (l : List Local). count_by is_start l) gone.locals ∙ sum_by-append (λ (e : Local). cond (is_start e) 1 0) before es in
+    fewer-new (count_by is_start before) (count_by is_start q.node.diary.locals) (omega (arith, more))
+
+-- a start, and what was fired then
+pub start-fewer : (p q s : PlaceState) (es : List Local) (ms : List Sent) → IsStarted p.node q.node → q.due ≡ p.due
+    → count_by is_start p.node.diary.locals ≡ 0 → HasGone q s es ms → s.due ≡ q.due → frames_left s < frames_left p
+start-fewer p q s es ms st due none gone same =
+    let started : count_by is_start q.node.diary.locals ≡ count_by is_start p.node.diary.locals + 1 =
+    ap (λ (d : Diary). count_by is_start d.locals) st.diary ∙ sum_by-append (λ (e : Local). cond (is_start e) 1 0) p.node.diary.locals
+    (Start ∷ []) in
+    let old : is_new p ≡ true = ap (λ n. n == 0) none in
+    let begun : is_new q ≡ false = ne_eqb (count_by is_start q.node.diary.locals) 0 (λ e. omega (arith, e, started)) in
+    let later = no-newer q s es ms gone in
+    let few : cond (is_new q) 1 0 ≡ 0 = ap {B = ℕ} (λ b. cond b 1 0) begun in
+    let one : cond (is_new p) 1 0 ≡ 1 = ap {B = ℕ} (λ b. cond b 1 0) old in
+    let all : messages_due s.due ≡ messages_due p.due = ap (λ (d : Dues). messages_due d) (same ∙ due) in
+    omega (arith, later, few, one, all)
+
+-- a receipt, and what was fired then
+follow-fewer : (p q : PlaceState) (es : List Local) (ms : List Sent) → HasGone p q es ms
+    → messages_due q.due + 1 ≡ messages_due p.due → frames_left q < frames_left p
+follow-fewer p q es ms gone less = let later = no-newer p q es ms gone in omega (arith, later, less)
+
+pub all-fewer : (r : Result (Unit {0}) Stop) (p q s : PlaceState) (b c : Outflow) (ys : List ℕ) (es : List Local) (ms : List Sent)
+    → HasGone p q es ms → messages_due q.due + 1 ≡ messages_due p.due → Goes r q s b c ys → s.due ≡ q.due
+    → OnOk r (frames_left s < frames_left p)
+all-fewer (Ok done) p q s b c ys es ms gone less went same =
+    let all : messages_due s.due ≡ messages_due q.due = ap (λ (d : Dues). messages_due d) same in
+    follow-fewer p s (es ++ went.steps) (ms ++ went.messages) (gone-then p q s es went.steps ms went.messages gone went.gone)
+    (omega (arith, all, less))
+all-fewer (Err e) p q s b c ys es ms gone less went same = tt

@@ -26,7 +26,7 @@ fire-goes p q t o r a b step message text =
     let fires = λ (x : Option Sent). HasGone p (fired_place t p) (Fire t ∷ []) (and_then x []) in
     let made = subst fires (sym message) (gone-fire p t) in
     let gone = subst (λ (x : PlaceState). HasGone p x (Fire t ∷ []) (and_then o [])) (sym step) made in
-    step-goes p q (Fire t ∷ []) (and_then o []) [] r a b gone refl text
+    step-goes p q (Fire t ∷ []) o [] r a b gone refl text
 
 pub start-goes : (p q : PlaceState) (a : Outflow) → IsStarted p.node q.node → q.me ≡ p.me → q.due ≡ p.due → GoesOn p q a a mark []
 start-goes p q a st me due = record {
@@ -46,7 +46,7 @@ receive-goes p q source m o r a b none step message text =
     let makes = λ (x : Option Sent). HasGone p (received_place source m p) es (and_then x []) in
     let made = subst makes (sym message) (gone-receive p source m is.due is.own is.bytes) in
     let gone = subst (λ (x : PlaceState). HasGone p x es (and_then o [])) (sym step) made in
-    step-goes p q es (and_then o []) (frame source (encoding m)) r a b gone (append-nil (frame source (encoding m))) text
+    step-goes p q es o (frame source (encoding m)) r a b gone (append-nil (frame source (encoding m))) text
 
 -- and what is ready then
 pub then-all : (p q s : PlaceState) (a b c : Outflow) (xs : List ℕ) (r : Result (Unit {0}) Stop) → GoesOn p q a b xs [] → Goes r q s b c []

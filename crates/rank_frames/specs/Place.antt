@@ -1,5 +1,5 @@
 -- Where a rank stands: its node, and what is still due; what keeps a frame from being taken.
-use Rattle.std.specs.Prelude.{ℕ, not, ◌&&◌, ◌==◌, ◌-◌, ◌≡◌, ◌≤◌, ◌<◌, ◌^◌, nat_lt, length, count_by}
+use Rattle.std.specs.Prelude.{ℕ, not, ◌&&◌, ◌==◌, ◌+◌, ◌-◌, ◌≡◌, ◌≤◌, ◌<◌, ◌^◌, nat_lt, length, count_by}
 use Rattle.std.specs.Prelude.{Bool, Option, Some, None, Result, Ok, Err, if◌then◌else◌}
 use Rattle.ptl_types.specs.Kinds.{is_answer, lane_of}
 use Rattle.ptl_types.specs.Messages.{Sent}
@@ -45,6 +45,10 @@ received_place source m p = record p {
 -- there was no start
 abbrev pub is_new : PlaceState → Bool
 is_new p = count_by is_start p.node.diary.locals == 0
+
+-- how many frames it may still take: one for each message that is due, and the mark of its start
+abbrev pub frames_left : PlaceState → ℕ
+frames_left p = messages_due p.due + (if is_new p then 1 else 0)
 
 -- what keeps the bytes behind a frame's head from being read: a mark that isn't that of a first start; no rank's number; a length beyond
 -- that of a message with all bytes that are due

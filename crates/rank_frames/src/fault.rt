@@ -1,7 +1,6 @@
 //! Why a rank stops before its time.
 
 use message_codec::Fault;
-use std::fmt;
 
 /// What is wrong with a frame: the first of these that holds.
 #[derive(Clone, Copy, Debug, PartialEq, Eq)]
@@ -28,31 +27,14 @@ pub enum FrameFault {
     TooMany,
 }
 
-impl fmt::Display for FrameFault {
-    fn fmt<W: fmt::Write>(&self, f: &mut fmt::Formatter<W>) -> fmt::Result {
-        match self {
-            FrameFault::Mark => f.write_str("a second start"),
-            FrameFault::Source => f.write_str("a frame of no rank"),
-            FrameFault::TooLong => f.write_str("a frame that is too long"),
-            FrameFault::Message(fault) => write!(f, "{fault}"),
-            FrameFault::OtherSource => f.write_str("a message of another source"),
-            FrameFault::OtherTarget => f.write_str("a message for another rank"),
-            FrameFault::OtherJob => f.write_str("a message of another job"),
-            FrameFault::Lane => f.write_str("a message more than its lane carries"),
-            FrameFault::NotAwaited => f.write_str("an answer that nothing awaits"),
-            FrameFault::TooMany => f.write_str("more bytes than come to this rank"),
-        }
-    }
-}
-
 /// Why a rank stops before its time.
 #[derive(Clone, Copy, Debug, PartialEq, Eq)]
 pub enum Stop {
     /// The source failed, or ended.
     Read,
-    /// The sink failed, or a message is longer than a frame can tell.
+    /// The sink failed.
     Write,
-    /// There was no memory.
+    /// There was no memory, or a message is longer than a frame can tell.
     NoMemory,
     /// A frame was refused. Nothing was done by it.
     Frame(FrameFault),

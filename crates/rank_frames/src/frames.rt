@@ -1,11 +1,10 @@
 //! Frames of a source and of a sink.
 
-ghost use Rattle.std.specs.Prelude.{ℕ, ◌≡◌, ◌<◌, ◌^◌, ◌++◌, [], IfOk, IfErr, OnOk, length, slice_index};
+ghost use Rattle.std.specs.Prelude.{ℕ, ◌≡◌, ◌<◌, ◌≤◌, ◌^◌, ◌++◌, [], IfOk, IfErr, OnOk, length, slice_index};
 ghost use Rattle.std.specs.Int.{w32, to_le_bytes};
 ghost use Rattle.port_io.specs.Ends.{GivesFront};
 ghost use Rattle.run_text.specs.Putting.{Puts};
-ghost use Rattle.rank_frames.specs.Frames.{frame, head};
-ghost use Rattle.rank_frames.specs.Going.{IsOutside};
+ghost use Rattle.rank_frames.specs.Frames.{Lacks, LacksRoom, frame, head};
 
 use crate::fault::Stop;
 use port_io::{Failed, Sink, Source};
@@ -16,7 +15,8 @@ pub const NOBODY: u32 = 4_294_967_295;
 /// Fills the slice. An end before it is full is a fault.
 fn read_whole<S: Source>(source: &mut S, into: &mut [u8]) -> Result<(), Stop>
     ensures front { OnOk result (GivesFront (S.inflow source.old).left (S.inflow source.new).left into.new) }
-    ensures stops { IfErr result IsOutside }
+    ensures stops { IfErr result (λ e. Lacks e (S.inflow source.old) (S.inflow source.new) (length into.old)) }
+    ensures faults { (S.inflow source.old).faults ≤ (S.inflow source.new).faults }
     ensures kept { length into.new ≡ length into.old }
     ensures bytes { (i : ℕ) → slice_index into.new i < 256 }
 {
@@ -24,8 +24,9 @@ fn read_whole<S: Source>(source: &mut S, into: &mut [u8]) -> Result<(), Stop>
     let mut at = 0;
     while at < most {
         match source.read(&mut into[at..]) {
-            Ok(0) | Err(_) => return Err(Stop::Read),
+            Ok(0) => return Err(Stop::Read),
             Ok(count) => at += count,
+            Err(_) => return Err(Stop::Read),
         }
     }
     Ok(())
@@ -34,7 +35,8 @@ fn read_whole<S: Source>(source: &mut S, into: &mut [u8]) -> Result<(), Stop>
 /// The next number, of four bytes, lowest first.
 pub fn read_number<S: Source>(source: &mut S) -> Result<u32, Stop>
     ensures front { IfOk result (λ n. GivesFront (S.inflow source.old).left (S.inflow source.new).left (to_le_bytes w32 n)) }
-    ensures stops { IfErr result IsOutside }
+    ensures stops { IfErr result (λ e. Lacks e (S.inflow source.old) (S.inflow source.new) 4) }
+    ensures faults { (S.inflow source.old).faults ≤ (S.inflow source.new).faults }
 {
     let mut bytes = [0; 4];
     read_whole(source, &mut bytes)?;
@@ -44,7 +46,8 @@ pub fn read_number<S: Source>(source: &mut S) -> Result<u32, Stop>
 /// The head of the next frame: the number of a rank, and how many bytes follow.
 pub fn read_head<S: Source>(source: &mut S) -> Result<(u32, u32), Stop>
     ensures front { IfOk result (λ p. GivesFront (S.inflow source.old).left (S.inflow source.new).left (head p.0 p.1)) }
-    ensures stops { IfErr result IsOutside }
+    ensures stops { IfErr result (λ e. Lacks e (S.inflow source.old) (S.inflow source.new) 8) }
+    ensures faults { (S.inflow source.old).faults ≤ (S.inflow source.new).faults }
 {
     let rank = read_number(source)?;
     let count = read_number(source)?;
@@ -54,7 +57,8 @@ pub fn read_head<S: Source>(source: &mut S) -> Result<(u32, u32), Stop>
 /// Takes so many bytes of the source in place of what the buffer held.
 pub fn read_bytes<S: Source>(source: &mut S, buffer: &mut Vec<u8>, count: u32) -> Result<(), Stop>
     ensures front { OnOk result (GivesFront (S.inflow source.old).left (S.inflow source.new).left buffer.new.items) }
-    ensures stops { IfErr result IsOutside }
+    ensures stops { IfErr result (λ e. LacksRoom e (S.inflow source.old) (S.inflow source.new) count) }
+    ensures faults { (S.inflow source.old).faults ≤ (S.inflow source.new).faults }
     ensures whole { OnOk result (length buffer.new.items ≡ count) }
 {
     buffer.clear();

@@ -21,7 +21,7 @@ fn write<K: Sink>(sink: &mut K, target: Rank, bytes: &[u8]) -> Result<(), Stop>
     ensures { Writes result (K.outflow sink.old) (K.outflow sink.new) (frame target bytes.now) }
 {
     if bytes.len() > LONGEST {
-        return Err(Stop::Write);
+        return Err(Stop::NoMemory);
     }
     match write_frame(sink, target, bytes) {
         Ok(()) => Ok(()),
@@ -63,6 +63,7 @@ fn fire<K: Sink>(
     requires { IsTrue (is_ready place.old.node.nic number) }
     ensures went { Goes result place.old place.new (K.outflow sink.old) (K.outflow sink.new) [] }
     ensures fewer { length place.new.node.nic.pending.waiting < length place.old.node.nic.pending.waiting }
+    ensures due { place.new.due ≡ place.old.due }
 {
     let message = place.fire(number);
     send_any(sink, buffer, message)
@@ -76,6 +77,7 @@ pub(crate) fn fire_all<K: Sink>(
 ) -> Result<(), Stop>
     ensures went { Goes result place.old place.new (K.outflow sink.old) (K.outflow sink.new) [] }
     ensures idle { OnOk result (IsIdle place.new) }
+    ensures due { place.new.due ≡ place.old.due }
 {
     while let Some(number) = place.ready() {
         fire(place, sink, buffer, number)?;

@@ -1,6 +1,6 @@
 //! Where a rank stands.
 
-ghost use Rattle.std.specs.Prelude.{◌≡◌, ◌==◌, ◌&&◌, ◌<◌, ◌≤◌, IsTrue, nat_lt, count_by};
+ghost use Rattle.std.specs.Prelude.{◌≡◌, ◌==◌, ◌+◌, ◌&&◌, ◌<◌, ◌≤◌, IsTrue, nat_lt, count_by};
 ghost use Rattle.ptl_types.specs.Kinds.{lane_of};
 ghost use Rattle.ni_model.specs.Calls.{AnswersReady};
 ghost use Rattle.ni_model.specs.Ready.{is_ready};
@@ -110,6 +110,7 @@ impl Place {
         requires { fault_of self.old source message ≡ None }
         ensures answer { result ≡ made_by self.old.node.nic (Receive source (lane_of message.header.kind) message) }
         ensures step { self.new ≡ received_place source message self.old }
+        ensures fewer { messages_due self.new.due + 1 ≡ messages_due self.old.due }
     {
         let lane = message.header().kind.lane();
         self.due.take(source, lane, message.bytes().len());

@@ -1,11 +1,12 @@
 //! What a rank does by frames.
 
-ghost use Rattle.std.specs.Prelude.{◌≡◌, ◌<◌, ◌^◌, None, Ok, OnOk, IfOk, IfErr, length};
+ghost use Rattle.std.specs.Prelude.{◌≡◌, ◌+◌, ◌<◌, ◌^◌, None, Ok, OnOk, IfOk, IfErr, length};
 ghost use Rattle.message_codec.specs.Encoding.{encoding};
 ghost use Rattle.message_codec.specs.Reading.{reading};
 ghost use Rattle.rank_frames.specs.Frames.{frame, mark, nobody};
+ghost use Rattle.rank_frames.specs.Due.{messages_due};
 ghost use Rattle.rank_frames.specs.Going.{Goes, HasStarted, IsIdle, IsOver, TakesFrames};
-ghost use Rattle.rank_frames.specs.Place.{fault_of, fault_of_head, Refuses, RefusesHead};
+ghost use Rattle.rank_frames.specs.Place.{fault_of, fault_of_head, frames_left, Refuses, RefusesHead};
 
 use crate::fault::{FrameFault, Stop};
 use crate::frames::{NOBODY, read_bytes, read_head};
@@ -21,6 +22,7 @@ fn start<K: Sink>(place: &mut Place, sink: &mut K, buffer: &mut Vec<u8>) -> Resu
     requires { fault_of_head place.old nobody 0 ≡ None }
     ensures went { Goes result place.old place.new (K.outflow sink.old) (K.outflow sink.new) mark }
     ensures idle { OnOk result (IsIdle place.new) }
+    ensures fewer { OnOk result (frames_left place.new < frames_left place.old) }
 {
     place.start();
     fire_all(place, sink, buffer)
@@ -35,7 +37,8 @@ fn receive<K: Sink>(
     message: Message,
 ) -> Result<(), Stop>
     requires { fault_of place.old source message ≡ None }
-    ensures { Goes result place.old place.new (K.outflow sink.old) (K.outflow sink.new) (frame source (encoding message)) }
+    ensures went { Goes result place.old place.new (K.outflow sink.old) (K.outflow sink.new) (frame source (encoding message)) }
+    ensures fewer { messages_due place.new.due + 1 ≡ messages_due place.old.due }
 {
     let answer = place.receive(source, message);
     send_any(sink, buffer, answer)
@@ -52,6 +55,7 @@ fn follow<K: Sink>(
     requires { fault_of place.old source message ≡ None }
     ensures went { Goes result place.old place.new (K.outflow sink.old) (K.outflow sink.new) (frame source (encoding message)) }
     ensures idle { OnOk result (IsIdle place.new) }
+    ensures fewer { OnOk result (frames_left place.new < frames_left place.old) }
 {
     receive(place, sink, buffer, source, message)?;
     fire_all(place, sink, buffer)
@@ -85,7 +89,7 @@ fn pass_head(place: &Place, source: Rank, count: u32) -> Result<(), Stop>
     }
 }
 
-/// Takes one frame. A frame that is refused changes nothing.
+/// Takes one frame; the rank hasn't ended, and after its start nothing is ready. A frame that is refused changes nothing.
 fn take_frame<S: Source, K: Sink>(
     alloc: Global,
     place: &mut Place,
@@ -93,8 +97,11 @@ fn take_frame<S: Source, K: Sink>(
     sink: &mut K,
     buffer: &mut Vec<u8>,
 ) -> Result<(), Stop>
-    ensures { TakesFrames result place.old place.new (S.inflow source.old) (S.inflow source.new)
+    requires waits { IsOver place.old → ⊥ }
+    requires idle { HasStarted place.old → IsIdle place.old }
+    ensures went { TakesFrames result place.old place.new (S.inflow source.old) (S.inflow source.new)
         (K.outflow sink.old) (K.outflow sink.new) }
+    ensures fewer { OnOk result (frames_left place.new < frames_left place.old) }
 {
     let (from, count) = read_head(source)?;
     pass_head(place, from, count)?;
@@ -119,11 +126,8 @@ pub fn take_frames<S: Source, K: Sink>(
     ensures over { OnOk result (IsOver place.new) }
 {
     let mut buffer = Vec::new(alloc);
-    for _ in 0..u64::MAX {
-        if place.has_all() {
-            return Ok(());
-        }
+    while !place.has_all() {
         take_frame(alloc, place, source, sink, &mut buffer)?;
     }
-    Err(Stop::Read)
+    Ok(())
 }

@@ -1,9 +1,10 @@
 -- What was read before stands in front of what comes.
 use Rattle.std.proofs.Common.{◌≡◌, ◌+◌, ◌-◌, ◌≤◌, ◌∙◌, ℕ, List, ◌++◌, length, take, drop, ap, subst, sym, arith}
-use Rattle.std.proofs.Common.{length-append, length-drop}
+use Rattle.std.proofs.Common.{inl, length-append, length-drop}
 use Rattle.std.proofs.Math.Seq.{take-append-add}
 use Rattle.std.proofs.lemmas.List.{length-take-le, take-append-le}
 use Rattle.port_io.specs.Ends.{GivesFront}
+use Rattle.run_text.proofs.Taking.{Rose-later}
 use Rattle.rank_frames.proofs.By.{front-then}
 use Rattle.rank_frames.proofs.frames.read_whole.Goals as goal
 use borrow.Rule.Slice.PartMut.{put_mid, post_of}
@@ -46,5 +47,26 @@ loop-at-preserved g c =
       most = long ∙ most;
       front = subst (λ (l : List ℕ). GivesFront (g.S.Source.inflow c.args.source.now).left (g.S.Source.inflow c.read.new.self).left l)
           (sym (part-front a (length xs - a) c.in-Ok.count xs c.read.new.into within small)) front;
+      faults = let before = c.loop-at.invariant.faults in let after = c.in-Ok.ensures.faults in omega (arith, before, after);
       bytes = λ i. let small = c.type_inv.into i in omega arith;
     }
+
+pub returns-in-Ok-eq0-clause-faults : goal.returns-in-Ok-eq0-clause-faults
+returns-in-Ok-eq0-clause-faults g c =
+    let before = c.loop-at.invariant.faults in
+    let after = c.in-Ok-eq0.ensures.faults in
+    omega (arith, before, after)
+
+pub returns-in-Err-clause-stops : goal.returns-in-Err-clause-stops
+returns-in-Err-clause-stops g c =
+    inl (Rose-later (g.S.Source.inflow c.args.source.now).faults (g.S.Source.inflow c.loop-at.source).faults
+    (g.S.Source.inflow c.read.new.self).faults c.loop-at.invariant.faults c.in-Err.ensures.failed)
+
+pub returns-in-Err-clause-faults : goal.returns-in-Err-clause-faults
+returns-in-Err-clause-faults g c =
+    let before = c.loop-at.invariant.faults in
+    let after = c.in-Err.ensures.faults in
+    omega (arith, before, after)
+
+pub returns-clause-faults : goal.returns-clause-faults
+returns-clause-faults g c = c.loop-at.invariant.faults

@@ -7,6 +7,7 @@ invariant-loop-at g l = record {
   within : l.at ≤ length l.into;
   most : length l.into ≡ length l.fn.into;
   front : GivesFront (g.S.Source.inflow l.fn.source).left (g.S.Source.inflow l.source).left (take l.at l.into);
+  faults : (g.S.Source.inflow l.fn.source).faults ≤ (g.S.Source.inflow l.source).faults;
   bytes : (i : ℕ) → get_or l.into i 0 < 256;
 }
 

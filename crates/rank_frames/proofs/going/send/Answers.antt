@@ -1,7 +1,6 @@
-use Rattle.std.proofs.Common.{List, ℕ, [], ◌∷◌, ap, ap₂, sym, subst, ◌∙◌}
+use Rattle.std.proofs.Common.{List, ℕ, ap, ap₂, refl, sym, subst, ◌∙◌}
 use Rattle.ptl_types.specs.declared.headers.Header.{Header}
-use Rattle.run_text.proofs.Taking.{Takes-none}
-use Rattle.rank_frames.specs.Frames.{frame, frames_of}
+use Rattle.rank_frames.specs.Frames.{frame}
 use Rattle.rank_frames.specs.Going.{Writes}
 use Rattle.rank_frames.proofs.Steps.{one-frame}
 use Rattle.rank_frames.proofs.going.send.Goals as goal
@@ -16,4 +15,4 @@ returns-in-Ok g c =
     ∙ sym (one-frame c.args.message.now)) c.write.ensures
 
 pub returns-in-Err : goal.returns-in-Err
-returns-in-Err g c = (frames_of (c.args.message.now ∷ []), Takes-none _ _, tt)
+returns-in-Err g c = refl
