@@ -6,12 +6,9 @@ use Rattle.ptl_types.specs.declared.headers.Lane.TheVariants.{Request, Answer}
 use Rattle.ptl_types.specs.Messages.{Sent}
 use Rattle.ni_model.specs.State.{State}
 use Rattle.plan_core.specs.Plan.{Plan}
+use Rattle.plan_core.specs.Values.{Inputs}
 use Rattle.plan_core.proofs.Drawing.{length-row}
 use Rattle.plan_core.specs.calls.Lanes.{lane_messages}
-use Rattle.coll_lang.specs.Program.{Program}
-use Rattle.coll_lang.proofs.Coming.{comes}
-use Rattle.schedule_compiler.specs.shapes.Drawing.{plan_of}
-use Rattle.schedule_compiler.proofs.shapes.Final.{fine-shape}
 use Rattle.cuts.specs.histories.Cut.{owned}
 use Rattle.cuts.specs.histories.History.{Beginning, Legal, Local, got, made, state}
 use Rattle.cuts.specs.histories.Plans.{start_of as begins}
@@ -26,7 +23,7 @@ use Rattle.rank_node.proofs.Plans.{begin-is, run-legal}
 use Rattle.rank_frames.specs.Due.{Dues, due_on}
 use Rattle.rank_frames.specs.Going.{HasGone}
 use Rattle.rank_frames.specs.Place.{PlaceState}
-use Rattle.rank_process.specs.lines.Rank.{IsDescribed, IsHistory, made_by_rank, state_after}
+use Rattle.rank_process.specs.lines.Rank.{IsHistory, Work, made_by_rank, state_after}
 use Rattle.rank_process.specs.Opening.{IsDueTo, IsPlaceOf}
 use Rattle.rank_process.specs.Runs.{StandsAt, Told}
 use Rattle.rank_process.proofs.Sums.{due-lane}
@@ -42,70 +39,71 @@ none-due p r d is s Answer h =
     let long = ap (λ (l : List ℕ). length l) is.answers ∙ length-row f 0 p.ranks in
     get_or_past d.answers s 0 (omega (arith, long, h))
 
-module _ (text : List ℕ) (r : ℕ) (d : Program) (described : IsDescribed text d) (hr : r < d.shape.ranks) (p : PlaceState)
-    (place : IsPlaceOf (plan_of d.shape) d.inputs r p) (q : PlaceState) (es : List Local) (ms : List Sent) (gone : HasGone p q es ms)
-    (is : IsNode q.node) where
-  abbrev plan : Plan
-  plan = plan_of d.shape
-
+module _ (plan : Plan) (inputs : Inputs) (r : ℕ) (hr : r < plan.ranks) (p : PlaceState) (place : IsPlaceOf plan inputs r p)
+    (q : PlaceState) (es : List Local) (ms : List Sent) (gone : HasGone p q es ms) (is : IsNode q.node) where
   abbrev k : Slots
   k = slots_of q.node.kept
 
   agreed : Agrees k q.node.kept
   agreed = agrees q.node.kept is.descriptors
 
-  ranks : plan.ranks ≡ d.shape.ranks
-  ranks = (fine-shape d.shape (comes text d described.read).readable.formed).ranks
-
-  compiled : IsCompiledFor plan d.inputs r q.node.task
-  compiled = subst (IsCompiledFor plan d.inputs r) (sym gone.task) place.compiled
+  compiled : IsCompiledFor plan inputs r q.node.task
+  compiled = subst (IsCompiledFor plan inputs r) (sym gone.task) place.compiled
 
   pub locals : q.node.diary.locals ≡ es
   locals = gone.locals ∙ ap (λ (l : List Local). l ++ es) place.nothing
 
-  legal : Legal (begins plan k r) false (prepare plan d.inputs k r) es
-  legal = subst (Legal (begins plan k r) false (prepare plan d.inputs k r)) locals (run-legal plan d.inputs k r q.node compiled is agreed)
+  legal : Legal (begins plan k r) false (prepare plan inputs k r) es
+  legal = subst (Legal (begins plan k r) false (prepare plan inputs k r)) locals (run-legal plan inputs k r q.node compiled is agreed)
 
   begun : start_of p.node.task k ≡ begins plan k r
-  begun = begin-is plan d.inputs r k p.node.task place.compiled
+  begun = begin-is plan inputs r k p.node.task place.compiled
 
-  first : p.node.nic ≡ prepare plan d.inputs k r
+  first : p.node.nic ≡ prepare plan inputs k r
   first = place.first k (gone.slots k agreed)
 
-  pub nic-is : q.node.nic ≡ state_after d r k es
+  pub nic-is : q.node.nic ≡ state_after plan inputs r k es
   nic-is = gone.nic k agreed ∙ ap₂ (λ g v. state g v es) begun first
 
-  pub made-is : made_by_rank d r k es ≡ ms
+  pub made-is : made_by_rank plan inputs r k es ≡ ms
   made-is = sym (ap₂ (λ g v. made g v es) begun first) ∙ gone.made k agreed
 
   pub lane-got : (s : ℕ) (lane : Lane) → s < plan.ranks → due_on q.due s lane + length (got es s lane) ≡ lane_messages plan s r lane
   lane-got s lane h = gone.lanes s lane ∙ due-lane plan r p.due place.due s lane h
 
-  lane-is : (s : ℕ) (lane : Lane) → s < d.shape.ranks → due_on q.due s lane + length (got es s lane) ≡ lane_messages plan s r lane
-  lane-is s lane h = lane-got s lane (let n = ranks in omega (arith, h, n))
+  pub past-lane : (s : ℕ) (lane : Lane) → plan.ranks ≤ s → due_on q.due s lane ≡ 0
+  past-lane s lane h =
+      let a = gone.lanes s lane in
+      let b = none-due plan r p.due place.due s lane h in
+      omega (arith, a, b)
 
-  pub history : IsHistory d r k es
+  pub history : IsHistory plan inputs r k es
   history = record {
     legal = legal;
-    within = λ s lane h. let e = lane-is s lane h in omega (arith, e);
+    within = λ s lane h. let e = lane-got s lane h in omega (arith, e);
     known = λ s lane h. nil_from_length (got es s lane)
-        (let n = ranks in
-        let a = gone.lanes s lane in
-        let b = none-due plan r p.due place.due s lane (omega (arith, h, n)) in
+        (let a = gone.lanes s lane in
+        let b = none-due plan r p.due place.due s lane h in
         omega (arith, a, b));
     own = gone.clean;
   }
 
-  abbrev pub told : Told text r
-  told = record { program = d; described = described; rank = hr; slots = k; steps = es; history = history }
-
-  pub stands : StandsAt d r k es q
+  pub stands : StandsAt plan inputs r k es q
   stands = record {
     me = gone.me ∙ place.me;
     locals = locals;
     nic = nic-is;
-    ranks = gone.ranks ∙ ap (λ (l : List ℕ). length l) place.due.requests
-        ∙ length-row (λ s. lane_messages plan s r Request) 0 plan.ranks ∙ ranks;
-    lanes = lane-is;
+    ranks = gone.ranks ∙ ap (λ (l : List ℕ). length l) place.due.requests ∙ length-row (λ s. lane_messages plan s r Request) 0 plan.ranks;
+    lanes = lane-got;
     bytes = gone.bytes ∙ place.due.bytes;
   }
+
+-- of what is run
+abbrev pub told : (w : Work) (r : ℕ) (hr : r < w.schedule.plan.ranks) (p : PlaceState) (place : IsPlaceOf w.schedule.plan w.inputs r p)
+    (q : PlaceState) (es : List Local) (ms : List Sent) (gone : HasGone p q es ms) (is : IsNode q.node) → Told w r
+told w r hr p place q es ms gone is = record {
+  rank = hr;
+  slots = slots_of q.node.kept;
+  steps = es;
+  history = history w.schedule.plan w.inputs r hr p place q es ms gone is;
+}

@@ -1,7 +1,6 @@
 -- A rank that can take frames.
 use Rattle.std.specs.Prelude.{ℕ, ◌≡◌, ◌<◌, List, [], length, sum_by, map}
-use Rattle.coll_lang.specs.Program.{Program}
-use Rattle.schedule_compiler.specs.shapes.Drawing.{plan_of}
+use Rattle.coll_shape.specs.WellFormed.{IsWellFormed}
 use Rattle.number_lists.specs.Numbers.{from_to}
 use Rattle.ptl_types.specs.declared.headers.Lane.TheVariants.{Request, Answer}
 use Rattle.plan_core.specs.Plan.{Plan, link}
@@ -15,7 +14,8 @@ use Rattle.rank_node.specs.Node.{IsNode}
 use Rattle.rank_node.specs.Plans.{IsCompiledFor}
 use Rattle.rank_frames.specs.Due.{Dues}
 use Rattle.rank_frames.specs.Place.{PlaceState}
-use Rattle.rank_process.specs.lines.Rank.{IsDescribed}
+use Rattle.rank_process.specs.lines.Places.{places_in}
+use Rattle.rank_process.specs.lines.Rank.{Work}
 use Rattle.rank_process.specs.declared.opening.Opened.{Opened}
 
 -- what comes to rank r in a whole run of a plan
@@ -32,10 +32,10 @@ pub record IsPlaceOf (p : Plan) (inputs : Inputs) (r : ℕ) (x : PlaceState) : T
   pub first : (k : Slots) → Agrees k x.node.kept → x.node.nic ≡ prepare p inputs k r
   pub due : IsDueTo p r x.due
 
--- the rank of a text, and what it prints
-pub record IsOpened (text : List ℕ) (r : ℕ) (x : Opened) : Type 0 where
-  pub program : Program
-  pub described : IsDescribed text program
-  pub rank : r < program.shape.ranks
-  pub place : IsPlaceOf (plan_of program.shape) program.inputs r x.place
-  pub prints : x.prints ≡ record { shape = program.shape; rank = r }
+-- rank r of what a text asks for, and what it prints
+pub record IsOpened (w : Work) (r : ℕ) (x : Opened) : Type 0 where
+  pub rank : r < w.schedule.plan.ranks
+  pub place : IsPlaceOf w.schedule.plan w.inputs r x.place
+  pub prints : x.prints ≡ record { shape = w.shape; rank = r; places = places_in w.schedule r }
+  pub buffers : w.schedule.held.buffers ≡ length w.shape.buffers
+  pub formed : IsWellFormed w.shape

@@ -4,13 +4,13 @@ use Rattle.port_io.specs.Ends.{Outflow}
 use Rattle.run_text.specs.Orders.{order_line}
 use Rattle.run_text.specs.Putting.{Ends, FailsWithin}
 use Rattle.rank_frames.specs.Frames.{mark}
-use Rattle.rank_process.specs.lines.Lines.{own_lines}
+use Rattle.rank_process.specs.lines.Lines.{placed_lines}
 use Rattle.rank_process.specs.declared.opening.Opened.{Opened}
 use Rattle.rank_process.specs.declared.status.Status.{Status}
 use Rattle.rank_process.specs.declared.status.Status.TheVariants.{Ended, WriteFault}
 
 abbrev pub owed : Opened → List ℕ
-owed x = mark ++ (own_lines x.prints.shape x.prints.rank x.place.node.nic.memory ++ order_line x.prints.rank x.place.node.diary.steps)
+owed x = mark ++ (placed_lines x.prints x.place.node.nic.memory ++ order_line x.prints.rank x.place.node.diary.steps)
 
 -- the sink took it, or failed
 abbrev pub Closes : Status → Outflow → Outflow → List ℕ → Type 0

@@ -8,10 +8,10 @@ use Rattle.coll_lang.specs.declared.whole.TheConstants.{LONGEST_TEXT}
 use Rattle.coll_shape.specs.Outline.{Outline}
 use Rattle.schedule_compiler.specs.shapes.Footprint.{Excess, Refused as Excessive, refusal}
 use Rattle.schedule_compiler.specs.shapes.Footprint.Excess.{Links, Bytes}
-use Rattle.port_io.specs.Ends.{GivesFront, Outflow}
+use Rattle.port_io.specs.Ends.{GivesFront, Inflow, Outflow}
 use Rattle.run_text.specs.Putting.{Ends, FailsWithin}
 use Rattle.run_text.specs.Refused.{refusal_line, step_line}
-use Rattle.rank_frames.specs.Frames.{frame, head, mark}
+use Rattle.rank_frames.specs.Frames.{IsPart, RunsDry, head, mark}
 use Rattle.rank_process.specs.declared.status.Status.{Status}
 use Rattle.rank_process.specs.declared.status.Status.TheVariants.{Ended, Usage, WrongRank, Refused, ReadFault, WriteFault, NoMemory, Frame}
 
@@ -47,9 +47,9 @@ pub record IsTooLong (before after : Option (List ℕ)) (at : ℕ) (why : Refusa
   pub name : why ≡ TooLong
 
 -- why there is no first frame
-abbrev pub FailsFirst : Status → Option (List ℕ) → Option (List ℕ) → Type 0
-FailsFirst (Refused line name) before after = IsTooLong before after line name
-FailsFirst ReadFault before after = Unit {0}
+abbrev pub FailsFirst : Status → Inflow → Inflow → Type 0
+FailsFirst (Refused line name) before after = IsTooLong before.left after.left line name
+FailsFirst ReadFault before after = RunsDry before after IsPart
 FailsFirst NoMemory before after = Unit {0}
 FailsFirst _ before after = ⊥
 

@@ -1,16 +1,17 @@
 -- What a rank does, and what it writes.
-use Rattle.std.specs.Prelude.{ℕ, ◌+◌, ◌≡◌, ◌<◌, ◌⊎◌, List, [], ◌++◌, Option, Some, length, map, sum_by}
+use Rattle.std.specs.Prelude.{ℕ, false, ◌+◌, ◌≡◌, ◌≤◌, ◌<◌, ◌⊎◌, List, [], ◌++◌, Option, Some, count_by, length, map, sum_by}
 use Rattle.ptl_types.specs.declared.headers.Lane.{Lane}
+use Rattle.ptl_types.specs.Messages.{Sent}
+use Rattle.ni_model.specs.Ready.{is_ready}
 use Rattle.coll_lang.specs.Language.{read}
-use Rattle.coll_lang.specs.Program.{Program}
 use Rattle.coll_lang.specs.declared.fault.Refusal.{Refusal}
-use Rattle.schedule_compiler.specs.shapes.Drawing.{plan_of}
-use Rattle.plan_core.specs.Plan.{link}
+use Rattle.plan_core.specs.Plan.{Plan, link}
+use Rattle.plan_core.specs.Values.{Inputs}
 use Rattle.plan_core.specs.calls.Areas.{links_to}
 use Rattle.plan_core.specs.calls.Lanes.{lane_messages}
 use Rattle.port_io.specs.Ends.{GivesFront, Inflow, Outflow}
 use Rattle.cuts.specs.ended.Ended.{HasEnded}
-use Rattle.cuts.specs.histories.History.{Local, got}
+use Rattle.cuts.specs.histories.History.{Local, and_then, got, is_start}
 use Rattle.cuts.specs.orders.Taking.{listed}
 use Rattle.cuts.specs.view.Slots.{Slots}
 use Rattle.rank_node.specs.Copies.{bytes_received}
@@ -18,106 +19,128 @@ use Rattle.run_text.specs.Orders.{order_line}
 use Rattle.run_text.specs.Putting.{Ends, FailsWithin, Takes}
 use Rattle.run_text.specs.Refused.{refusal_line}
 use Rattle.rank_frames.specs.Due.{due_on}
-use Rattle.rank_frames.specs.Frames.{frame, frames_for, frames_of, mark}
+use Rattle.rank_frames.specs.Frames.{IsPart, RunsDry, frame, frames_for, frames_of, mark}
 use Rattle.rank_frames.specs.Going.{IsFrameRefused}
 use Rattle.rank_frames.specs.Place.{PlaceState}
 use Rattle.rank_frames.specs.declared.fault.FrameFault.{FrameFault}
 use Rattle.rank_process.specs.lines.Lines.{own_lines}
-use Rattle.rank_process.specs.lines.Rank.{IsDescribed, IsHistory, made_by_rank, state_after}
+use Rattle.rank_process.specs.lines.Rank.{Asks, IsHistory, Work, made_by_rank, state_after}
 use Rattle.rank_process.specs.Refused.{IsNoRank, IsTooLong, refused_as}
 use Rattle.rank_process.specs.declared.status.Status.{Status}
 use Rattle.rank_process.specs.declared.status.Status.TheVariants.{Ended, Usage, WrongRank, Refused, ReadFault, WriteFault, NoMemory, Frame}
 
--- the rank that a text and a number tell of, and its history
-pub record Told (text : List ℕ) (r : ℕ) : Type 0 where
-  pub program : Program
-  pub described : IsDescribed text program
-  pub rank : r < program.shape.ranks
+-- a history of rank r of what is run
+pub record Told (w : Work) (r : ℕ) : Type 0 where
+  pub rank : r < w.schedule.plan.ranks
   pub slots : Slots
   pub steps : List Local
-  pub history : IsHistory program r slots steps
+  pub history : IsHistory w.schedule.plan w.inputs r slots steps
 
 -- the frames of what it made
-abbrev pub frames_made : {text : List ℕ} {r : ℕ} → Told text r → List ℕ
-frames_made {text} {r} t = frames_of (made_by_rank t.program r t.slots t.steps)
+abbrev pub frames_made : {w : Work} {r : ℕ} → Told w r → List ℕ
+frames_made {w} {r} t = frames_of (made_by_rank w.schedule.plan w.inputs r t.slots t.steps)
 
 -- what follows them: the mark of the end, the rank's lines, the order of its steps
-abbrev pub end_text : {text : List ℕ} {r : ℕ} → Told text r → List ℕ
-end_text {text} {r} t = mark ++ (own_lines t.program.shape r (state_after t.program r t.slots t.steps).memory
+abbrev pub end_text : {w : Work} {r : ℕ} → Told w r → List ℕ
+end_text {w} {r} t = mark ++ (own_lines w.shape w.schedule r (state_after w.schedule.plan w.inputs r t.slots t.steps).memory
     ++ order_line r (map listed t.steps))
 
+-- none of its operations is ready
+abbrev pub IsIdleAlone : {w : Work} {r : ℕ} → Told w r → Type 0
+IsIdleAlone {w} {r} t = (n : ℕ) → is_ready (state_after w.schedule.plan w.inputs r t.slots t.steps) n ≡ false
+
 -- by what it sees of itself: it has started, nothing is ready, and all that the lanes to it carry has come
-abbrev pub HasEndedAlone : {text : List ℕ} {r : ℕ} → Told text r → Type 0
-HasEndedAlone {text} {r} t = HasEnded (plan_of t.program.shape) t.program.inputs (λ q. t.slots) (λ q. t.steps) r
+abbrev pub HasEndedAlone : {w : Work} {r : ℕ} → Told w r → Type 0
+HasEndedAlone {w} {r} t = HasEnded w.schedule.plan w.inputs (λ q. t.slots) (λ q. t.steps) r
 
 -- ---- at its end
 
 -- The source gave what the rank's steps are given, the rank has ended by what it sees of itself, and of all that it owes P holds.
-pub record EndsRank (text : List ℕ) (r : ℕ) (before after : Option (List ℕ)) (P : List ℕ → Type 0) : Type 0 where
-  pub told : Told text r
-  pub front : GivesFront before after (frames_for told.steps)
+pub record EndsRank (w : Work) (r : ℕ) (before after : Inflow) (P : List ℕ → Type 0) : Type 0 where
+  pub told : Told w r
+  pub front : GivesFront before.left after.left (frames_for told.steps)
   pub ended : HasEndedAlone told
   pub wrote : P (frames_made told ++ end_text told)
 
 -- ---- before its end
 
 -- where a rank stands after a history
-pub record StandsAt (d : Program) (r : ℕ) (k : Slots) (es : List Local) (q : PlaceState) : Type 0 where
+pub record StandsAt (p : Plan) (inputs : Inputs) (r : ℕ) (k : Slots) (es : List Local) (q : PlaceState) : Type 0 where
   pub me : q.me ≡ r
   pub locals : q.node.diary.locals ≡ es
-  pub nic : q.node.nic ≡ state_after d r k es
-  pub ranks : length q.due.requests ≡ d.shape.ranks
-  pub lanes : (s : ℕ) (lane : Lane) → s < d.shape.ranks →
-      due_on q.due s lane + length (got es s lane) ≡ lane_messages (plan_of d.shape) s r lane
-  pub bytes : q.due.bytes + bytes_received es ≡ sum_by (λ l. (link (plan_of d.shape) l).length) (links_to (plan_of d.shape) r)
+  pub nic : q.node.nic ≡ state_after p inputs r k es
+  pub ranks : length q.due.requests ≡ p.ranks
+  pub lanes : (s : ℕ) (lane : Lane) → s < p.ranks → due_on q.due s lane + length (got es s lane) ≡ lane_messages p s r lane
+  pub bytes : q.due.bytes + bytes_received es ≡ sum_by (λ l. (link p l).length) (links_to p r)
 
 -- The source gave what the rank's steps are given, and a frame that is refused there. By that frame nothing was done.
-pub record RefusesFrame (text : List ℕ) (r : ℕ) (fault : FrameFault) (before after : Option (List ℕ)) (old new : Outflow) : Type 0 where
-  pub told : Told text r
+pub record RefusesFrame (w : Work) (r : ℕ) (fault : FrameFault) (before after : Inflow) (old new : Outflow) : Type 0 where
+  pub told : Told w r
   pub place : PlaceState
-  pub stands : StandsAt told.program r told.slots told.steps place
+  pub stands : StandsAt w.schedule.plan w.inputs r told.slots told.steps place
   pub frame : List ℕ
   pub is : IsFrameRefused place fault frame
-  pub front : GivesFront before after (frames_for told.steps ++ frame)
+  pub front : GivesFront before.left after.left (frames_for told.steps ++ frame)
   pub wrote : Takes old new (frames_made told) []
 
--- The rank made the steps of a history, and of the frames of its messages the sink took a beginning.
-pub record BreaksOff (text : List ℕ) (r : ℕ) (old new : Outflow) : Type 0 where
-  pub told : Told text r
-  pub rest : List ℕ
-  pub wrote : Takes old new (frames_made told) rest
+-- The rank hasn't ended, after its start nothing is ready, and the frames of all messages that it made were written. Then a read failed;
+-- or the source is at its end behind what the steps are given and a part of a frame.
+pub record StarvesRank (w : Work) (r : ℕ) (before after : Inflow) (old new : Outflow) : Type 0 where
+  pub told : Told w r
+  pub waits : HasEndedAlone told → ⊥
+  pub idle : 0 < count_by is_start told.steps → IsIdleAlone told
+  pub dry : RunsDry before after (λ given. (part : List ℕ) × (given ≡ frames_for told.steps ++ part) × IsPart part)
+  pub wrote : Takes old new (frames_made told) []
 
--- What the rank of a text has done that ends with this status.
-abbrev pub RunsAs : List ℕ → ℕ → Status → Option (List ℕ) → Option (List ℕ) → Outflow → Outflow → Type 0
-RunsAs text r Ended before after old new = EndsRank text r before after (λ owed. Ends old new owed)
-RunsAs text r (Frame fault) before after old new = RefusesFrame text r fault before after old new
-RunsAs text r ReadFault before after old new = BreaksOff text r old new
-RunsAs text r WriteFault before after old new = BreaksOff text r old new ⊎ EndsRank text r before after (λ owed. FailsWithin old new owed)
-RunsAs text r NoMemory before after old new = (new ≡ old) ⊎ BreaksOff text r old new
-RunsAs text r _ before after old new = ⊥
+-- The source gave what the rank's steps are given, and the sink failed within the frames of what they made.
+pub record FailsToSend (w : Work) (r : ℕ) (before after : Inflow) (old new : Outflow) : Type 0 where
+  pub told : Told w r
+  pub front : GivesFront before.left after.left (frames_for told.steps)
+  pub wrote : FailsWithin old new (frames_made told)
+
+-- The source gave what the rank's steps are given, and perhaps some bytes more. The frames of all messages that it made were written, or
+-- of all but one, of which nothing was.
+pub record WantsMemory (w : Work) (r : ℕ) (before after : Inflow) (old new : Outflow) : Type 0 where
+  pub told : Told w r
+  pub part : List ℕ
+  pub front : GivesFront before.left after.left (frames_for told.steps ++ part)
+  pub unsent : Option Sent
+  pub wrote : Takes old new (frames_made told) (frames_of (and_then unsent []))
+
+-- What a rank has done that ends with this status.
+abbrev pub RunsAs : Work → ℕ → Status → Inflow → Inflow → Outflow → Outflow → Type 0
+RunsAs w r Ended before after old new = EndsRank w r before after (λ owed. Ends old new owed)
+RunsAs w r (Frame fault) before after old new = RefusesFrame w r fault before after old new
+RunsAs w r ReadFault before after old new = StarvesRank w r before after old new
+RunsAs w r WriteFault before after old new =
+    FailsToSend w r before after old new ⊎ EndsRank w r before after (λ owed. FailsWithin old new owed)
+RunsAs w r NoMemory before after old new = (new ≡ old) ⊎ WantsMemory w r before after old new
+RunsAs w r _ before after old new = ⊥
 
 -- ---- from the first frame on
 
 -- The source gave the first frame. Of its text, its rank and what was left behind it P holds.
-pub record Begins (before : Option (List ℕ)) (P : List ℕ → ℕ → Option (List ℕ) → Type 0) : Type 0 where
+pub record Begins (before : Inflow) (P : List ℕ → ℕ → Inflow → Type 0) : Type 0 where
   pub text : List ℕ
   pub rank : ℕ
-  pub behind : Option (List ℕ)
-  pub first : GivesFront before behind (frame rank text)
+  pub behind : Inflow
+  pub first : GivesFront before.left behind.left (frame rank text)
+  pub faults : before.faults ≤ behind.faults
   pub so : P text rank behind
 
 -- the rank of the first frame has done this
 abbrev pub Runs : Status → Inflow → Inflow → Outflow → Outflow → Type 0
-Runs status before after old new = Begins before.left (λ text r behind. RunsAs text r status behind after.left old new)
+Runs status before after old new =
+    Begins before (λ text r behind. (w : Work) × Asks text w × RunsAs w r status behind after old new)
 
 -- The text of the first frame is refused; or its length alone was read, and no text is so long.
-abbrev pub RefusesText : ℕ → Refusal → Option (List ℕ) → Option (List ℕ) → Type 0
+abbrev pub RefusesText : ℕ → Refusal → Inflow → Inflow → Type 0
 RefusesText line name before after =
     Begins before (λ text r behind. (after ≡ behind) × (refused_as (read text) ≡ Some (line, name)))
-    ⊎ IsTooLong before after line name
+    ⊎ IsTooLong before.left after.left line name
 
 -- a text is refused, and the sink failed where that was said
-pub record FailsToRefuse (before after : Option (List ℕ)) (old new : Outflow) : Type 0 where
+pub record FailsToRefuse (before after : Inflow) (old new : Outflow) : Type 0 where
   pub line : ℕ
   pub name : Refusal
   pub refused : RefusesText line name before after
@@ -127,12 +150,11 @@ pub record FailsToRefuse (before after : Option (List ℕ)) (old new : Outflow) 
 abbrev pub Does : Status → Inflow → Inflow → Outflow → Outflow → Type 0
 Does Ended before after old new = Runs Ended before after old new
 Does Usage before after old new = (after ≡ before) × (new ≡ old)
-Does WrongRank before after old new =
-    Begins before.left (λ text r behind. (after.left ≡ behind) × IsNoRank text r) × (new ≡ old)
+Does WrongRank before after old new = Begins before (λ text r behind. (after ≡ behind) × IsNoRank text r) × (new ≡ old)
 Does (Refused line name) before after old new =
-    RefusesText line name before.left after.left × Ends old new (mark ++ refusal_line line name)
-Does ReadFault before after old new = (new ≡ old) ⊎ Runs ReadFault before after old new
-Does WriteFault before after old new = FailsToRefuse before.left after.left old new ⊎ Runs WriteFault before after old new
+    RefusesText line name before after × Ends old new (mark ++ refusal_line line name)
+Does ReadFault before after old new = (RunsDry before after IsPart × (new ≡ old)) ⊎ Runs ReadFault before after old new
+Does WriteFault before after old new = FailsToRefuse before after old new ⊎ Runs WriteFault before after old new
 Does NoMemory before after old new = (new ≡ old) ⊎ Runs NoMemory before after old new
 Does (Frame fault) before after old new = Runs (Frame fault) before after old new
 

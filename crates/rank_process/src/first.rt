@@ -1,15 +1,15 @@
 //! The first frame.
 
-ghost use Rattle.std.specs.Prelude.{ℕ, List, Option, IfOk, IfErr};
+ghost use Rattle.std.specs.Prelude.{◌≤◌, IfOk, IfErr};
 ghost use Rattle.port_io.specs.Ends.{GivesFront};
 ghost use Rattle.rank_frames.specs.Frames.{frame};
 ghost use Rattle.rank_process.specs.Refused.{FailsFirst};
 
-use crate::status::Status;
+use crate::status::{Status, status_of};
 use coll_lang::{LONGEST_TEXT, Refusal};
 use port_io::Source;
 use ptl_types::Rank;
-use rank_frames::{Stop, read_bytes, read_head};
+use rank_frames::{read_bytes, read_head};
 use std::alloc::Global;
 
 /// What a rank is told first.
@@ -21,24 +21,15 @@ pub(crate) struct First {
     pub(crate) text: Vec<u8>,
 }
 
-/// The status of a rank that isn't told what it is.
-fn unread(stop: Stop) -> Status
-    ensures { (before after : Option (List ℕ)) → FailsFirst result before after }
-{
-    match stop {
-        Stop::NoMemory => Status::NoMemory,
-        _ => Status::ReadFault,
-    }
-}
-
 /// Reads the first frame: the rank, and the description's text. Of a text that is longer than any description only the length is read.
 pub(crate) fn read_first<S: Source>(alloc: Global, source: &mut S) -> Result<First, Status>
     ensures front { IfOk result (λ f. GivesFront (S.inflow source.old).left (S.inflow source.new).left (frame f.rank f.text.items)) }
-    ensures fails { IfErr result (λ e. FailsFirst e (S.inflow source.old).left (S.inflow source.new).left) }
+    ensures faults { (S.inflow source.old).faults ≤ (S.inflow source.new).faults }
+    ensures fails { IfErr result (λ e. FailsFirst e (S.inflow source.old) (S.inflow source.new)) }
 {
     let (rank, count) = match read_head(source) {
         Ok(head) => head,
-        Err(stop) => return Err(unread(stop)),
+        Err(stop) => return Err(status_of(stop)),
     };
     if count as usize > LONGEST_TEXT {
         return Err(Status::Refused {
@@ -49,6 +40,6 @@ pub(crate) fn read_first<S: Source>(alloc: Global, source: &mut S) -> Result<Fir
     let mut text = Vec::new(alloc);
     match read_bytes(source, &mut text, count) {
         Ok(()) => Ok(First { rank, text }),
-        Err(stop) => Err(unread(stop)),
+        Err(stop) => Err(status_of(stop)),
     }
 }

@@ -3,6 +3,7 @@
 ghost use Rattle.std.specs.Prelude.{◌<◌, IfOk};
 ghost use Rattle.rank_process.specs.Opening.{IsDueTo};
 
+use crate::recalling::recall_schedule;
 use ptl_types::{Lane, NoMemory, Rank};
 use rank_frames::Due;
 use schedule_compiler::Schedule;
@@ -14,7 +15,7 @@ pub(crate) fn due_to(alloc: Global, schedule: &Schedule, me: Rank) -> Result<Due
     requires { me < schedule.now.plan.ranks }
     ensures { IfOk result (λ due. IsDueTo schedule.now.plan me due) }
 {
-    let _ = schedule.plan();
+    recall_schedule(schedule);
     let ranks = schedule.ranks();
     let mut requests = Vec::with_capacity(alloc, ranks as usize)?;
     let mut answers = Vec::with_capacity(alloc, ranks as usize)?;

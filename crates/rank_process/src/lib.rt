@@ -9,6 +9,7 @@ pub mod lines;
 mod notes;
 mod opening;
 mod printing;
+mod recalling;
 mod refusing;
 mod running;
 mod status;

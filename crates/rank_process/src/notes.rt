@@ -15,23 +15,21 @@ fn message_note(fault: Fault) -> &'static [u8]
     ensures short { length result.now ≤ 65536 }
 {
     match fault {
-        Fault::Short => b"portals_rank: a frame is refused: bytes are lacking\n",
-        Fault::Kind => b"portals_rank: a frame is refused: an unknown kind of message\n",
-        Fault::Delivered => b"portals_rank: a frame is refused: an unknown word on delivery\n",
-        Fault::Ack => b"portals_rank: a frame is refused: an unknown acknowledgement\n",
-        Fault::Operation => b"portals_rank: a frame is refused: an unknown operation\n",
-        Fault::Swap => b"portals_rank: a frame is refused: an unknown swap\n",
-        Fault::ElementType => b"portals_rank: a frame is refused: an unknown type\n",
-        Fault::Home => b"portals_rank: a frame is refused: an unknown word on the descriptor\n",
-        Fault::Reserved => b"portals_rank: a frame is refused: a reserved byte that isn't 0\n",
-        Fault::StrayHome => b"portals_rank: a frame is refused: a descriptor that awaits nothing\n",
-        Fault::OperationOfKind =>
-            b"portals_rank: a frame is refused: an operation that isn't its kind's\n",
-        Fault::SwapOfKind => b"portals_rank: a frame is refused: a swap that isn't its kind's\n",
-        Fault::PartElement => b"portals_rank: a frame is refused: a part of an element\n",
-        Fault::OneElement =>
-            b"portals_rank: a frame is refused: a swap that isn't of one element\n",
-        Fault::Long => b"portals_rank: a frame is refused: too many bytes\n",
+        Fault::Short => b"a frame is refused: bytes are lacking\n",
+        Fault::Kind => b"a frame is refused: an unknown kind of message\n",
+        Fault::Delivered => b"a frame is refused: an unknown word on delivery\n",
+        Fault::Ack => b"a frame is refused: an unknown acknowledgement\n",
+        Fault::Operation => b"a frame is refused: an unknown operation\n",
+        Fault::Swap => b"a frame is refused: an unknown swap\n",
+        Fault::ElementType => b"a frame is refused: an unknown type\n",
+        Fault::Home => b"a frame is refused: an unknown word on the descriptor\n",
+        Fault::Reserved => b"a frame is refused: a reserved byte that isn't 0\n",
+        Fault::StrayHome => b"a frame is refused: a descriptor that awaits nothing\n",
+        Fault::OperationOfKind => b"a frame is refused: an operation that isn't its kind's\n",
+        Fault::SwapOfKind => b"a frame is refused: a swap that isn't its kind's\n",
+        Fault::PartElement => b"a frame is refused: a part of an element\n",
+        Fault::OneElement => b"a frame is refused: a swap that isn't of one element\n",
+        Fault::Long => b"a frame is refused: too many bytes\n",
     }
 }
 
@@ -41,21 +39,16 @@ fn frame_note(fault: FrameFault) -> &'static [u8]
     ensures short { length result.now ≤ 65536 }
 {
     match fault {
-        FrameFault::Mark => b"portals_rank: a frame is refused: no mark of a first start\n",
-        FrameFault::Source => b"portals_rank: a frame is refused: of no rank\n",
-        FrameFault::TooLong => b"portals_rank: a frame is refused: too long\n",
+        FrameFault::Mark => b"a frame is refused: no mark of a first start\n",
+        FrameFault::Source => b"a frame is refused: of no rank\n",
+        FrameFault::TooLong => b"a frame is refused: too long\n",
         FrameFault::Message(fault) => message_note(fault),
-        FrameFault::OtherSource =>
-            b"portals_rank: a frame is refused: a message of another source\n",
-        FrameFault::OtherTarget =>
-            b"portals_rank: a frame is refused: a message for another rank\n",
-        FrameFault::OtherJob => b"portals_rank: a frame is refused: a message of another job\n",
-        FrameFault::Lane =>
-            b"portals_rank: a frame is refused: a message more than its lane carries\n",
-        FrameFault::NotAwaited =>
-            b"portals_rank: a frame is refused: an answer that nothing awaits\n",
-        FrameFault::TooMany =>
-            b"portals_rank: a frame is refused: more bytes than come to this rank\n",
+        FrameFault::OtherSource => b"a frame is refused: a message of another source\n",
+        FrameFault::OtherTarget => b"a frame is refused: a message for another rank\n",
+        FrameFault::OtherJob => b"a frame is refused: a message of another job\n",
+        FrameFault::Lane => b"a frame is refused: a message more than its lane carries\n",
+        FrameFault::NotAwaited => b"a frame is refused: an answer that nothing awaits\n",
+        FrameFault::TooMany => b"a frame is refused: more bytes than come to this rank\n",
     }
 }
 
@@ -66,12 +59,12 @@ fn note_of(status: Status) -> &'static [u8]
 {
     match status {
         Status::Ended => b"",
-        Status::Usage => b"portals_rank: it takes no words: a rank is told by its first frame\n",
-        Status::WrongRank => b"portals_rank: the description has no such rank\n",
-        Status::Refused { .. } => b"portals_rank: the description is refused\n",
-        Status::ReadFault => b"portals_rank: standard input failed, or ended before the rank did\n",
-        Status::WriteFault => b"portals_rank: standard output can't be written\n",
-        Status::NoMemory => b"portals_rank: there is not enough memory\n",
+        Status::Usage => b"it takes no words: a rank is told by its first frame\n",
+        Status::WrongRank => b"the description has no such rank\n",
+        Status::Refused { .. } => b"the description is refused\n",
+        Status::ReadFault => b"standard input failed, or ended before the rank did\n",
+        Status::WriteFault => b"standard output can't be written\n",
+        Status::NoMemory => b"there is not enough memory\n",
         Status::Frame(fault) => frame_note(fault),
     }
 }

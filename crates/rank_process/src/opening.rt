@@ -1,18 +1,20 @@
 //! From the first frame to a rank that can take frames.
 
-ghost use Rattle.std.specs.Prelude.{ℕ, List, ◌≡◌, ◌<◌, Ok, Err, None, IfOk, IfErr};
+ghost use Rattle.std.specs.Prelude.{ℕ, List, ◌≡◌, ◌<◌, Ok, Err, None, IfOk, IfErr, length};
 ghost use Rattle.coll_shape.specs.Meaning.{AreInputs};
 ghost use Rattle.schedule_compiler.specs.shapes.Footprint.{refusal};
 ghost use Rattle.coll_lang.specs.Language.{read};
 ghost use Rattle.schedule_compiler.specs.Answers.{Compiles};
+ghost use Rattle.schedule_compiler.specs.Jobs.{job_of};
 ghost use Rattle.schedule_compiler.specs.Schedules.{schedule_of};
-ghost use Rattle.schedule_compiler.specs.shapes.Drawing.{plan_of};
+ghost use Rattle.rank_process.specs.lines.Rank.{Asks, Work};
 ghost use Rattle.rank_process.specs.Opening.{IsOpened, IsPlaceOf};
 ghost use Rattle.rank_process.specs.Refused.{FailsToOpen, FailsToPlan, FailsToRead};
 
 use crate::first::First;
 use crate::lanes::due_to;
 use crate::lines::Prints;
+use crate::recalling::recall_job;
 use crate::status::Status;
 use coll_lang::{Description, ParseFault, Refusal, parse};
 use coll_shape::{Inputs, Shape};
@@ -95,39 +97,41 @@ fn placed(alloc: Global, job: &Job, me: Rank) -> Result<Place, NoMemory>
     requires { me < job.now.schedule.plan.ranks }
     ensures { IfOk result (λ p. IsPlaceOf job.now.schedule.plan job.now.inputs me p) }
 {
-    let schedule = job.schedule();
-    let _ = schedule.plan();
-    let _ = schedule.ranks();
-    let _ = job.inputs();
-    let due = due_to(alloc, schedule, me)?;
+    recall_job(job);
+    let due = due_to(alloc, job.schedule(), me)?;
     let node = install(alloc, job, me, 0)?;
     Ok(Place::of(me, node, due))
 }
 
-/// The rank of a job of a shape. What the job has of other ranks is let go.
-fn ready_rank(
-    alloc: Global,
-    shape: Shape,
-    schedule: Schedule,
-    inputs: Inputs,
-    me: Rank,
-) -> Result<Opened, NoMemory>
-    requires schedule { schedule ≡ schedule_of shape }
-    requires inputs { AreInputs shape inputs }
-    requires rank { me < shape.ranks }
-    ensures place { IfOk result (λ o. IsPlaceOf (plan_of shape) inputs me o.place) }
-    ensures prints { IfOk result (λ o. o.prints ≡ record { shape = shape; rank = me }) }
+/// A rank of a job, which prints what a shape does. What the job has of other ranks is let go.
+fn ready_rank(alloc: Global, shape: Shape, job: Job, me: Rank) -> Result<Opened, NoMemory>
+    requires buffers { job.schedule.held.buffers ≡ length shape.buffers }
+    requires rank { me < job.schedule.plan.ranks }
+    ensures { IfOk result (λ o. IsOpened (record { shape = shape; schedule = job.schedule; inputs = job.inputs }) me o) }
 {
     shape.recall_form();
-    let job = shape_job(alloc, &shape, schedule, inputs)?;
     let place = placed(alloc, &job, me)?;
     let prints = Prints::of(alloc, shape, job.schedule(), me)?;
     Ok(Opened { place, prints })
 }
 
-/// The rank of the description that it is told. What the job has of other ranks is let go.
+/// The job of a description's own plan, unless the plan is too large.
+fn own_job(alloc: Global, shape: &Shape, inputs: Inputs) -> Result<Job, Status>
+    requires { AreInputs shape.now inputs }
+    ensures job { IfOk result (λ j. j ≡ job_of shape.now inputs) }
+    ensures accepted { IfOk result (λ j. refusal shape.now ≡ None) }
+    ensures fails { IfErr result (λ e. FailsToPlan shape.now e) }
+{
+    let schedule = scheduled(alloc, shape)?;
+    match shape_job(alloc, shape, schedule, inputs) {
+        Ok(job) => Ok(job),
+        Err(NoMemory) => Err(Status::NoMemory),
+    }
+}
+
+/// The rank that it is told of what the text asks for.
 pub(crate) fn open(alloc: Global, first: First) -> Result<Opened, Status>
-    ensures opens { IfOk result (λ o. IsOpened first.text.items first.rank o) }
+    ensures opens { IfOk result (λ o. (w : Work) × Asks first.text.items w × IsOpened w first.rank o) }
     ensures fails { IfErr result (λ e. FailsToOpen first.text.items first.rank e) }
 {
     let me = first.rank;
@@ -135,8 +139,9 @@ pub(crate) fn open(alloc: Global, first: First) -> Result<Opened, Status>
     if me >= shape.ranks() {
         return Err(Status::WrongRank);
     }
-    let schedule = scheduled(alloc, &shape)?;
-    match ready_rank(alloc, shape, schedule, inputs, me) {
+    shape.recall_form();
+    let job = own_job(alloc, &shape, inputs)?;
+    match ready_rank(alloc, shape, job, me) {
         Ok(opened) => Ok(opened),
         Err(NoMemory) => Err(Status::NoMemory),
     }

@@ -2,7 +2,7 @@
 
 ghost use Rattle.std.specs.Prelude.{◌≡◌, ◌++◌, []};
 ghost use Rattle.rank_frames.specs.Frames.{mark};
-ghost use Rattle.rank_process.specs.lines.Lines.{own_lines};
+ghost use Rattle.rank_process.specs.lines.Lines.{placed_lines};
 ghost use Rattle.run_text.specs.Orders.{order_line};
 ghost use Rattle.run_text.specs.Putting.{EndsWith};
 
@@ -29,7 +29,7 @@ pub(crate) fn write_end<K: Sink>(
     steps: &[LocalStep],
 ) -> Result<(), Failed>
     requires { out.old ≡ [] }
-    ensures { EndsWith (K.outflow sink.old) (K.outflow sink.new) (mark ++ (own_lines prints.now.shape prints.now.rank memory.now
+    ensures { EndsWith (K.outflow sink.old) (K.outflow sink.new) (mark ++ (placed_lines prints.now memory.now
         ++ order_line prints.now.rank steps.now)) result }
 {
     out.put(sink, &end_mark())?;

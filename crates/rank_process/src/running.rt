@@ -1,27 +1,19 @@
 //! The run of a rank.
 
-ghost use Rattle.std.specs.Prelude.{ℕ, List, [], ◌≡◌, map};
-ghost use Rattle.rank_node.specs.Copies.{listed};
-ghost use Rattle.rank_node.specs.Node.{IsNode};
+ghost use Rattle.std.specs.Prelude.{ℕ, [], ◌≡◌};
+ghost use Rattle.rank_process.specs.lines.Rank.{Work};
 ghost use Rattle.rank_process.specs.Opening.{IsOpened};
 ghost use Rattle.rank_process.specs.Owed.{Closes, owed};
 ghost use Rattle.rank_process.specs.Runs.{RunsAs};
 
 use crate::opening::Opened;
 use crate::printing::write_end;
+use crate::recalling::recall_place;
 use crate::status::{Status, status_of};
 use port_io::{Sink, Source};
-use rank_frames::{Place, take_frames};
+use rank_frames::take_frames;
 use run_text::Pieces;
 use std::alloc::Global;
-
-/// What holds of a place whatever was done with it.
-fn recall_place(place: &Place)
-    ensures node { IsNode place.now.node }
-    ensures listed { map listed place.now.node.diary.locals ≡ place.now.node.diary.steps }
-{
-    place.node().recall_history();
-}
 
 /// Writes what a rank that is over owes.
 fn close<K: Sink>(out: &mut Pieces, sink: &mut K, opened: &Opened) -> Status
@@ -50,8 +42,8 @@ pub(crate) fn run<S: Source, K: Sink>(
     sink: &mut K,
 ) -> Status
     requires { opened.place.node.diary.locals ≡ [] }
-    ensures { (text : List ℕ) (r : ℕ) → IsOpened text r opened →
-        RunsAs text r result (S.inflow source.old).left (S.inflow source.new).left (K.outflow sink.old) (K.outflow sink.new) }
+    ensures { (w : Work) (r : ℕ) → IsOpened w r opened →
+        RunsAs w r result (S.inflow source.old) (S.inflow source.new) (K.outflow sink.old) (K.outflow sink.new) }
 {
     let mut opened = opened;
     let Ok(mut out) = Pieces::open(alloc) else {

@@ -43,7 +43,9 @@ fn answered<S: Source, K: Sink>(
 /// `Ended`: what was written are the frames of the messages of a legal history of this rank, in order, then the mark, and exactly the
 /// rank's lines and steps of that history; the rank has started, nothing is ready, and all that its lanes carry has come. `Frame`: a
 /// frame is refused, by which nothing was done. `Refused`: the mark and the line that says why were written. `WrongRank` and `Usage`:
-/// nothing was written. `ReadFault`, `WriteFault` and `NoMemory`: it broke off, and a beginning of what was due was written.
+/// nothing was written. `ReadFault`: a read failed, or the source ended before the rank did; the frames of all messages that it made
+/// were written, and nothing else. `WriteFault`: a write failed, and a beginning of what was due was written. `NoMemory`: the frames of
+/// all messages that it made were written, or of all but the last, and nothing else.
 ///
 /// Beside each status but `Ended` a line stands in `notes`, if that doesn't fail.
 pub fn rank_main<S: Source, K: Sink, N: Sink>(

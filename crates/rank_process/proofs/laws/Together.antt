@@ -1,5 +1,5 @@
 -- Ranks that have ended each by itself make a cut at rest, and their lines are the result.
-use Rattle.std.proofs.Common.{ℕ, zero, suc, ◌+◌, ◌<◌, ◌≤◌, ◌≡◌, ◌++◌, List, [], ◌∷◌, refl, sym, ap, ap₂, ◌∙◌, subst, arith, length, get_or}
+use Rattle.std.proofs.Common.{ℕ, zero, suc, ◌+◌, ◌<◌, ◌≤◌, ◌≡◌, ◌++◌, List, ◌∷◌, refl, sym, ap, ap₂, ◌∙◌, subst, arith, length, get_or}
 use Rattle.std.specs.List.{flat_map}
 use Rattle.number_lists.specs.Numbers.{from_to}
 use Rattle.ptl_types.specs.declared.headers.Lane.{Lane}
@@ -9,9 +9,13 @@ use Rattle.coll_lang.specs.Readable.{IsReadable}
 use Rattle.coll_lang.proofs.Coming.{comes}
 use Rattle.coll_shape.specs.Meaning.{meaning_of}
 use Rattle.plan_core.specs.Plan.{Plan}
+use Rattle.plan_core.specs.Sound.{AreInputsOf, SoundPlan}
+use Rattle.plan_core.specs.Values.{Inputs}
 use Rattle.schedule_compiler.specs.shapes.Drawing.{plan_of}
 use Rattle.schedule_compiler.proofs.shapes.Final.{fine-shape, inputs_fit}
+use Rattle.cuts.specs.cells.Cells.{AreValues}
 use Rattle.cuts.specs.ended.Ended.{HasEnded}
+use Rattle.cuts.proofs.cells.Cells.{rest_values}
 use Rattle.cuts.proofs.ended.Rest.{at_rest}
 use Rattle.cuts.specs.histories.Cut.{IsAtRest, IsCut, IsPrefixOf}
 use Rattle.cuts.specs.histories.Plans.{system_of}
@@ -21,66 +25,78 @@ use Rattle.job_laws.proofs.Cuts.{meant_at_rest, sound_for}
 use Rattle.job_laws.specs.Results.{AreMeant}
 use Rattle.run_text.specs.Lines.{buffer_lines, line_at, rest_line, result_text}
 use Rattle.rank_process.specs.lines.Lines.{print_line}
+use Rattle.rank_process.specs.lines.Rank.{IsDescribed, own_work}
 use Rattle.rank_process.specs.laws.Ended.{AreCarried, HaveEnded, gathered, line_of}
-
--- lines that agree, one by one
-same-each : (f g : ℕ → List ℕ) (xs : List ℕ) → ((i : ℕ) → i < length xs → f (get_or xs i 0) ≡ g (get_or xs i 0))
-    → flat_map f xs ≡ flat_map g xs
-same-each f g [] same = refl
-same-each f g (x ∷ xs) same =
-    ap₂ (λ (a b : List ℕ). a ++ b) (same 0 (omega arith)) (same-each f g xs (λ i h. same (suc i) (omega (arith, h))))
+use Rattle.rank_process.proofs.lines.Lists.{same-each}
 
 same-from : (f g : ℕ → List ℕ) (k n : ℕ) → ((i : ℕ) → i < k + n → f i ≡ g i) → flat_map f (from_to k n) ≡ flat_map g (from_to k n)
 same-from f g k zero same = refl
 same-from f g k (suc n) same =
     ap₂ (λ (a b : List ℕ). a ++ b) (same k (omega arith)) (same-from f g (suc k) n (λ i h. same i (omega (arith, h))))
 
-module _ (text : List ℕ) (d : Program) (slots : ℕ → Slots) (world : Histories) (ended : HaveEnded text d slots world)
-    (carried : AreCarried d slots world) where
+-- ---- of a plan
+
+module _ (plan : Plan) (inputs : Inputs) (slots : ℕ → Slots) (world : Histories) (ended : HaveEnded plan inputs slots world)
+    (carried : AreCarried plan inputs slots world) where
+  abbrev ranks : System
+  ranks = system_of plan inputs slots
+
+  pub cut : IsCut ranks world
+  cut = record {
+    legal = λ r h. (ended.history r h).legal;
+    known = λ r s lane h k. (ended.history r h).known s lane k;
+    lanes = λ s r lane hs hr.
+        subst (λ (ms : List Sent). IsPrefixOf ms (sent_by ranks world s r lane)) (sym ((ended.history r hr).own s lane))
+        (carried s r lane hs hr);
+  }
+
+  -- what a rank sees of itself is so in the world
+  alone : (r : ℕ) → r < plan.ranks → HasEnded plan inputs slots world r
+  alone r h = let e = ended.ended r h in record { started = e.started; idle = e.idle; all = e.all }
+
+  pub rest : SoundPlan plan (length inputs) → AreInputsOf plan inputs → IsAtRest ranks world
+  rest sound fit = at_rest plan inputs slots world sound fit cut alone
+
+  pub values : SoundPlan plan (length inputs) → AreInputsOf plan inputs → AreValues plan inputs (λ r. (state_at ranks world r).memory)
+  values sound fit = rest_values plan inputs sound fit slots world cut (rest sound fit)
+
+-- ---- of a description
+
+module _ (text : List ℕ) (d : Program) (slots : ℕ → Slots) (world : Histories) (described : IsDescribed text d)
+    (ended : HaveEnded (plan_of d.shape) d.inputs slots world) (carried : AreCarried (plan_of d.shape) d.inputs slots world) where
   abbrev plan : Plan
   plan = plan_of d.shape
 
-  abbrev ranks : System
-  ranks = system_of plan d.inputs slots
-
   ok : IsReadable d
-  ok = (comes text d ended.described.read).readable
+  ok = (comes text d described.read).readable
 
   many : plan.ranks ≡ d.shape.ranks
   many = (fine-shape d.shape ok.formed).ranks
 
-  pub cut : IsCut ranks world
-  cut = record {
-    legal = λ r h. (ended.history r (let n = many in omega (arith, h, n))).legal;
-    known = λ r s lane h k. (ended.history r (let n = many in omega (arith, h, n))).known s lane (let n = many in omega (arith, k, n));
-    lanes = λ s r lane hs hr.
-        let n = many in
-        let low : r < d.shape.ranks = omega (arith, hr, n) in
-        subst (λ (ms : List Sent). IsPrefixOf ms (sent_by ranks world s r lane)) (sym ((ended.history r low).own s lane))
-        (carried s r lane (omega (arith, hs, n)) low);
-  }
+  all-cut : IsCut (system_of plan d.inputs slots) world
+  all-cut = cut plan d.inputs slots world ended carried
 
-  -- what a rank sees of itself is so in the world
-  alone : (r : ℕ) → r < plan.ranks → HasEnded plan d.inputs slots world r
-  alone r h =
-      let e = ended.ended r (let n = many in omega (arith, h, n)) in
-      record { started = e.started; idle = e.idle; all = e.all }
+  at-rest : IsAtRest (system_of plan d.inputs slots) world
+  at-rest = rest plan d.inputs slots world ended carried (sound_for d.shape d.inputs ok.formed described.accepted ok.given)
+      (inputs_fit d.shape d.inputs ok.formed ok.given)
 
-  pub rest : IsAtRest ranks world
-  rest = at_rest plan d.inputs slots world (sound_for d.shape d.inputs ok.formed ended.described.accepted ok.given)
-      (inputs_fit d.shape d.inputs ok.formed ok.given) cut alone
-
-  pub meant : AreMeant d.shape d.inputs (λ r. (state_at ranks world r).memory)
-  meant = meant_at_rest d.shape d.inputs slots world ok.formed ended.described.accepted ok.given cut rest
+  pub meant : AreMeant d.shape d.inputs (λ r. (state_at (system_of plan d.inputs slots) world r).memory)
+  meant = meant_at_rest d.shape d.inputs slots world ok.formed described.accepted ok.given all-cut at-rest
 
   line-is : (b r : ℕ) → b < length d.shape.buffers → r < d.shape.ranks →
-      line_of d slots world b r ≡ line_at d.shape (meaning_of d.shape d.inputs) b r
+      line_of (own_work d) slots world b r ≡ line_at d.shape (meaning_of d.shape d.inputs) b r
   line-is b r hb hr = ap (print_line d.shape r b) (meant b r hb hr)
 
-  pub lines : gathered d slots world ++ rest_line ≡ result_text d.shape d.inputs
+  rows-are : (b n : ℕ) → b < length d.shape.buffers → n ≡ d.shape.ranks →
+      flat_map (line_of (own_work d) slots world b) (from_to 0 n) ≡ buffer_lines d.shape (meaning_of d.shape d.inputs) b
+  rows-are b n hb same =
+      subst (λ k. flat_map (line_of (own_work d) slots world b) (from_to 0 k) ≡ buffer_lines d.shape (meaning_of d.shape d.inputs) b)
+      (sym same)
+      (same-from (line_of (own_work d) slots world b) (line_at d.shape (meaning_of d.shape d.inputs) b) 0 d.shape.ranks
+      (λ r hr. line-is b r hb (omega (arith, hr))))
+
+  pub lines : gathered (own_work d) slots world ++ rest_line ≡ result_text d.shape d.inputs
   lines = ap (λ (l : List ℕ). l ++ rest_line)
-      (same-each (λ b. flat_map (line_of d slots world b) (from_to 0 d.shape.ranks)) (buffer_lines d.shape (meaning_of d.shape d.inputs))
-      d.shape.prints
-      (λ i h. let b = get_or d.shape.prints i 0 in
-      same-from (line_of d slots world b) (line_at d.shape (meaning_of d.shape d.inputs) b) 0 d.shape.ranks
-      (λ r hr. line-is b r (ok.formed.shape.printed i h) (omega (arith, hr)))))
+      (same-each (λ b. flat_map (line_of (own_work d) slots world b) (from_to 0 plan.ranks))
+      (buffer_lines d.shape (meaning_of d.shape d.inputs))
+      d.shape.prints (λ i h. rows-are (get_or d.shape.prints i 0) plan.ranks (ok.formed.shape.printed i h) many))

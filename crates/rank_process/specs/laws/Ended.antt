@@ -3,8 +3,8 @@ use Rattle.std.specs.Prelude.{ℕ, ◌<◌, ◌≡◌, List}
 use Rattle.std.specs.List.{flat_map}
 use Rattle.number_lists.specs.Numbers.{from_to}
 use Rattle.ptl_types.specs.declared.headers.Lane.{Lane}
-use Rattle.coll_lang.specs.Program.{Program}
-use Rattle.schedule_compiler.specs.shapes.Drawing.{plan_of}
+use Rattle.plan_core.specs.Plan.{Plan}
+use Rattle.plan_core.specs.Values.{Inputs}
 use Rattle.cuts.specs.ended.Ended.{HasEnded}
 use Rattle.cuts.specs.histories.Cut.{IsPrefixOf}
 use Rattle.cuts.specs.histories.History.{got}
@@ -12,25 +12,24 @@ use Rattle.cuts.specs.histories.Plans.{system_of}
 use Rattle.cuts.specs.histories.System.{Histories, sent_by}
 use Rattle.cuts.specs.view.Slots.{Slots}
 use Rattle.rank_process.specs.lines.Lines.{own_line}
-use Rattle.rank_process.specs.lines.Rank.{IsDescribed, IsHistory, state_after}
+use Rattle.rank_process.specs.lines.Rank.{IsHistory, Work, state_after}
 
--- each rank of one description has such a history as is said where a rank ends, with the slots that its own tables gave
-pub record HaveEnded (text : List ℕ) (d : Program) (slots : ℕ → Slots) (world : Histories) : Type 0 where
-  pub described : IsDescribed text d
-  pub history : (r : ℕ) → r < d.shape.ranks → IsHistory d r (slots r) (world r)
-  pub ended : (r : ℕ) → r < d.shape.ranks → HasEnded (plan_of d.shape) d.inputs (λ q. slots r) (λ q. world r) r
+-- each rank of one plan has such a history as is said where a rank ends, with the slots that its own tables gave
+pub record HaveEnded (p : Plan) (inputs : Inputs) (slots : ℕ → Slots) (world : Histories) : Type 0 where
+  pub history : (r : ℕ) → r < p.ranks → IsHistory p inputs r (slots r) (world r)
+  pub ended : (r : ℕ) → r < p.ranks → HasEnded p inputs (λ q. slots r) (λ q. world r) r
 
 -- What came to each rank from another on a lane is a beginning of what that one sent there: nothing was lost among it, added or changed,
 -- nor did one message overtake another.
-abbrev pub AreCarried : Program → (ℕ → Slots) → Histories → Type 0
-AreCarried d slots world =
-    (s r : ℕ) (lane : Lane) → s < d.shape.ranks → r < d.shape.ranks
-    → IsPrefixOf (got (world r) s lane) (sent_by (system_of (plan_of d.shape) d.inputs slots) world s r lane)
+abbrev pub AreCarried : Plan → Inputs → (ℕ → Slots) → Histories → Type 0
+AreCarried p inputs slots world =
+    (s r : ℕ) (lane : Lane) → s < p.ranks → r < p.ranks
+    → IsPrefixOf (got (world r) s lane) (sent_by (system_of p inputs slots) world s r lane)
 
 -- the line of buffer b that rank r wrote
-abbrev pub line_of : Program → (ℕ → Slots) → Histories → ℕ → ℕ → List ℕ
-line_of d slots world b r = own_line d.shape r (state_after d r (slots r) (world r)).memory b
+abbrev pub line_of : Work → (ℕ → Slots) → Histories → ℕ → ℕ → List ℕ
+line_of w slots world b r = own_line w.shape w.schedule r (state_after w.schedule.plan w.inputs r (slots r) (world r)).memory b
 
 -- the lines that the ranks wrote: for each buffer that is printed, in order, that of each rank
-abbrev pub gathered : Program → (ℕ → Slots) → Histories → List ℕ
-gathered d slots world = flat_map (λ b. flat_map (line_of d slots world b) (from_to 0 d.shape.ranks)) d.shape.prints
+abbrev pub gathered : Work → (ℕ → Slots) → Histories → List ℕ
+gathered w slots world = flat_map (λ b. flat_map (line_of w slots world b) (from_to 0 w.schedule.plan.ranks)) w.shape.prints

@@ -1,12 +1,15 @@
--- One rank of a description by itself: what its text says, its interface, its history.
+-- One rank of what a text asks for by itself: its interface, its history.
 use Rattle.std.specs.Prelude.{ℕ, false, ◌≡◌, ◌≤◌, ◌<◌, List, [], None, Ok, length}
 use Rattle.ptl_types.specs.declared.headers.Lane.{Lane}
 use Rattle.ptl_types.specs.Messages.{Sent}
 use Rattle.ni_model.specs.State.{State}
 use Rattle.coll_lang.specs.Language.{read}
 use Rattle.coll_lang.specs.Program.{Program}
-use Rattle.schedule_compiler.specs.shapes.Drawing.{plan_of}
+use Rattle.coll_shape.specs.Outline.{Outline}
 use Rattle.schedule_compiler.specs.shapes.Footprint.{refusal}
+use Rattle.schedule_compiler.specs.Schedules.{ScheduleOf, schedule_of}
+use Rattle.plan_core.specs.Plan.{Plan}
+use Rattle.plan_core.specs.Values.{Inputs}
 use Rattle.plan_core.specs.calls.Lanes.{lane_messages}
 use Rattle.cuts.specs.histories.Cut.{owned}
 use Rattle.cuts.specs.histories.History.{Legal, Local, got, made, state}
@@ -14,23 +17,41 @@ use Rattle.cuts.specs.histories.Plans.{start_of}
 use Rattle.cuts.specs.view.Calls.{prepare}
 use Rattle.cuts.specs.view.Slots.{Slots}
 
+-- ---- what ranks run
+
+-- a schedule and its inputs, and the shape that names what is printed
+pub record Work : Type 0 where
+  pub shape : Outline
+  pub schedule : ScheduleOf
+  pub inputs : Inputs
+
 -- the text is that of a description that ranks can run: it is no choice text, and its plan isn't refused
 pub record IsDescribed (text : List ℕ) (d : Program) : Type 0 where
   pub read : read text ≡ Ok d
   pub planned : d.choices ≡ None
   pub accepted : refusal d.shape ≡ None
 
--- the interface of rank r after a history, with the slots that its tables gave, and the messages that the history makes
-abbrev pub state_after : Program → ℕ → Slots → List Local → State
-state_after d r k es = state (start_of (plan_of d.shape) k r) (prepare (plan_of d.shape) d.inputs k r) es
+-- a description's own plan, with its inputs
+abbrev pub own_work : Program → Work
+own_work d = record { shape = d.shape; schedule = schedule_of d.shape; inputs = d.inputs }
 
-abbrev pub made_by_rank : Program → ℕ → Slots → List Local → List Sent
-made_by_rank d r k es = made (start_of (plan_of d.shape) k r) (prepare (plan_of d.shape) d.inputs k r) es
+-- the text asks for this
+abbrev pub Asks : List ℕ → Work → Type 0
+Asks text w = (d : Program) × IsDescribed text d × (w ≡ own_work d)
+
+-- ---- a rank of a plan
+
+-- the interface of rank r after a history, with the slots that its tables gave, and the messages that the history makes
+abbrev pub state_after : Plan → Inputs → ℕ → Slots → List Local → State
+state_after p inputs r k es = state (start_of p k r) (prepare p inputs k r) es
+
+abbrev pub made_by_rank : Plan → Inputs → ℕ → Slots → List Local → List Sent
+made_by_rank p inputs r k es = made (start_of p k r) (prepare p inputs k r) es
 
 -- a history of it: each step may be made where it stands; each lane brings no more than in a whole run; all of it is of ranks, and of
 -- the job
-pub record IsHistory (d : Program) (r : ℕ) (k : Slots) (es : List Local) : Type 0 where
-  pub legal : Legal (start_of (plan_of d.shape) k r) false (prepare (plan_of d.shape) d.inputs k r) es
-  pub within : (s : ℕ) (lane : Lane) → s < d.shape.ranks → length (got es s lane) ≤ lane_messages (plan_of d.shape) s r lane
-  pub known : (s : ℕ) (lane : Lane) → d.shape.ranks ≤ s → got es s lane ≡ []
+pub record IsHistory (p : Plan) (inputs : Inputs) (r : ℕ) (k : Slots) (es : List Local) : Type 0 where
+  pub legal : Legal (start_of p k r) false (prepare p inputs k r) es
+  pub within : (s : ℕ) (lane : Lane) → s < p.ranks → length (got es s lane) ≤ lane_messages p s r lane
+  pub known : (s : ℕ) (lane : Lane) → p.ranks ≤ s → got es s lane ≡ []
   pub own : (s : ℕ) (lane : Lane) → owned (got es s lane) ≡ got es s lane

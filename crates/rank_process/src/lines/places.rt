@@ -1,11 +1,8 @@
 //! Where a rank's lists lie.
 
-ghost use Rattle.std.specs.Prelude.{◌≡◌, ◌<◌, IfOk, map, option_map};
-ghost use Rattle.number_lists.specs.Numbers.{from_to};
-ghost use Rattle.plan_core.specs.Draw.{held_cell};
+ghost use Rattle.std.specs.Prelude.{◌≡◌, ◌<◌, IfOk};
 ghost use Rattle.ptl_types.specs.Elements.{part};
-ghost use Rattle.schedule_compiler.specs.Answers.{place_of};
-ghost use Rattle.rank_process.specs.lines.Places.{place_held};
+ghost use Rattle.rank_process.specs.lines.Places.{place_held, places_in};
 
 use ptl_types::{NoMemory, Rank};
 use schedule_compiler::{Place, Schedule};
@@ -30,7 +27,7 @@ pub(crate) fn places_of(
     me: Rank,
 ) -> Result<Vec<Option<Place>>, NoMemory>
     requires { me < schedule.now.plan.ranks }
-    ensures { IfOk result (λ places. places.items ≡ map (place_held schedule.now me) (from_to 0 schedule.now.held.buffers)) }
+    ensures { IfOk result (λ places. places.items ≡ places_in schedule.now me) }
 {
     let buffers = schedule.buffers();
     let mut places = Vec::with_capacity(alloc, buffers as usize)?;

@@ -1,11 +1,9 @@
 //! What a rank prints.
 
-ghost use Rattle.std.specs.Prelude.{◌≡◌, ◌<◌, IfOk, length};
-ghost use Rattle.cuts.specs.cells.Cells.{result_in};
+ghost use Rattle.std.specs.Prelude.{◌≡◌, ◌<◌, IfOk, None, get_or, length};
 ghost use Rattle.run_text.specs.Putting.{Puts};
-ghost use Rattle.schedule_compiler.specs.Schedules.{schedule_of};
-ghost use Rattle.schedule_compiler.specs.shapes.Drawing.{drawing_of, plan_of};
-ghost use Rattle.rank_process.specs.lines.Lines.{own_line, own_lines};
+ghost use Rattle.rank_process.specs.lines.Lines.{part_at, placed_line, placed_lines};
+ghost use Rattle.rank_process.specs.lines.Places.{places_in};
 
 use crate::lines::places::{part_of, places_of};
 use coll_shape::Shape;
@@ -25,14 +23,14 @@ pub struct Prints {
 }
 
 impl Model for Prints {
+    ghost use Rattle.std.specs.Prelude.{◌≡◌, length};
     ghost use Rattle.rank_process.specs.lines.Lines.{PrintsOf};
-    ghost use Rattle.rank_process.specs.lines.Places.{ArePlaces};
 
     ghost Value = { PrintsOf };
 
-    ghost view = { λ p. record { shape = p.shape; rank = p.rank } };
+    ghost view = { λ p. record { shape = p.shape; rank = p.rank; places = p.places.items } };
 
-    ghost invariant = { λ p. ArePlaces p.shape p.rank p.places.items };
+    ghost invariant = { λ p. length p.places.items ≡ length p.shape.buffers };
 }
 
 /// What a rank prints, and its memory.
@@ -44,11 +42,11 @@ struct OwnRows<'a> {
 
 impl<'a> Rows for OwnRows<'a> {
     ghost use Rattle.std.specs.Prelude.{◌<◌, length};
-    ghost use Rattle.rank_process.specs.lines.Lines.{own_line};
+    ghost use Rattle.rank_process.specs.lines.Lines.{placed_line};
 
     ghost has = { λ rows b. b < length rows.prints.now.shape.buffers };
 
-    ghost line = { λ rows b. own_line rows.prints.now.shape rows.prints.now.rank rows.memory.now b };
+    ghost line = { λ rows b. placed_line rows.prints.now rows.memory.now b };
 
     fn put<K: Sink>(&self, out: &mut Pieces, sink: &mut K, number: u32) -> Result<(), Failed> {
         self.prints.put_line(out, sink, number, self.memory)
@@ -56,7 +54,7 @@ impl<'a> Rows for OwnRows<'a> {
 }
 
 impl Prints {
-    /// What a rank of a shape prints, by the shape's schedule.
+    /// What a rank prints by a shape, where a schedule's cells hold its lists.
     ///
     /// # Errors
     ///
@@ -67,9 +65,9 @@ impl Prints {
         schedule: &Schedule,
         rank: Rank,
     ) -> Result<Prints, NoMemory>
-        requires schedule { schedule.now ≡ schedule_of shape }
+        requires buffers { schedule.now.held.buffers ≡ length shape.buffers }
         requires rank { rank < schedule.now.plan.ranks }
-        ensures { IfOk result (λ p. p ≡ record { shape = shape; rank = rank }) }
+        ensures { IfOk result (λ p. p ≡ record { shape = shape; rank = rank; places = places_in schedule.now rank }) }
     {
         let places = places_of(alloc, schedule, rank)?;
         Ok(Prints {
@@ -89,9 +87,8 @@ impl Prints {
     /// The rank's list of a buffer in its memory.
     fn list<'a>(&self, buffer: u32, memory: &'a [u8]) -> &'a [u8]
         requires { buffer < length self.now.shape.buffers }
-        ensures { result.now ≡ result_in (plan_of self.now.shape) (drawing_of self.now.shape).held buffer self.now.rank memory.now }
+        ensures { result.now ≡ part_at (get_or self.now.places buffer None) memory.now }
     {
-        self.shape.recall_form();
         match self.places[buffer as usize] {
             Some(place) => part_of(memory, place),
             None => &[],
@@ -108,7 +105,7 @@ impl Prints {
     ) -> Result<(), Failed>
         requires { buffer < length self.now.shape.buffers }
         ensures { Puts (K.outflow sink.old) (K.outflow sink.new) out.old out.new
-            (own_line self.now.shape self.now.rank memory.now buffer) result }
+            (placed_line self.now memory.now buffer) result }
     {
         let about = &self.shape.buffers()[buffer as usize];
         let list = self.list(buffer, memory);
@@ -120,7 +117,7 @@ impl Prints {
     /// At `Failed` the count of the sink's faults rose, and a beginning of the text stands. It takes no memory.
     pub fn put<K: Sink>(&self, out: &mut Pieces, sink: &mut K, memory: &[u8]) -> Result<(), Failed>
         ensures { Puts (K.outflow sink.old) (K.outflow sink.new) out.old out.new
-            (own_lines self.now.shape self.now.rank memory.now) result }
+            (placed_lines self.now memory.now) result }
     {
         self.shape.recall_form();
         let rows = OwnRows {

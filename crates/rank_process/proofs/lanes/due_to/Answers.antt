@@ -7,7 +7,7 @@ use Rattle.rank_process.proofs.lanes.due_to.Goals as goal
 pub overflow_add-messages : goal.overflow_add-messages
 overflow_add-messages c =
     let p = c.args.schedule.now.plan in
-    let h = c.plan.ensures.at_most in
+    let h = c.recall_schedule.ensures.at_most in
     let a = at_most-lane p c.loop-source.source c.args.me Request in
     let b = at_most-lane p c.loop-source.source c.args.me Answer in
     let x = c.lane-asked.ensures in
@@ -17,7 +17,7 @@ overflow_add-messages c =
 pub overflow_add-messages-in-loop-source : goal.overflow_add-messages-in-loop-source
 overflow_add-messages-in-loop-source c =
     let p = c.args.schedule.now.plan in
-    let h = c.plan.ensures.at_most in
+    let h = c.recall_schedule.ensures.at_most in
     let a = at_most-lane p c.loop-source.source c.args.me Request in
     let b = at_most-lane p c.loop-source.source c.args.me Answer in
     let x = c.lane-asked.ensures in
@@ -38,7 +38,7 @@ loop-source-preserved c =
     let xs = c.loop-source.requests.items in
     let ys = c.loop-source.answers.items in
     let n = c.loop-source.messages in
-    let h = c.plan.ensures.at_most in
+    let h = c.recall_schedule.ensures.at_most in
     let small : length p.links < 2 ^ 27 = omega (arith, h) in
     let more = summed-more p me k x y xs ys n small c.loop-source.invariant c.lane-asked.ensures c.lane-answered.ensures in
     subst (λ (l : List ℕ). Summed p me (k + 1) l c.push-in-loop-source.new.self.items (n + (x + y))) (sym c.in_ok-push.ensures.items)
