@@ -3,7 +3,8 @@
 use crate::layout::{
     ACROSS, Arrow, BETWEEN_RANKS, BOX_HEIGHT, BOX_WIDTH, DOWN, LEFT, Layout, Place, Span, TOP,
 };
-use crate::lines::PlanText;
+use crate::lines::{Item, PlanText, Verdict};
+use crate::name_drawing::draw_names;
 use crate::strips::{Bands, Strip};
 use crate::svg;
 use coll_lang::{op_word, type_word};
@@ -18,30 +19,64 @@ const BESIDE: u64 = (ACROSS - BOX_WIDTH + BETWEEN_RANKS) / 2;
 
 const ABOVE: u64 = (DOWN - BOX_HEIGHT) / 2;
 
-/// A plan with where everything stands.
+/// A plan with where everything stands, and what was answered of it.
 #[derive(Clone, Copy)]
 pub struct PlanPicture<'a> {
     plan: &'a PlanText,
     layout: &'a Layout,
     bands: &'a Bands,
+    answer: Option<Answer<'a>>,
 }
 
 impl<'a> PlanPicture<'a> {
     /// The picture of a plan, laid out so.
-    pub fn of(plan: &'a PlanText, layout: &'a Layout, bands: &'a Bands) -> PlanPicture<'a> {
+    pub fn of(
+        plan: &'a PlanText,
+        layout: &'a Layout,
+        bands: &'a Bands,
+        verdict: Option<&'a Verdict>,
+    ) -> PlanPicture<'a> {
         PlanPicture {
             plan,
             layout,
             bands,
+            answer: verdict.map(|verdict| Answer::of(plan, verdict)),
         }
     }
 }
 
-fn ascii(word: &[u8]) -> &str {
+/// What was answered of a plan, and of what in it.
+#[derive(Clone, Copy)]
+struct Answer<'a> {
+    words: &'a str,
+    item: Item,
+}
+
+impl<'a> Answer<'a> {
+    fn of(plan: &PlanText, verdict: &'a Verdict) -> Answer<'a> {
+        Answer {
+            words: verdict.words.as_str(),
+            item: match verdict.line {
+                Some(line) => plan.item_at(line),
+                None => Item::Whole,
+            },
+        }
+    }
+}
+
+/// The words of what was answered of this item, if it is at fault.
+fn fault_of<'a>(answer: Option<Answer<'a>>, item: Item) -> Option<&'a str> {
+    match answer {
+        Some(answer) if answer.item == item => Some(answer.words),
+        _ => None,
+    }
+}
+
+pub fn ascii(word: &[u8]) -> &str {
     str::from_utf8(word).unwrap_or("")
 }
 
-fn kind_word(kind: LinkKind) -> &'static str {
+pub fn kind_word(kind: LinkKind) -> &'static str {
     match kind {
         LinkKind::Put => "put",
         LinkKind::Atomic => "atomic",
@@ -124,34 +159,48 @@ fn draw_contents<W: fmt::Write>(
     writeln!(out, "{} B</text>", cell.length)
 }
 
+/// Begins a cell's group; where the cell is at fault, that is its title.
+fn begin_cell<W: fmt::Write>(
+    out: &mut fmt::Formatter<W>,
+    number: usize,
+    class: &str,
+    fault: Option<&str>,
+) -> fmt::Result {
+    match fault {
+        None => writeln!(out, "<g id=\"cell-{number}\" class=\"{class}\">"),
+        Some(words) => {
+            write!(out, "<g id=\"cell-{number}\" class=\"{class} fault\">")?;
+            writeln!(out, "<title>{words}</title>")
+        }
+    }
+}
+
 /// A cell's box, with what it needs and holds.
 fn draw_cell<W: fmt::Write>(
     out: &mut fmt::Formatter<W>,
     number: usize,
     cell: &Cell,
     place: &Place,
-    is_go: bool,
+    (is_go, fault): (bool, Option<&str>),
 ) -> fmt::Result {
     let class = match cell.op {
         Some(_) => "operation",
         None if is_go => "go",
         None => "part",
     };
-    writeln!(out, "<g id=\"cell-{number}\" class=\"{class}\">")?;
+    begin_cell(out, number, class, fault)?;
     svg::round_box(out, "box", (place.x(), place.y()), (BOX_WIDTH, BOX_HEIGHT))?;
     draw_needs(out, number, cell, place)?;
     draw_contents(out, cell, place, is_go)?;
     out.write_str("</g>\n")
 }
 
-fn draw_cells<W: fmt::Write>(
-    out: &mut fmt::Formatter<W>,
-    plan: &PlanText,
-    places: &[Place],
-) -> fmt::Result {
+fn draw_cells<W: fmt::Write>(out: &mut fmt::Formatter<W>, picture: &PlanPicture) -> fmt::Result {
+    let (plan, places) = (picture.plan, picture.layout.places.as_slice());
     let ranks = plan.ranks as usize;
-    for (number, (cell, place)) in plan.cells.iter().zip(places.iter()).enumerate() {
-        draw_cell(out, number, cell, place, number < ranks)?;
+    for (number, (cell, place)) in plan.cells().iter().zip(places.iter()).enumerate() {
+        let fault = fault_of(picture.answer, Item::Cell(number));
+        draw_cell(out, number, cell, place, (number < ranks, fault))?;
     }
     Ok(())
 }
@@ -173,19 +222,22 @@ fn draw_way<W: fmt::Write>(out: &mut fmt::Formatter<W>, arrow: &Arrow) -> fmt::R
 /// A link's arrow.
 fn draw_link<W: fmt::Write>(
     out: &mut fmt::Formatter<W>,
-    number: usize,
     link: &Link,
     arrow: &Arrow,
+    fault: Option<&str>,
 ) -> fmt::Result {
-    let kind = kind_word(arrow.kind);
+    let (kind, number) = (kind_word(arrow.kind), arrow.link);
     write!(out, "<path id=\"link-{number}\" ")?;
-    svg::begin_arrow(out, kind)?;
+    match fault {
+        None => svg::begin_arrow(out, kind)?,
+        Some(_) => svg::begin_fault(out, kind)?,
+    }
     draw_way(out, arrow)?;
-    write!(
-        out,
-        "\"><title>link {number}: {kind} of {} bytes",
-        link.length
-    )?;
+    out.write_str("\"><title>")?;
+    if let Some(words) = fault {
+        write!(out, "{words}. ")?;
+    }
+    write!(out, "link {number}: {kind} of {} bytes", link.length)?;
     write!(out, " from {} of cell {}", link.source_offset, link.source)?;
     writeln!(
         out,
@@ -194,13 +246,13 @@ fn draw_link<W: fmt::Write>(
     )
 }
 
-fn draw_links<W: fmt::Write>(
-    out: &mut fmt::Formatter<W>,
-    links: &[Link],
-    arrows: &[Arrow],
-) -> fmt::Result {
-    for (number, (link, arrow)) in links.iter().zip(arrows.iter()).enumerate() {
-        draw_link(out, number, link, arrow)?;
+fn draw_links<W: fmt::Write>(out: &mut fmt::Formatter<W>, picture: &PlanPicture) -> fmt::Result {
+    let links = picture.plan.links();
+    for arrow in picture.layout.arrows.iter() {
+        if let Some(link) = links.get(arrow.link) {
+            let fault = fault_of(picture.answer, Item::Link(arrow.link));
+            draw_link(out, link, arrow, fault)?;
+        }
     }
     Ok(())
 }
@@ -243,10 +295,32 @@ fn draw_ranks<W: fmt::Write>(
     spans: &[Span],
     bottom: u64,
 ) -> fmt::Result {
-    for (span, done) in spans.iter().zip(plan.done.iter()) {
+    for (span, done) in spans.iter().zip(plan.given.done().iter()) {
         draw_rank(out, span, *done, bottom)?;
     }
+    if let Some(span) = spans.get(plan.ranks as usize) {
+        svg::begin_text(out, "rank", (span.left() + BOX_WIDTH / 2, 52))?;
+        out.write_str("no rank</text>\n")?;
+    }
     Ok(())
+}
+
+/// What was answered of the plan, and of what.
+fn draw_answer<W: fmt::Write>(out: &mut fmt::Formatter<W>, answer: &Answer) -> fmt::Result {
+    if answer.words == "holds" {
+        svg::begin_text(out, "left", (LEFT, 36))?;
+        return out.write_str("holds</text>\n");
+    }
+    svg::fault_styles(out)?;
+    svg::begin_text(out, "left fault", (LEFT, 36))?;
+    out.write_str(answer.words)?;
+    match answer.item {
+        Item::Whole => {}
+        Item::Cell(number) => write!(out, " (cell {number})")?,
+        Item::Link(number) => write!(out, " (link {number})")?,
+        Item::Done(rank) => write!(out, " (rank {rank})")?,
+    }
+    out.write_str("</text>\n")
 }
 
 /// The right edge of the drawing.
@@ -282,8 +356,12 @@ impl fmt::Display for PlanPicture<'_> {
         }
         draw_keys(f)?;
         draw_ranks(f, plan, spans, bottom)?;
-        draw_links(f, plan.links.as_slice(), layout.arrows.as_slice())?;
-        draw_cells(f, plan, places)?;
+        if let Some(answer) = &self.answer {
+            draw_answer(f, answer)?;
+        }
+        draw_links(f, self)?;
+        draw_cells(f, self)?;
+        draw_names(f, plan, layout)?;
         svg::end(f)
     }
 }

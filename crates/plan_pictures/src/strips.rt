@@ -1,4 +1,4 @@
-//! The steps of a plan, as its links tell them.
+//! The steps of a plan that a description's compiler made, as its links tell them.
 //!
 //! The first cells of a step are its entries, one for each member by rising rank. An entry has no operation, waits for a bump,
 //! and, where it has data, for a put of a buffer that lies on its own rank; no other cell does. So the steps can be told from
@@ -33,6 +33,16 @@ pub struct Bands {
     pub strips: Vec<Strip>,
 }
 
+impl Bands {
+    /// No bands: a plan that anybody made need not go step by step.
+    pub fn none(alloc: Global, plan: &PlanText) -> Bands {
+        Bands {
+            before: plan.ranks as usize,
+            strips: Vec::new(alloc),
+        }
+    }
+}
+
 /// What comes to a cell.
 #[derive(Clone, Copy)]
 enum Incoming {
@@ -56,11 +66,11 @@ impl Incoming {
 
 /// What comes to each cell.
 fn incoming_of(alloc: Global, plan: &PlanText) -> Result<Vec<Incoming>, AllocError> {
-    let mut list = Vec::with_capacity(alloc, plan.cells.len())?;
-    for _ in 0..plan.cells.len() {
+    let mut list = Vec::with_capacity(alloc, plan.cells().len())?;
+    for _ in 0..plan.cells().len() {
         list.push(Incoming::Nothing)?;
     }
-    for link in plan.links.iter() {
+    for link in plan.links() {
         if let Some(incoming) = list.get_mut(link.target as usize) {
             *incoming = (*incoming).and(link);
         }
@@ -73,7 +83,7 @@ fn is_entry(plan: &PlanText, cell: &Cell, incoming: Incoming, entries: &[bool]) 
     match incoming {
         Incoming::Bump => cell.op.is_none() && cell.length == 0,
         Incoming::BumpAndPut(source) => {
-            let holds = match plan.cells.get(source as usize) {
+            let holds = match plan.cells().get(source as usize) {
                 Some(held) => held.rank == cell.rank,
                 None => false,
             };
@@ -87,8 +97,8 @@ fn is_entry(plan: &PlanText, cell: &Cell, incoming: Incoming, entries: &[bool]) 
 /// Which cells are entries.
 fn entries_of(alloc: Global, plan: &PlanText) -> Result<Vec<bool>, AllocError> {
     let list = incoming_of(alloc, plan)?;
-    let mut entries = Vec::with_capacity(alloc, plan.cells.len())?;
-    for (cell, incoming) in plan.cells.iter().zip(list.iter()) {
+    let mut entries = Vec::with_capacity(alloc, plan.cells().len())?;
+    for (cell, incoming) in plan.cells().iter().zip(list.iter()) {
         let entry = is_entry(plan, cell, *incoming, entries.as_slice());
         entries.push(entry)?;
     }

@@ -36,18 +36,51 @@ text { font: 9px sans-serif; fill: #222 }
 </defs>
 ";
 
+/// How a cell or a link at fault looks, and the cells that lines name.
+const FAULT_STYLES: &str = "<style>
+.fault .box { fill: #ffe9e6; stroke: #c00; stroke-width: 3 }
+path.fault { stroke: #c00; stroke-width: 3.5 }
+text.fault { fill: #c00; font-weight: bold }
+</style>
+";
+
+/// How the names of cells look.
+const LABEL_STYLES: &str = "<style>
+.label { font-style: italic; paint-order: stroke; stroke: #fff; stroke-width: 3px }
+</style>
+";
+
 /// A place or a size, in pixels: to the right, and down.
 pub type Pixels = (u64, u64);
 
-/// Begins a drawing of this size.
-pub fn begin<W: fmt::Write>(out: &mut fmt::Formatter<W>, width: u64, height: u64) -> fmt::Result {
+/// Begins a drawing of this size that stands beside another in a page, whose styles and heads of arrows it has.
+pub fn begin_plain<W: fmt::Write>(
+    out: &mut fmt::Formatter<W>,
+    width: u64,
+    height: u64,
+) -> fmt::Result {
     write!(
         out,
         "<svg xmlns=\"http://www.w3.org/2000/svg\" width=\"{width}\" height=\"{height}\" "
     )?;
-    writeln!(out, "viewBox=\"0 0 {width} {height}\">")?;
+    writeln!(out, "viewBox=\"0 0 {width} {height}\">")
+}
+
+/// Begins a drawing of this size.
+pub fn begin<W: fmt::Write>(out: &mut fmt::Formatter<W>, width: u64, height: u64) -> fmt::Result {
+    begin_plain(out, width, height)?;
     out.write_str(STYLES)?;
     area(out, "paper", (0, 0), (width, height))
+}
+
+/// Says how what is at fault looks.
+pub fn fault_styles<W: fmt::Write>(out: &mut fmt::Formatter<W>) -> fmt::Result {
+    out.write_str(FAULT_STYLES)
+}
+
+/// Says how the names of cells look.
+pub fn label_styles<W: fmt::Write>(out: &mut fmt::Formatter<W>) -> fmt::Result {
+    out.write_str(LABEL_STYLES)
 }
 
 /// Ends a drawing.
@@ -94,6 +127,14 @@ pub fn begin_arrow<W: fmt::Write>(out: &mut fmt::Formatter<W>, kind: &str) -> fm
     write!(
         out,
         "class=\"{kind}\" marker-end=\"url(#{kind}-head)\" d=\""
+    )
+}
+
+/// Begins the arrow of a link at fault, as `begin_arrow` does.
+pub fn begin_fault<W: fmt::Write>(out: &mut fmt::Formatter<W>, kind: &str) -> fmt::Result {
+    write!(
+        out,
+        "class=\"{kind} fault\" marker-end=\"url(#{kind}-head)\" d=\""
     )
 }
 

@@ -1,30 +1,24 @@
--- What the text of a plan says.
-use Rattle.std.specs.Prelude.{ℕ, suc, List, [], ◌∷◌, ◌++◌, length}
-use Rattle.plan_core.specs.declared.Cell.{Cell}
-use Rattle.plan_core.specs.declared.Link.{Link}
-use Rattle.run_text.specs.declared.plans.PlanLine.TheVariants.{Head, CellLine, LinkLine, DoneLine, EndLine}
-use Rattle.run_text.specs.Plans.{plan_line}
+-- What a text that is read says.
+use Rattle.std.specs.Prelude.{◌≡◌, ℕ, ◌+◌, ◌*◌, List, [], ◌++◌, Option, Some, None, Ok}
+use Rattle.coll_text.specs.Text.{lines}
+use Rattle.coll_lang.specs.Program.{Program}
+use Rattle.given_lines.specs.Given.{Given, Read, read_given}
 use Rattle.plan_pictures.specs.declared.lines.plan_text.PlanText.{PlanText}
 
--- a line for each of a list, which are numbered from n on
-abbrev pub numbered : {A : Type 0} → (ℕ → A → List ℕ) → ℕ → List A → List ℕ
-numbered f n [] = []
-numbered f n (x ∷ xs) = f n x ++ numbered f (suc n) xs
+-- the plan that these pieces of a text are, from line k on, after such a description, or of so many ranks where there is none
+abbrev pub read_after : Option Program → ℕ → ℕ → List (List ℕ) → Read Given
+read_after None ranks k pieces = read_given ranks ranks [] k pieces
+read_after (Some d) ranks k pieces =
+    read_given d.shape.ranks (d.shape.ranks + d.shape.inputs * d.shape.ranks) d.shape.buffers k pieces
 
-abbrev pub cell_line : ℕ → Cell → List ℕ
-cell_line n c = plan_line (CellLine n c)
+-- the plan is what these bytes say, as every reader of given plans takes them
+abbrev pub IsPlanOf : PlanText → List ℕ → Type 0
+IsPlanOf p bytes = read_after p.description p.ranks p.first (lines bytes) ≡ Ok p.given
 
-abbrev pub link_line : ℕ → Link → List ℕ
-link_line n l = plan_line (LinkLine n l)
-
-abbrev pub done_line : ℕ → ℕ → List ℕ
-done_line r threshold = plan_line (DoneLine r threshold)
-
--- the lines in which a plan's text is written, of what was read
-abbrev pub text_said : PlanText → List ℕ
-text_said t =
-    plan_line (Head t.ranks (length t.cells.items) (length t.links.items) t.remote)
-    ++ (numbered cell_line 0 t.cells.items
-    ++ (numbered link_line 0 t.links.items
-    ++ (numbered done_line 0 t.done.items
-    ++ plan_line EndLine)))
+-- the plan is said by a part of the text
+pub record IsPlanIn (text : List ℕ) (p : PlanText) : Type 0 where
+  pub before : List ℕ
+  pub said : List ℕ
+  pub after : List ℕ
+  pub parts : text ≡ before ++ said ++ after
+  pub plan : IsPlanOf p said

@@ -14,15 +14,15 @@ done 0 18446744073709551615\nend\n";
 /// What the plan says as a whole.
 fn whole_of_sum(rt: &impl Abort, plan: &PlanText) {
     gives!(rt; plan.ranks, 1);
-    gives!(rt; plan.remote, true);
-    gives!(rt; plan.cells.len(), 4);
-    gives!(rt; plan.links.len(), 4);
-    gives!(rt; plan.done.as_slice(), [18446744073709551615].as_slice());
+    gives!(rt; plan.given.plan().remote(), true);
+    gives!(rt; plan.cells().len(), 4);
+    gives!(rt; plan.links().len(), 4);
+    gives!(rt; plan.given.done(), [18446744073709551615].as_slice());
 }
 
 /// What it says of its third cell.
 fn cell_of_sum(rt: &impl Abort, plan: &PlanText) {
-    let Some(cell) = plan.cells.get(2) else {
+    let Some(cell) = plan.cells().get(2) else {
         panic!(rt; "no third cell")
     };
     gives!(rt; cell.ty, ElemType::I16);
@@ -32,7 +32,7 @@ fn cell_of_sum(rt: &impl Abort, plan: &PlanText) {
 
 /// What it says of its third link.
 fn link_of_sum(rt: &impl Abort, plan: &PlanText) {
-    let Some(link) = plan.links.get(2) else {
+    let Some(link) = plan.links().get(2) else {
         panic!(rt; "no third link")
     };
     gives!(rt; (link.source, link.source_offset, link.length), (1, 2, 4));
@@ -48,10 +48,11 @@ fn is_sum(rt: &impl Abort, plan: &PlanText) {
 
 #[test]
 fn a_plan_is_read(rt: HostRuntime) {
-    let Ok(plan) = read_plan(rt.alloc(), SUM.as_bytes()) else {
+    let Ok(text) = read_plan(rt.alloc(), SUM.as_bytes()) else {
         panic!(rt; "refused")
     };
-    is_sum(&rt, &plan);
+    gives!(rt; text.verdict.is_none(), true);
+    is_sum(&rt, &text.plan);
 }
 
 /// The orders of two ranks, of which the second has none.
@@ -82,14 +83,25 @@ fn orders_are_read(rt: HostRuntime) {
 }
 
 /// Texts of plans, and the line and the name of the refusal of each.
-const NO_PLANS: &[(&str, usize, Refusal)] = &[
+const NO_PLANS: &[(&str, u32, Refusal)] = &[
     ("", 1, Refusal::NotAPlan),
     ("plan 1 4 4 local", 1, Refusal::NotAPlan),
     ("plan 0 4 4 local\n", 1, Refusal::NotAPlan),
     ("plan 257 257 0 local\n", 1, Refusal::NotAPlan),
-    ("plan 1 4 2 local\n", 1, Refusal::NotAPlan),
+    ("plan 1 4 2 local\n", 2, Refusal::NotAPlan),
     ("plan 1 4 20001 local\n", 1, Refusal::TooManyLinks),
     ("plan 1 4 20000 local\n", 2, Refusal::NotAPlan),
+    ("plan 1 20002 0 local\n", 1, Refusal::TooManyCells),
+    (
+        "coll 1\nranks 1\nend\nfails 3 Needs\n",
+        4,
+        Refusal::NotAPlan,
+    ),
+    (
+        "coll 3\nplan 1 1 0 local\n",
+        1,
+        Refusal::Description(coll_lang::Refusal::BadHeader),
+    ),
     (
         "plan 1 1 0 local\ncell 0 0 u9 - 0 1\n",
         2,
@@ -97,7 +109,7 @@ const NO_PLANS: &[(&str, usize, Refusal)] = &[
     ),
     (
         "plan 1 1 0 local\ncell 0 1 u8 - 0 1\n",
-        2,
+        3,
         Refusal::NotAPlan,
     ),
     (
@@ -112,7 +124,7 @@ const NO_PLANS: &[(&str, usize, Refusal)] = &[
     ),
     (
         "plan 1 2 1 local\ncell 0 0 u8 - 0 1\ncell 1 0 u8 - 0 1\nlink 0 1 0 0 1 0 bump\n",
-        4,
+        5,
         Refusal::NotAPlan,
     ),
     (
@@ -130,6 +142,11 @@ const NO_PLANS: &[(&str, usize, Refusal)] = &[
         5,
         Refusal::NotAPlan,
     ),
+    (
+        "plan 1 1 0 local\ncell 0 0 u8 - 0 1\ndone 0 1\nend\nfails 2 <b>\n",
+        5,
+        Refusal::NotAPlan,
+    ),
 ];
 
 #[test]
@@ -142,8 +159,9 @@ fn other_plans_are_refused(rt: HostRuntime) {
 }
 
 /// Texts of orders, and the line of the refusal of each.
-const NO_ORDERS: &[(&str, usize)] = &[
+const NO_ORDERS: &[(&str, u32)] = &[
     ("rest\n", 2),
+    ("holds\n", 1),
     ("order 1 s\n", 1),
     ("order 0 s x\n", 1),
     ("order 0 s\norder 0 s\n", 2),

@@ -1,10 +1,11 @@
-//! The drawing of orders.
+//! The drawing of orders, each by itself.
 
 ghost use Rattle.std.specs.Prelude.{◌<◌, ◌^◌};
 
-use crate::lines::{Order, PlanText};
-use crate::svg;
+use crate::sentences::StepName;
 use plan_core::LinkKind;
+use plan_pictures::lines::{Order, PlanText};
+use plan_pictures::svg;
 use ptl_types::{Lane, LocalStep, Rank};
 use std::alloc::{AllocError, Global};
 use std::fmt;
@@ -108,12 +109,12 @@ fn targets_of(alloc: Global, plan: &PlanText) -> Result<Vec<Vec<Option<Rank>>>, 
     for _ in 0..plan.ranks {
         lists.push(Vec::new(alloc))?;
     }
-    for link in plan.links.iter() {
+    for link in plan.links() {
         let (source, target) = (link.source as usize, link.target as usize);
-        if let (Some(from), Some(to)) = (plan.cells.get(source), plan.cells.get(target)) {
+        if let (Some(from), Some(to)) = (plan.cells().get(source), plan.cells().get(target)) {
             let message = match link.kind {
-                LinkKind::Bump => None,
-                LinkKind::Put | LinkKind::Atomic => Some(to.rank),
+                LinkKind::Put | LinkKind::Atomic if to.rank < plan.ranks => Some(to.rank),
+                _ => None,
             };
             if let Some(list) = lists.get_mut(from.rank as usize) {
                 list.push(message)?;
@@ -221,20 +222,8 @@ fn y_of(rank: u32) -> u64
     TOP + u64::from(rank) * DOWN
 }
 
-/// The word of a local step.
-fn draw_word<W: fmt::Write>(out: &mut fmt::Formatter<W>, step: LocalStep) -> fmt::Result {
-    match step {
-        LocalStep::Start => out.write_str("s"),
-        LocalStep::Receive {
-            source,
-            lane: Lane::Request,
-        } => write!(out, "r{source}"),
-        LocalStep::Receive { source, .. } => write!(out, "a{source}"),
-        LocalStep::Fire { number } => write!(out, "f{number}"),
-    }
-}
-
-fn class_of(step: LocalStep) -> &'static str {
+/// How a local step's box looks.
+pub fn class_of(step: LocalStep) -> &'static str {
     match step {
         LocalStep::Start => "start",
         LocalStep::Receive {
@@ -256,8 +245,7 @@ fn draw_step<W: fmt::Write>(
     write!(out, "<g id=\"step-{rank}-{}\">", place.saturating_add(1))?;
     svg::round_box(out, class_of(step), (x, y), (BOX_WIDTH, BOX_HEIGHT))?;
     svg::begin_text(out, "middle", (x.saturating_add(BOX_WIDTH / 2), y + 13))?;
-    draw_word(out, step)?;
-    out.write_str("</text></g>\n")
+    writeln!(out, "{}</text></g>", StepName(step))
 }
 
 /// A row: the rank and its steps.
