@@ -23,20 +23,20 @@ module _ (turns : List Turn) (t : Turn) where
   one_more orders made played within next r =
       let more = get_or made t.rank 0 + 1 in
       elim (eqb_tells t.rank r) [
-        | inl (is, e) ↦ subst (λ k. made_by (turns ++ t ∷ []) k ≡ take (get_or (set made t.rank more) k 0) (order_of orders k)) e
+        | inl (same, e) ↦ subst (λ k. made_by (turns ++ t ∷ []) k ≡ take (get_or (set made t.rank more) k 0) (order_of orders k)) e
             (one_turn t.rank ∙ ap (λ b. made_by turns t.rank ++ map (λ u. u.step) (cond b (t ∷ []) [])) (eq-eqb t.rank t.rank refl)
             ∙ ap (λ v. v ++ t.step ∷ []) (played t.rank) ∙ sym next
             ∙ ap (λ n. take n (order_of orders t.rank)) (sym (get_or-set_same made t.rank more 0 within)))
-        | inr (no, ne) ↦ one_turn r ∙ ap (λ b. made_by turns r ++ map (λ u. u.step) (cond b (t ∷ []) [])) no
+        | inr (other, ne) ↦ one_turn r ∙ ap (λ b. made_by turns r ++ map (λ u. u.step) (cond b (t ∷ []) [])) other
             ∙ append-nil (made_by turns r) ∙ played r
             ∙ ap (λ n. take n (order_of orders r)) (sym (get_or-set_other made t.rank r more 0 (λ z. ne (sym z))))
       ]
 
-get_or-zeros : (n r : ℕ) → get_or (replicate n 0) r 0 ≡ 0
-get_or-zeros zero r = refl
-get_or-zeros (suc n) zero = refl
-get_or-zeros (suc n) (suc r) = get_or-zeros n r
+get_or-replicate : (n r d : ℕ) → get_or (replicate n d) r d ≡ d
+get_or-replicate zero r d = refl
+get_or-replicate (suc n) zero d = refl
+get_or-replicate (suc n) (suc r) d = get_or-replicate n r d
 
 -- nothing is played yet
 pub none_played : (orders : List Order) (n : ℕ) → ArePlayed orders [] (replicate n 0)
-none_played orders n r = ap (λ k. take k (order_of orders r)) (sym (get_or-zeros n r))
+none_played orders n r = ap (λ k. take k (order_of orders r)) (sym (get_or-replicate n r 0))

@@ -33,23 +33,26 @@ pub struct Play<'a> {
     pub scene: Scene<'a>,
 }
 
-/// The next step of a rank's order, of which so many are made. `None`: there is none.
-fn next_of(made: &[usize], orders: &[Order], rank: Rank) -> Option<LocalStep>
+/// The next step of a rank's order, of which so many are made, and how many are made with it. `None`: there is none.
+fn next_of(made: &[usize], orders: &[Order], rank: Rank) -> Option<(LocalStep, usize)>
     ensures rank { IfSome result (λ _. rank < length made.now) }
-    ensures next { IfSome result (λ s. take (get_or made.now rank 0 + 1) (order_of orders.now rank) ≡
-        take (get_or made.now rank 0) (order_of orders.now rank) ++ s ∷ []) }
+    ensures more { IfSome result (λ n. n.1 ≡ get_or made.now rank 0 + 1) }
+    ensures next { IfSome result (λ n. take (get_or made.now rank 0 + 1) (order_of orders.now rank) ≡
+        take (get_or made.now rank 0) (order_of orders.now rank) ++ n.0 ∷ []) }
 {
     let place = made.get(rank as usize).copied()?;
     let order = orders.get(rank as usize)?;
-    order.steps.get(place).copied()
+    let step = order.steps.get(place).copied()?;
+    Some((step, place.checked_add(1)?))
 }
 
 /// A rank makes the next step of its order, if there is one and it can be made: then that is told.
+#[tactic(auto, using(crate::proofs::Turns::one_more))]
 fn take_turn(play: &mut Play, orders: &[Order], rank: Rank) -> Result<bool, AllocError>
     requires { ArePlayed orders.now play.old.turns.items play.old.made.items }
     ensures { IfOk result (λ _. ArePlayed orders.now play.new.turns.items play.new.made.items) }
 {
-    let Some(step) = next_of(play.made.as_slice(), orders, rank) else {
+    let Some((step, more)) = next_of(play.made.as_slice(), orders, rank) else {
         return Ok(false);
     };
     let before = play.scene.changes.len();
@@ -63,7 +66,7 @@ fn take_turn(play: &mut Play, orders: &[Order], rank: Rank) -> Result<bool, Allo
         deed,
         changes: (before, after),
     })?;
-    play.made[rank as usize] += 1;
+    play.made[rank as usize] = more;
     Ok(true)
 }
 
@@ -80,6 +83,7 @@ fn take_turns(play: &mut Play, orders: &[Order]) -> Result<bool, AllocError>
 }
 
 /// Plays orders of a plan's ranks as far as they can be played. Which steps can be made doesn't rest on how the ranks take turns.
+#[tactic(auto, using(crate::proofs::Turns::none_played))]
 pub fn played<'a>(alloc: Global, plan: &'a Plan, orders: &[Order]) -> Result<Play<'a>, AllocError>
     ensures { IfOk result (λ p. ArePlayed orders.now p.turns.items p.made.items) }
 {
