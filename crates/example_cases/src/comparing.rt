@@ -34,7 +34,8 @@ impl fmt::Display for Found {
     }
 }
 
-fn compared(text: &[u8], wanted: &[u8]) -> Found {
+/// How a text stands to the one that is wanted.
+pub fn compared(text: &[u8], wanted: &[u8]) -> Found {
     if text == wanted {
         return Found::Same;
     }

@@ -21,7 +21,7 @@ fn words_of(alloc: Global, line: &[&str]) -> Result<Vec<String>, AllocError> {
 }
 
 /// What is written for these words.
-fn written_for(
+pub fn written_for(
     rt: &(impl Threads + Wait + Sync),
     alloc: Global,
     line: &[&str],

@@ -1,15 +1,18 @@
 //! The examples, run: what each description of data/ gives under `once` is what the file beside it says, the plan that is drawn of it
-//! holds for its inputs, and what each in JSON stands for is the description of the same name. The logs of logs/ are judged.
+//! holds for its inputs, and what each in JSON stands for is the description of the same name. What is told of the plan of forms/ is
+//! what the files beside it say. The logs of logs/ are judged.
 #![tactic(auto)]
 
 mod comparing;
 mod drawn;
 mod folder;
+mod forms;
 mod logs;
 
 use comparing::{Found, lines_of_json, once_gives};
 use drawn::print_drawn;
 use folder::names;
+use forms::print_forms;
 use logs::judge_logs;
 use std::{fs, io};
 
@@ -58,6 +61,7 @@ fn main(rt: HostRuntime) -> io::Result<()> {
             print_json(&rt, name, stem)?;
         }
     }
+    print_forms(&rt, &rt, "forms/broadcast")?;
     judge_logs(&rt, "logs")?;
     judge_logs(&rt, "logs/wrong")
 }

@@ -1,59 +1,83 @@
--- What a call that runs a given plan owes, and what holds after it.
-use Rattle.std.specs.Prelude.{ℕ, ◌+◌, ◌≡◌, List, Option, Some, None, drop}
+-- What a call that runs a given plan, or tells something of it, owes, and what holds after it.
+use Rattle.std.specs.Prelude.{ℕ, ◌+◌, ◌≡◌, List, Option, None, drop, nat_lt, if◌then◌else◌}
 use Rattle.port_io.specs.Counts.{Rose}
 use Rattle.port_io.specs.Ends.{Inflow, Outflow}
+use Rattle.coll_lang.specs.declared.fault.Refusal.TheVariants.{BadNumber}
+use Rattle.given_lines.specs.Given.{Given}
+use Rattle.plan_core.specs.Plan.{Plan}
 use Rattle.given_verdicts.specs.declared.answer.FlawlessText.{FlawlessText}
 use Rattle.given_verdicts.specs.declared.answer.Judged.{Judged}
 use Rattle.given_verdicts.specs.declared.answer.Judged.TheVariants.{Answered, Flawless}
 use Rattle.given_verdicts.specs.declared.judging.TheConstants.{LONGEST_GIVEN}
 use Rattle.given_verdicts.specs.Answers.{judged_text}
-use Rattle.run_text.specs.declared.status.Status.TheVariants.{Done, ReadFault, WriteFault}
-use Rattle.run_text.specs.Ending.{Due, IsTold, Leaves, MayAnswer, Stands, Written, done}
+use Rattle.run_text.specs.declared.status.Status.TheVariants.{Done, NoMemory, ReadFault, Refused, WriteFault}
+use Rattle.run_text.specs.Ending.{Due, Leaves, MayAnswer, Stands, Written, done, refused}
 use Rattle.schedule_compiler.specs.Jobs.{JobOf}
-use Rattle.job_runs.specs.declared.modes.Mode.{Mode}
-use Rattle.job_runs.specs.Modes.{mode_of}
 use Rattle.worlds.specs.World.{WorldState}
+use Rattle.plan_words.specs.Graph.{graph_text}
+use Rattle.plan_words.specs.Limits.{limits_text}
+use Rattle.plan_words.specs.Words.{explained, rank_text}
+use Rattle.plan_words.specs.Takes.{all_takes}
+use Rattle.plan_top.specs.Owed.{owed_given}
 use Rattle.given_top.specs.declared.runs.running.GivenRun.{GivenRun}
+use Rattle.given_top.specs.declared.words.Purpose.{Purpose}
+use Rattle.given_top.specs.declared.words.Purpose.TheVariants.{Run, Tell}
+use Rattle.given_top.specs.declared.words.Telling.{Telling}
+use Rattle.given_top.specs.declared.words.Telling.TheVariants.{Limits, Explain, ExplainRank, Graph}
 use Rattle.given_top.specs.runs.GivenJobs.{given_job}
-use Rattle.given_top.specs.runs.GivenRuns.{LeavesGiven, owed_text}
-use Rattle.plan_top.specs.Owed.{PlanAnswered, owed_given, plan_request}
+use Rattle.given_top.specs.runs.GivenRuns.{LeavesGiven, RanNothing, owed_text}
 
 -- the job of a text in which no flaw was found: its plan's, with the inputs of its description
 abbrev pub job_of : FlawlessText → JobOf
 job_of t = given_job t.description.shape t.given t.description.inputs
 
--- what is owed for a text that was judged, where the call leaves this world: the answer on it, or what the results of its plan hold
-abbrev pub owed_run : Mode → Judged → Option WorldState → Due
-owed_run mode (Answered answer) w = owed_given answer
-owed_run mode (Flawless t) w = done (owed_text mode t.description.shape w)
+-- ---- what is told of a plan whose text begins with line k
+
+-- a rank that the plan doesn't have is refused
+abbrev pub owed_telling : Telling → ℕ → Plan → Due
+owed_telling Limits k p = done (limits_text (all_takes p))
+owed_telling Explain k p = done (explained k p)
+owed_telling (ExplainRank r) k p = if nat_lt r p.ranks then done (rank_text k p r) else refused 0 BadNumber
+owed_telling Graph k p = done (graph_text p)
+
+-- ---- what is owed for a text that was judged, where the call leaves this world
+
+-- what the results of its plan hold, or what is told of it
+abbrev pub owed_for : Purpose → FlawlessText → Option WorldState → Due
+owed_for (Run mode) t w = done (owed_text mode t.description.shape w)
+owed_for (Tell telling) t w = owed_telling telling t.line t.given.plan
+
+-- or the answer on it
+abbrev pub owed_run : Purpose → Judged → Option WorldState → Due
+owed_run purpose (Answered answer) w = owed_given answer
+owed_run purpose (Flawless t) w = owed_for purpose t w
 
 -- the world that is left: of the text's plan, at rest, every rank complete, and run as the mode asks for it; or none, where nothing ran
-abbrev pub LeavesIn : Mode → Judged → Option WorldState → Type 0
-LeavesIn mode (Answered answer) w = w ≡ None
-LeavesIn mode (Flawless t) w = LeavesGiven mode (job_of t) w
+abbrev pub LeavesFor : Purpose → FlawlessText → Option WorldState → Type 0
+LeavesFor (Run mode) t w = LeavesGiven mode (job_of t) w
+LeavesFor (Tell telling) t w = w ≡ None
 
--- after a text was judged, and perhaps run
-pub record RanText (mode : Mode) (judged : Judged) (sink sink' : Outflow) (run : GivenRun) : Type 0 where
-  pub written : Written (owed_run mode judged run.world) sink sink' run.status
-  pub world : run.status ≡ Done → LeavesIn mode judged run.world
-  pub world_at_fault : run.status ≡ WriteFault → LeavesIn mode judged run.world
+abbrev pub LeavesIn : Purpose → Judged → Option WorldState → Type 0
+LeavesIn purpose (Answered answer) w = w ≡ None
+LeavesIn purpose (Flawless t) w = LeavesFor purpose t w
 
--- All that holds after a call that runs a plan as a mode asks for it, the source having these bytes.
-pub record RunAnswered (mode : Mode) (bytes : List ℕ) (source source' : Inflow) (sink sink' : Outflow) (run : GivenRun) : Type 0 where
-  pub allowed : MayAnswer run.status (owed_run mode (judged_text bytes) run.world).status
-  pub text : Stands run.status sink sink' (owed_run mode (judged_text bytes) run.world).text
-  pub world : run.status ≡ Done → LeavesIn mode (judged_text bytes) run.world
-  pub world_at_fault : run.status ≡ WriteFault → LeavesIn mode (judged_text bytes) run.world
-  pub read_fault : run.status ≡ ReadFault → Rose source.faults source'.faults
-  pub write_fault : run.status ≡ WriteFault → Rose sink.faults sink'.faults
-  pub rest : Leaves run.status source' (drop (LONGEST_GIVEN + 1) bytes)
+-- after a text was judged, and perhaps run; a text is refused, and memory lacks, where nothing ran
+pub record RanText (purpose : Purpose) (judged : Judged) (sink sink' : Outflow) (run : GivenRun) : Type 0 where
+  pub written : Written (owed_run purpose judged run.world) sink sink' run.status
+  pub world : run.status ≡ Done → LeavesIn purpose judged run.world
+  pub world_at_fault : run.status ≡ WriteFault → LeavesIn purpose judged run.world
+  pub refused : run.status ≡ Refused → RanNothing run
+  pub no_memory : run.status ≡ NoMemory → RanNothing run
 
--- by the words: a run, or what else they ask for
-abbrev pub AnswersAs : Option Mode → List (List ℕ) → Inflow → Inflow → Outflow → Outflow → GivenRun → Type 0
-AnswersAs (Some mode) words source source' sink sink' run =
-    (bytes : List ℕ) × IsTold source.left bytes × RunAnswered mode bytes source source' sink sink' run
-AnswersAs None words source source' sink sink' run =
-    (bytes : List ℕ) × IsTold source.left bytes × PlanAnswered (plan_request words) bytes source source' sink sink' run.status
-
-abbrev pub AnswersWords : List (List ℕ) → Inflow → Inflow → Outflow → Outflow → GivenRun → Type 0
-AnswersWords words source source' sink sink' run = AnswersAs (mode_of words) words source source' sink sink' run
+-- All that holds after a call that does this with a plan, the source having these bytes: of them one more than the longest text is read.
+pub record RunAnswered (purpose : Purpose) (bytes : List ℕ) (source source' : Inflow) (sink sink' : Outflow) (run : GivenRun) : Type 0
+  where
+    pub allowed : MayAnswer run.status (owed_run purpose (judged_text bytes) run.world).status
+    pub text : Stands run.status sink sink' (owed_run purpose (judged_text bytes) run.world).text
+    pub world : run.status ≡ Done → LeavesIn purpose (judged_text bytes) run.world
+    pub world_at_fault : run.status ≡ WriteFault → LeavesIn purpose (judged_text bytes) run.world
+    pub refused : run.status ≡ Refused → RanNothing run
+    pub no_memory : run.status ≡ NoMemory → RanNothing run
+    pub read_fault : run.status ≡ ReadFault → Rose source.faults source'.faults × RanNothing run
+    pub write_fault : run.status ≡ WriteFault → Rose sink.faults sink'.faults
+    pub rest : Leaves run.status source' (drop (LONGEST_GIVEN + 1) bytes)

@@ -21,13 +21,13 @@ use Rattle.verdict_laws.specs.Verdicts.{IsRightForAll, IsRightGiven}
 use Rattle.run_text.specs.declared.status.Status.{Status}
 use Rattle.run_text.specs.declared.status.Status.TheVariants.{Done, Usage, Refused, ReadFault, WriteFault, NoMemory}
 use Rattle.run_text.specs.Ending.{Due, IsTold, Written}
-use Rattle.run_text.proofs.Ended.{leaves, stays}
+use Rattle.run_text.proofs.Ended.{leaves}
 use Rattle.run_text.proofs.Told.{AreAlike, Told, short-text, told-any}
 use Rattle.plan_top.specs.declared.words.PlanRequest.{PlanRequest}
 use Rattle.plan_top.specs.declared.words.PlanRequest.TheVariants.{Draw, Verify, VerifyGiven}
 use Rattle.plan_top.specs.Owed.{Answers, IsAnswer, IsOwedFor, IsRight, PlanAnswered, due_described}
 use Rattle.plan_top.specs.Owed.{due_plan, longest, owed_drawn, owed_given}
-use Rattle.plan_top.specs.Owed.{owed_usage, status_of}
+use Rattle.plan_top.specs.Owed.{status_of}
 
 -- ---- texts that are too long
 
@@ -90,7 +90,7 @@ given_no_memory answer sink = record { allowed = given_owes answer; no_read = λ
 -- ---- what is owed was written
 
 pub written_answers : (request : PlanRequest) (text : List ℕ) (due : Due) → IsOwedFor request text due
-    → (sink sink' : Outflow) (status : Status) → Written due sink sink' status → Answers (Some request) text sink sink' status
+    → (sink sink' : Outflow) (status : Status) → Written due sink sink' status → Answers request text sink sink' status
 written_answers request text due is sink sink' Done written =
     record { due = due; owed = is; allowed = written.allowed; text = written.text }
 written_answers request text due is sink sink' Usage written =
@@ -100,7 +100,7 @@ written_answers request text due is sink sink' Refused written =
 written_answers request text due is sink sink' ReadFault written = absurd (written.no_read refl)
 written_answers request text due is sink sink' WriteFault written =
     record { due = due; owed = is; allowed = written.allowed; text = written.text }
-written_answers request text due is sink sink' NoMemory written = ((λ none. absurd (cc)), written.text)
+written_answers request text due is sink sink' NoMemory written = written.text
 
 -- ---- what `holds` tells
 
@@ -116,7 +116,7 @@ holds_done (answers.Unknown n name r place) is = absurd (cc)
 holds_done (answers.Refused n name) is = absurd (cc)
 
 right_done : Laws → (request : PlanRequest) (bytes : List ℕ) (due : Due) → IsOwedFor request bytes due → due.status ≡ Done
-    → IsRight (Some request) bytes
+    → IsRight request bytes
 right_done laws Draw bytes due is done = tt
 right_done laws Verify bytes due is done =
     laws.for_all bytes
@@ -127,20 +127,19 @@ right_done laws VerifyGiven bytes due is done =
 -- ---- the answers
 
 for_told : (request : PlanRequest) (bytes text : List ℕ) → AreAlike (longest request) bytes text → (sink sink' : Outflow)
-    (status : Status) → IsAnswer (Some request) text sink sink' status → IsAnswer (Some request) bytes sink sink' status
+    (status : Status) → IsAnswer request text sink sink' status → IsAnswer request bytes sink sink' status
 for_told request bytes text alike sink sink' status a =
     record { due = a.due; owed = same_owed request bytes text alike a.due a.owed; allowed = a.allowed; text = a.text }
 
 pub answered_read : Laws → (request : PlanRequest) (text : List ℕ) (source source' : Inflow) (sink sink' : Outflow) (status : Status)
-    (told : Told (longest request) source.left source'.left text) → Answers (Some request) text sink sink' status
-    → status ≢ ReadFault → PlanAnswered (Some request) told.bytes source source' sink sink' status
+    (told : Told (longest request) source.left source'.left text) → Answers request text sink sink' status
+    → status ≢ ReadFault → PlanAnswered request told.bytes source source' sink sink' status
 answered_read laws request text source source' sink sink' Done told a other = record {
   answer = for_told request told.bytes text told.alike sink sink' Done a;
   right = λ is. right_done laws request told.bytes a.due (same_owed request told.bytes text told.alike a.due a.owed) a.allowed;
   read_fault = λ is. absurd (other is);
   write_fault = λ is. absurd (cc);
   rest = leaves (longest request) a.due.status Done text source source' told (done_short request text a.due a.owed) a.allowed;
-  untouched = λ is. absurd (cc);
 }
 answered_read laws request text source source' sink sink' Usage told a other = record {
   answer = for_told request told.bytes text told.alike sink sink' Usage a;
@@ -148,7 +147,6 @@ answered_read laws request text source source' sink sink' Usage told a other = r
   read_fault = λ is. absurd (other is);
   write_fault = λ is. absurd (cc);
   rest = leaves (longest request) a.due.status Usage text source source' told (done_short request text a.due a.owed) a.allowed;
-  untouched = λ is. absurd (cc);
 }
 answered_read laws request text source source' sink sink' Refused told a other = record {
   answer = for_told request told.bytes text told.alike sink sink' Refused a;
@@ -156,7 +154,6 @@ answered_read laws request text source source' sink sink' Refused told a other =
   read_fault = λ is. absurd (other is);
   write_fault = λ is. absurd (cc);
   rest = leaves (longest request) a.due.status Refused text source source' told (done_short request text a.due a.owed) a.allowed;
-  untouched = λ is. absurd (cc);
 }
 answered_read laws request text source source' sink sink' ReadFault told a other = absurd (other refl)
 answered_read laws request text source source' sink sink' WriteFault told a other = record {
@@ -165,7 +162,6 @@ answered_read laws request text source source' sink sink' WriteFault told a othe
   read_fault = λ is. absurd (other is);
   write_fault = λ is. a.text.rose;
   rest = leaves (longest request) a.due.status WriteFault text source source' told (done_short request text a.due a.owed) a.allowed;
-  untouched = λ is. absurd (cc);
 }
 answered_read laws request text source source' sink sink' NoMemory told a other = record {
   answer = a;
@@ -173,75 +169,34 @@ answered_read laws request text source source' sink sink' NoMemory told a other 
   read_fault = λ is. absurd (other is);
   write_fault = λ is. absurd (cc);
   rest = tt;
-  untouched = λ is. absurd (cc);
 }
 
 pub answered_failed : (request : PlanRequest) (source source' : Inflow) (sink : Outflow) → Rose source.faults source'.faults
-    → (bytes : List ℕ) × IsTold source.left bytes × PlanAnswered (Some request) bytes source source' sink sink ReadFault
+    → (bytes : List ℕ) × IsTold source.left bytes × PlanAnswered request bytes source source' sink sink ReadFault
 answered_failed request source source' sink rose =
     let any = told-any source.left in (
       any.0,
       any.1,
       record {
-        answer = ((λ none. absurd (cc)), refl);
+        answer = refl;
         right = λ is. absurd (cc);
         read_fault = λ is. rose;
         write_fault = λ is. absurd (cc);
         rest = tt;
-        untouched = λ is. absurd (cc);
       },
     )
 
 pub answered_no_memory : (request : PlanRequest) (source source' : Inflow) (sink : Outflow)
-    → (bytes : List ℕ) × IsTold source.left bytes × PlanAnswered (Some request) bytes source source' sink sink NoMemory
+    → (bytes : List ℕ) × IsTold source.left bytes × PlanAnswered request bytes source source' sink sink NoMemory
 answered_no_memory request source source' sink =
     let any = told-any source.left in (
       any.0,
       any.1,
       record {
-        answer = ((λ none. absurd (cc)), refl);
+        answer = refl;
         right = λ is. absurd (cc);
         read_fault = λ is. absurd (cc);
         write_fault = λ is. absurd (cc);
         rest = tt;
-        untouched = λ is. absurd (cc);
-      },
-    )
-
--- ---- other words
-
-usage_answers : (bytes : List ℕ) (sink sink' : Outflow) (status : Status) → Written owed_usage sink sink' status
-    → Answers None bytes sink sink' status
-usage_answers bytes sink sink' Done written = absurd (let is : Usage ≡ Done = written.allowed in cc)
-usage_answers bytes sink sink' Usage written =
-    record { due = owed_usage; owed = refl; allowed = refl; text = written.text }
-usage_answers bytes sink sink' Refused written = absurd (let is : Usage ≡ Refused = written.allowed in cc)
-usage_answers bytes sink sink' ReadFault written = absurd (written.no_read refl)
-usage_answers bytes sink sink' WriteFault written =
-    record { due = owed_usage; owed = refl; allowed = tt; text = written.text }
-usage_answers bytes sink sink' NoMemory written = absurd (written.allowed refl)
-
-usage_faults : (sink sink' : Outflow) (status : Status) → Written owed_usage sink sink' status → status ≡ WriteFault
-    → Rose sink.faults sink'.faults
-usage_faults sink sink' Done written is = absurd (cc)
-usage_faults sink sink' Usage written is = absurd (cc)
-usage_faults sink sink' Refused written is = absurd (cc)
-usage_faults sink sink' ReadFault written is = absurd (cc)
-usage_faults sink sink' WriteFault written is = written.text.rose
-usage_faults sink sink' NoMemory written is = absurd (cc)
-
-pub answered_usage : (source : Inflow) (sink sink' : Outflow) (status : Status) → Written owed_usage sink sink' status
-    → (bytes : List ℕ) × IsTold source.left bytes × PlanAnswered None bytes source source sink sink' status
-answered_usage source sink sink' status written =
-    let any = told-any source.left in (
-      any.0,
-      any.1,
-      record {
-        answer = usage_answers any.0 sink sink' status written;
-        right = λ is. tt;
-        read_fault = λ is. absurd (written.no_read is);
-        write_fault = usage_faults sink sink' status written;
-        rest = stays status source any.0 any.1 written.allowed;
-        untouched = λ is. refl;
       },
     )

@@ -1,7 +1,5 @@
--- What the program owes for its words and the bytes that it is given.
-use Rattle.std.specs.Prelude.{◌≡◌, ◌&&◌, ℕ, ◌+◌, List, [], ◌∷◌, Option, Some, None, Result, Ok, Err, drop, codes, if◌then◌else◌}
-use Rattle.std.specs.Str.{bytes_eq}
-use Rattle.coll_text.specs.Text.{line}
+-- What is owed for a text that is drawn or judged.
+use Rattle.std.specs.Prelude.{◌≡◌, ℕ, ◌+◌, List, Option, Some, None, Result, Ok, Err, drop}
 use Rattle.coll_shape.specs.Outline.{Outline}
 use Rattle.coll_lang.specs.declared.fault.Refusal.{Refusal}
 use Rattle.coll_lang.specs.declared.fault.Refusal.TheVariants.{OneThread, TooLarge, TooMany}
@@ -27,20 +25,6 @@ use Rattle.run_text.specs.Refused.{step_line}
 use Rattle.verdict_laws.specs.Verdicts.{IsRightForAll, IsRightGiven}
 use Rattle.plan_top.specs.declared.words.PlanRequest.{PlanRequest}
 use Rattle.plan_top.specs.declared.words.PlanRequest.TheVariants.{Draw, Verify, VerifyGiven}
-
--- ---- the words
-
--- `draw`, `verify`, `verify given`
-abbrev pub plan_request : List (List ℕ) → Option PlanRequest
-plan_request (verb ∷ []) =
-    if bytes_eq verb (codes "draw") then Some Draw
-    else if bytes_eq verb (codes "verify") then Some Verify
-    else None
-plan_request (verb ∷ what ∷ []) = if bytes_eq verb (codes "verify") && bytes_eq what (codes "given") then Some VerifyGiven else None
-plan_request _ = None
-
-abbrev pub usage_line : List ℕ
-usage_line = line (codes "usage: portals_plan draw | verify | verify given | once | sim X | run W | trace W | steady W" ∷ [])
 
 -- ---- a plan that is drawn
 
@@ -84,57 +68,39 @@ IsOwedFor Draw bytes due = due ≡ owed_drawn (read bytes)
 IsOwedFor Verify bytes due = (answer : GivenAnswer) × IsGeneralAnswer bytes answer × (due ≡ owed_given answer)
 IsOwedFor VerifyGiven bytes due = due ≡ owed_given (answer_of bytes)
 
--- for words that ask for nothing the usage line
-abbrev pub owed_usage : Due
-owed_usage = record { status = Usage; text = usage_line }
-
-abbrev pub IsOwed : Option PlanRequest → List ℕ → Due → Type 0
-IsOwed None bytes due = due ≡ owed_usage
-IsOwed (Some request) bytes due = IsOwedFor request bytes due
-
 -- the most bytes of a text that is read
 abbrev pub longest : PlanRequest → ℕ
 longest Draw = LONGEST_TEXT
 longest Verify = LONGEST_GIVEN
 longest VerifyGiven = LONGEST_GIVEN
 
--- what stays in the source: one byte more than the longest text is read, and for other words nothing
-abbrev pub unread : Option PlanRequest → List ℕ → List ℕ
-unread None bytes = bytes
-unread (Some request) bytes = drop (longest request + 1) bytes
-
 -- What is owed was answered with this status: it is the status that is owed and the whole text stands, or the sink failed.
-pub record IsAnswer (request : Option PlanRequest) (bytes : List ℕ) (sink sink' : Outflow) (status : Status) : Type 0 where
+pub record IsAnswer (request : PlanRequest) (bytes : List ℕ) (sink sink' : Outflow) (status : Status) : Type 0 where
   pub due : Due
-  pub owed : IsOwed request bytes due
+  pub owed : IsOwedFor request bytes due
   pub allowed : MayAnswer status due.status
   pub text : Stands status sink sink' due.text
 
--- Nothing was answered, which may come where a text is to be read.
-abbrev pub IsSilent : Option PlanRequest → Outflow → Outflow → Type 0
-IsSilent request sink sink' = (request ≡ None → ⊥) × (sink' ≡ sink)
-
-abbrev pub Answers : Option PlanRequest → List ℕ → Outflow → Outflow → Status → Type 0
+-- nothing is answered where nothing could be read, or where there was no memory
+abbrev pub Answers : PlanRequest → List ℕ → Outflow → Outflow → Status → Type 0
 Answers request bytes sink sink' Done = IsAnswer request bytes sink sink' Done
 Answers request bytes sink sink' Usage = IsAnswer request bytes sink sink' Usage
 Answers request bytes sink sink' Refused = IsAnswer request bytes sink sink' Refused
-Answers request bytes sink sink' ReadFault = IsSilent request sink sink'
+Answers request bytes sink sink' ReadFault = sink' ≡ sink
 Answers request bytes sink sink' WriteFault = IsAnswer request bytes sink sink' WriteFault
-Answers request bytes sink sink' NoMemory = IsSilent request sink sink'
+Answers request bytes sink sink' NoMemory = sink' ≡ sink
 
 -- what `holds` tells of a text: that its plan is right for all inputs of its description's shape, or for those of the description
-abbrev pub IsRight : Option PlanRequest → List ℕ → Type 0
-IsRight None bytes = Unit {0}
-IsRight (Some Draw) bytes = Unit {0}
-IsRight (Some Verify) bytes = IsRightForAll bytes
-IsRight (Some VerifyGiven) bytes = IsRightGiven bytes
+abbrev pub IsRight : PlanRequest → List ℕ → Type 0
+IsRight Draw bytes = Unit {0}
+IsRight Verify bytes = IsRightForAll bytes
+IsRight VerifyGiven bytes = IsRightGiven bytes
 
--- All that holds after a call with this request, the source having these bytes.
-pub record PlanAnswered (request : Option PlanRequest) (bytes : List ℕ) (source source' : Inflow) (sink sink' : Outflow)
+-- All that holds after a call with this request, the source having these bytes: of them one more than the longest text is read.
+pub record PlanAnswered (request : PlanRequest) (bytes : List ℕ) (source source' : Inflow) (sink sink' : Outflow)
     (status : Status) : Type 0 where
   pub answer : Answers request bytes sink sink' status
   pub right : status ≡ Done → IsRight request bytes
   pub read_fault : status ≡ ReadFault → Rose source.faults source'.faults
   pub write_fault : status ≡ WriteFault → Rose sink.faults sink'.faults
-  pub rest : Leaves status source' (unread request bytes)
-  pub untouched : request ≡ None → source' ≡ source
+  pub rest : Leaves status source' (drop (longest request + 1) bytes)

@@ -1,6 +1,6 @@
 //! The answer on a plan that follows a description.
 
-ghost use Rattle.std.specs.Prelude.{◌≡◌, ◌≢◌, Some, []};
+ghost use Rattle.std.specs.Prelude.{◌≡◌, ◌≢◌, []};
 ghost use Rattle.given_verdicts.specs.Answers.{answer_of};
 ghost use Rattle.plan_top.specs.Owed.{Answers, owed_given, status_of};
 ghost use Rattle.plan_top.specs.declared.words.PlanRequest.TheVariants.{Verify};
@@ -74,7 +74,7 @@ pub(crate) fn judge_for_all<K: Sink>(
     sink: &mut K,
     told: &mut Option<Printable>,
 ) -> Status
-    ensures answers { Answers (Some Verify) text.now (K.outflow sink.old) (K.outflow sink.new) result }
+    ensures answers { Answers Verify text.now (K.outflow sink.old) (K.outflow sink.new) result }
     ensures no_read { result ≢ Status.ReadFault }
 {
     match general_answer(alloc, text) {

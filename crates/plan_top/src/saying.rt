@@ -9,11 +9,14 @@ use run_text::Status;
 use text_notes::notes::Printable;
 
 /// A line for each form of the command line.
-const FORMS: [&[u8]; 5] = [
+const FORMS: [&[u8]; 8] = [
     b"draw: reads a description and writes its plan, with the cells of its results and barriers",
     b"verify: reads a description and a plan, and writes whether the plan is right for all inputs",
     b"verify given: reads a description and a plan, and writes whether the plan is right for the inputs given",
     b"once, sim X, run W, trace W, steady W: reads a description and a plan, and runs the plan if it is sound",
+    b"check: reads a description, a plan and order lines, and writes whether these are a run of the plan",
+    b"limits: reads a description and a plan, and writes what each rank takes of an interface",
+    b"explain, explain RANK, explain --dot: says what each triggered operation of a plan is; draws it for Graphviz",
     b"X: what seeds the order of steps, below 2^64; W: how many workers there are, from 1 to 16",
 ];
 

@@ -1,7 +1,7 @@
-//! What the words of the command line ask for.
+//! What is asked of a text.
 
-ghost use Rattle.std.specs.Prelude.{◌≡◌, ◌<◌, ◌^◌, map, string_bytes};
-ghost use Rattle.plan_top.specs.Owed.{longest, plan_request};
+ghost use Rattle.std.specs.Prelude.{◌≡◌, ◌<◌, ◌^◌};
+ghost use Rattle.plan_top.specs.Owed.{longest};
 
 use coll_lang::LONGEST_TEXT;
 use given_verdicts::LONGEST_GIVEN;
@@ -27,19 +27,5 @@ impl PlanRequest {
             PlanRequest::Draw => LONGEST_TEXT,
             PlanRequest::Verify | PlanRequest::VerifyGiven => LONGEST_GIVEN,
         }
-    }
-}
-
-/// What the words ask for. None for all other words.
-pub(crate) fn plan_request(words: &[String]) -> Option<PlanRequest>
-    ensures { result ≡ plan_request (map string_bytes words.now) }
-{
-    match words {
-        [verb] if verb.as_str() == "draw" => Some(PlanRequest::Draw),
-        [verb] if verb.as_str() == "verify" => Some(PlanRequest::Verify),
-        [verb, what] if verb.as_str() == "verify" && what.as_str() == "given" => {
-            Some(PlanRequest::VerifyGiven)
-        }
-        _ => None,
     }
 }

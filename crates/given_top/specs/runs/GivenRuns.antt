@@ -7,7 +7,7 @@ use Rattle.job_runs.specs.declared.modes.Mode.TheVariants.{Once, Sim, Run, Trace
 use Rattle.job_runs.specs.Orders.{orders_in}
 use Rattle.job_runs.specs.Runs.{IsInOrder, IsJobRun, IsOfSteady, IsOfWorkers, IsReachedWorld}
 use Rattle.run_text.specs.declared.status.Status.{Status}
-use Rattle.run_text.specs.declared.status.Status.TheVariants.{Done, WriteFault}
+use Rattle.run_text.specs.declared.status.Status.TheVariants.{Done, NoMemory, WriteFault}
 use Rattle.run_text.specs.Ending.{Written, done}
 use Rattle.run_text.specs.Lines.{text_of}
 use Rattle.schedule_compiler.specs.Jobs.{JobOf}
@@ -48,8 +48,14 @@ abbrev pub owed_text : Mode → Outline → Option WorldState → List ℕ
 owed_text mode o None = []
 owed_text mode o (Some w) = given_text mode o w
 
--- the text that is due was written, and where it was written whole, or the sink failed, the world whose text it is is handed back
+-- no world is left
+abbrev pub RanNothing : GivenRun → Type 0
+RanNothing run = run.world ≡ None
+
+-- the text that is due was written, and where it was written whole, or the sink failed, the world whose text it is is handed back;
+-- without memory nothing was written and none is
 pub record IsGivenRun (mode : Mode) (o : Outline) (job : JobOf) (sink sink' : Outflow) (run : GivenRun) : Type 0 where
   pub written : Written (done (owed_text mode o run.world)) sink sink' run.status
   pub world : run.status ≡ Done → LeavesGiven mode job run.world
   pub world_at_fault : run.status ≡ WriteFault → LeavesGiven mode job run.world
+  pub no_memory : run.status ≡ NoMemory → RanNothing run

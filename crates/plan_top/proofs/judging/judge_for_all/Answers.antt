@@ -12,4 +12,4 @@ returns-in-Ok g c = record {
 }
 
 pub returns-in-Err : goal.returns-in-Err
-returns-in-Err g c = record { answers = ((λ none. absurd (cc)), refl); no_read = λ is. absurd (cc) }
+returns-in-Err g c = record { answers = refl; no_read = λ is. absurd (cc) }

@@ -1,0 +1,9 @@
+use Rattle.given_top.specs.Checked.CheckText.{Ordered}
+use Rattle.given_top.proofs.Checks.{no_memory, ordered}
+use Rattle.given_top.proofs.checking.answer_ordered.Goals as goal
+
+pub returns-in-Ok : goal.returns-in-Ok
+returns-in-Ok g c = ordered c.args.found c.args.orders.now _ _ _ _ c.in-Ok.ensures c.answer_verdict.ensures
+
+pub returns-in-Err : goal.returns-in-Err
+returns-in-Err g c = no_memory (Ordered c.args.found c.args.orders.now) _
