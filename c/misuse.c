@@ -74,7 +74,7 @@ static void misused(ptl_handle_ni_t *ni) {
     want("an index past the limit", PtlPTAlloc(ni, 2, PTL_EQ_NONE), SF_NO_SPACE);
     want("a list", PtlMEAppend(ni, 0, &me, 2, &h), SF_UNKNOWN);
     want("an index that isn't allocated", PtlMEAppend(ni, 0, &me, 0, &h), SF_STALE);
-    me.options = 128;
+    me.options = 4096;
     want("an option of an entry", PtlMEAppend(ni, 0, &me, 0, &h), SF_UNKNOWN);
     want("a descriptor", PtlMDBind(ni, &md, &h), SF_OK);
     md.start = 1;

@@ -422,7 +422,8 @@ static void queues(unsigned r) {
 }
 
 static void entries(unsigned r) {
-    static const char *const flags[] = { "put", "get", "once", "local", "no_truncate", "comm", "overflow" };
+    static const char *const flags[] = { "put", "get", "once", "local", "no_truncate", "comm", "overflow",
+                                         "hide_link", "hide_unlink", "hide_comm", "hide_overflow", "hide_success" };
     ptl_handle_ni_t *ni = &rank_of[r].ni;
     ptl_handle_any_t made = PTL_INVALID_HANDLE;
     char ct[24], text[400];
@@ -436,14 +437,16 @@ static void entries(unsigned r) {
     }
     me.options = (below(5) ? PTL_ME_OP_PUT : 0) | (below(3) ? PTL_ME_OP_GET : 0) | (below(2) ? PTL_ME_USE_ONCE : 0)
                  | (below(3) ? 0 : PTL_ME_MANAGE_LOCAL) | (below(4) ? 0 : PTL_ME_NO_TRUNCATE) | (below(2) ? PTL_ME_EVENT_CT_COMM : 0)
-                 | (below(3) ? 0 : PTL_ME_EVENT_CT_OVERFLOW);
+                 | (below(3) ? 0 : PTL_ME_EVENT_CT_OVERFLOW) | (below(4) ? 0 : PTL_ME_EVENT_LINK_DISABLE)
+                 | (below(4) ? 0 : PTL_ME_EVENT_UNLINK_DISABLE) | (below(4) ? 0 : PTL_ME_EVENT_COMM_DISABLE)
+                 | (below(4) ? 0 : PTL_ME_EVENT_OVER_DISABLE) | (below(6) ? 0 : PTL_ME_EVENT_SUCCESS_DISABLE);
     me.ct_handle = field(r, CT, "ct", ct);
     int n = sprintf(text, "start=%" PRIu64 " length=%" PRIu64 " bits=%" PRIu64 " ignore=%" PRIu64 " min_free=%" PRIu64 "%s", me.start,
                     me.length, me.match_bits, me.ignore_bits, me.min_free, ct);
     if (me.match_id != PTL_RANK_ANY) {
         n += sprintf(text + n, " source=%u", me.match_id);
     }
-    for (unsigned i = 0; i < 7; i++) {
+    for (unsigned i = 0; i < 12; i++) {
         if (me.options >> i & 1) {
             n += sprintf(text + n, " %s", flags[i]);
         }
@@ -468,7 +471,7 @@ static void descriptors(unsigned r) {
     ptl_handle_ni_t *ni = &rank_of[r].ni;
     ptl_handle_any_t made = PTL_INVALID_HANDLE;
     char ct[24], eq[24];
-    ptl_md_t md = { .start = below(24), .length = below(30), .options = below(8) };
+    ptl_md_t md = { .start = below(24), .length = below(30), .options = below(8) | (below(3) ? 0 : 8) | (below(4) ? 0 : 16) };
     unsigned d = some(r, MD);
     uint64_t answers;
     uint32_t status;
@@ -489,8 +492,9 @@ static void descriptors(unsigned r) {
     md.eq_handle = field(r, EQ, "eq", eq);
     md.ct_handle = field(r, CT, "ct", ct);
     status = PtlMDBind(ni, &md, &made);
-    printf("%u md_bind start=%" PRIu64 " length=%" PRIu64 "%s%s%s%s%s", r, md.start, md.length, eq, ct, md.options & 1 ? " send" : "",
-           md.options & 2 ? " reply" : "", md.options & 4 ? " ack" : "");
+    printf("%u md_bind start=%" PRIu64 " length=%" PRIu64 "%s%s%s%s%s%s%s", r, md.start, md.length, eq, ct,
+           md.options & 1 ? " send" : "", md.options & 2 ? " reply" : "", md.options & 4 ? " ack" : "",
+           md.options & 8 ? " hide_send" : "", md.options & 16 ? " hide_success" : "");
     answer_made(r, MD, made, status, "");
 }
 

@@ -134,14 +134,17 @@ typedef struct {
 typedef struct {
     uint64_t start;            /* its first byte, as an offset in the region */
     uint64_t length;           /* in bytes */
-    uint32_t options;          /* PTL_MD_EVENT_CT_.., or'ed */
+    uint32_t options;          /* PTL_MD_EVENT_.., or'ed */
     ptl_handle_eq_t eq_handle; /* where its events go, or PTL_EQ_NONE */
     ptl_handle_ct_t ct_handle; /* what counts for it, or PTL_CT_NONE */
 } ptl_md_t;
 enum {
     PTL_MD_EVENT_CT_SEND = 1,  /* each start counts one success */
     PTL_MD_EVENT_CT_REPLY = 2, /* each reply counts one: a failure where it isn't ok */
-    PTL_MD_EVENT_CT_ACK = 4    /* each acknowledgement counts one, alike */
+    PTL_MD_EVENT_CT_ACK = 4,   /* each acknowledgement counts one, alike */
+    /* Events that aren't raised; what is counted stays counted. */
+    PTL_MD_EVENT_SEND_DISABLE = 8,    /* PTL_EVENT_SEND */
+    PTL_MD_EVENT_SUCCESS_DISABLE = 16 /* each whose `ok` is 1 */
 };
 
 /* A match entry: a part of the region, what it matches, and what is done with a message that it matches. */
@@ -163,7 +166,13 @@ enum {
     PTL_ME_MANAGE_LOCAL = 8,    /* it places messages one behind the other, at an offset of its own */
     PTL_ME_NO_TRUNCATE = 16,    /* a message that doesn't fit whole isn't matched; without it, it is cut, to no bytes too, and counted */
     PTL_ME_EVENT_CT_COMM = 32,  /* each message counts one success in ct_handle: nothing is counted where either is missing */
-    PTL_ME_EVENT_CT_OVERFLOW = 64 /* each unexpected header that its append takes counts one success */
+    PTL_ME_EVENT_CT_OVERFLOW = 64, /* each unexpected header that its append takes counts one success */
+    /* Events that aren't raised; what is counted stays counted. A search looks at those of the entry that it is given. */
+    PTL_ME_EVENT_LINK_DISABLE = 128,     /* PTL_EVENT_LINK */
+    PTL_ME_EVENT_UNLINK_DISABLE = 256,   /* PTL_EVENT_AUTO_UNLINK, and PTL_EVENT_AUTO_FREE of an overflow entry */
+    PTL_ME_EVENT_COMM_DISABLE = 512,     /* PTL_EVENT_PUT, _GET, _ATOMIC and _FETCH_ATOMIC */
+    PTL_ME_EVENT_OVER_DISABLE = 1024,    /* PTL_EVENT_PUT_OVERFLOW and _ATOMIC_OVERFLOW */
+    PTL_ME_EVENT_SUCCESS_DISABLE = 2048  /* each whose `ok` is 1 */
 };
 
 /* The two lists of a portal table index. */

@@ -72,7 +72,7 @@ unknown options known = if bit_and options known == options then false else true
 
 abbrev pub descriptor_of : CDescriptor → Option Descriptor
 descriptor_of d =
-    if unknown d.options 7 then None
+    if unknown d.options 31 then None
     else Some (record {
       start = d.start;
       length = d.length;
@@ -81,6 +81,7 @@ descriptor_of d =
       count_send = has d.options 1;
       count_reply = has d.options 2;
       count_ack = has d.options 4;
+      hidden = record { send = has d.options 8; success = has d.options 16 };
     })
 
 -- 2^32 - 1 matches any source
@@ -89,7 +90,7 @@ match_of rank = if rank == 4294967295 then None else Some rank
 
 abbrev pub entry_of : CEntry → Option Entry
 entry_of e =
-    if unknown e.options 127 then None
+    if unknown e.options 4095 then None
     else Some (record {
       start = e.start;
       length = e.length;
@@ -100,12 +101,18 @@ entry_of e =
       min_free = e.min_free;
       allow_put = has e.options 1;
       allow_get = has e.options 2;
-      use_once = has
-          e.options 4;
+      use_once = has e.options 4;
       manage_local = has e.options 8;
       no_truncate = has e.options 16;
       count_comm = has e.options 32;
       count_overflow = has e.options 64;
+      hidden = record {
+        link = has e.options 128;
+        unlink = has e.options 256;
+        comm = has e.options 512;
+        overflow = has e.options 1024;
+        success = has e.options 2048;
+      };
     })
 
 abbrev pub list_of : ℕ → Option EntryList

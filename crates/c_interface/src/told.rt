@@ -6,7 +6,10 @@ ghost use Rattle.c_interface.specs.Forms.{kind_told, limits_of, list_of, match_o
 
 use crate::forms::{CCount, CDescriptor, CEntry, CEvent, CHandle, CLimits};
 use crate::options::{has, unknown};
-use ptl_types::{Count, Descriptor, Entry, Event, EventKind, Handle, Limits, List, Rank};
+use ptl_types::{
+    Count, Descriptor, Entry, Event, EventKind, Handle, HiddenDescriptorEvents, HiddenEntryEvents,
+    Limits, List, Rank,
+};
 
 /// Of a descriptor: each start, reply or acknowledgement is counted.
 const COUNT_SEND: u32 = 1;
@@ -14,6 +17,11 @@ const COUNT_SEND: u32 = 1;
 const COUNT_REPLY: u32 = 2;
 
 const COUNT_ACK: u32 = 4;
+
+/// And these events are hidden.
+const HIDE_SEND: u32 = 8;
+
+const HIDE_DESCRIPTOR_SUCCESS: u32 = 16;
 
 /// Of an entry, in the order of its fields.
 const ALLOW_PUT: u32 = 1;
@@ -29,6 +37,16 @@ const NO_TRUNCATE: u32 = 16;
 const COUNT_COMM: u32 = 32;
 
 const COUNT_OVERFLOW: u32 = 64;
+
+const HIDE_LINK: u32 = 128;
+
+const HIDE_UNLINK: u32 = 256;
+
+const HIDE_COMM: u32 = 512;
+
+const HIDE_OVERFLOW: u32 = 1024;
+
+const HIDE_SUCCESS: u32 = 2048;
 
 /// The match id of an entry that matches any source.
 const ANY_RANK: u32 = u32::MAX;
@@ -119,7 +137,7 @@ impl CDescriptor {
     pub fn descriptor(&self) -> Option<Descriptor>
         ensures { result ≡ descriptor_of self.now }
     {
-        if unknown(self.options, COUNT_SEND | COUNT_REPLY | COUNT_ACK) {
+        if unknown(self.options, 31) {
             return None;
         }
         Some(Descriptor {
@@ -130,6 +148,10 @@ impl CDescriptor {
             count_send: has(self.options, COUNT_SEND),
             count_reply: has(self.options, COUNT_REPLY),
             count_ack: has(self.options, COUNT_ACK),
+            hidden: HiddenDescriptorEvents {
+                send: has(self.options, HIDE_SEND),
+                success: has(self.options, HIDE_DESCRIPTOR_SUCCESS),
+            },
         })
     }
 }
@@ -146,7 +168,7 @@ impl CEntry {
     pub fn entry(&self) -> Option<Entry>
         ensures { result ≡ entry_of self.now }
     {
-        if unknown(self.options, 127) {
+        if unknown(self.options, 4095) {
             return None;
         }
         Some(Entry {
@@ -164,6 +186,13 @@ impl CEntry {
             no_truncate: has(self.options, NO_TRUNCATE),
             count_comm: has(self.options, COUNT_COMM),
             count_overflow: has(self.options, COUNT_OVERFLOW),
+            hidden: HiddenEntryEvents {
+                link: has(self.options, HIDE_LINK),
+                unlink: has(self.options, HIDE_UNLINK),
+                comm: has(self.options, HIDE_COMM),
+                overflow: has(self.options, HIDE_OVERFLOW),
+                success: has(self.options, HIDE_SUCCESS),
+            },
         })
     }
 }

@@ -10,8 +10,8 @@ use ni_objects::descriptors::Region;
 use ni_objects::handles::Store;
 use ni_objects::queues::Queue;
 use ptl_types::{
-    AckRequest, Bytes, Descriptor, GetArgs, Handle, Header, Limits, Message, MessageKind, NiFault,
-    NoMemory, Outcome, PutArgs, TriggeredOp,
+    AckRequest, Bytes, Descriptor, GetArgs, Handle, Header, HiddenDescriptorEvents, Limits,
+    Message, MessageKind, NiFault, NoMemory, Outcome, PutArgs, TriggeredOp,
 };
 use std::alloc::Global;
 use std::process::Abort;
@@ -38,6 +38,7 @@ const DESCRIPTOR: Descriptor = Descriptor {
     count_send: false,
     count_reply: false,
     count_ack: false,
+    hidden: HiddenDescriptorEvents::NONE,
 };
 
 /// An initiator with what is handed to it.

@@ -7,7 +7,7 @@ ghost use Rattle.ni_model.specs.Conditions.{IsBoundIn};
 ghost use Rattle.ptl_types.specs.Handles.{top};
 
 use ni_model::Bound;
-use ni_objects::delivery::raise;
+use ni_objects::delivery::tell_of_descriptor;
 use ni_objects::descriptors::Region;
 use ni_objects::handles::{Store, where_set};
 use ni_objects::queues::Queue;
@@ -130,14 +130,15 @@ fn answer_event(header: &Header, bound: &Bound) -> Event
     }
 }
 
-/// A reply raises its event, and an acknowledgement where one was asked for.
+/// A reply raises its event, and an acknowledgement where one was asked for, each where the descriptor shows it.
 pub fn raise_answer(eqs: &mut Store<Queue>, header: &Header, bound: &Bound)
     requires due { is_due header.now bound.now ≡ true }
     requires part { bound.now.md.start + bound.now.md.length ≤ top }
     ensures { eqs.new ≡ events_home header.now bound.now eqs.old }
 {
     if is_reply(header.kind) || asks_event(header.ack) {
-        raise(eqs, bound.md.eq, answer_event(header, bound));
+        let event = answer_event(header, bound);
+        tell_of_descriptor(eqs, &bound.md.hidden, bound.md.eq, event);
     }
 }
 

@@ -15,10 +15,10 @@ use crate::answers::{await_less, bound_of, bring, counter_home, is_due, one_answ
 use crate::checks::{action_fits, action_is_live, is_live};
 use crate::headers::{counted_on, header_of, put_args};
 use crate::named::some_awaits;
-use crate::starts::{await_more, read_bytes, send_counter, send_event, send_queue};
+use crate::starts::{await_more, read_bytes, send_counter, tell_start};
 use ni_model::Bound;
 use ni_objects::counters::Counter;
-use ni_objects::delivery::{count, raise, successes};
+use ni_objects::delivery::{count, successes};
 use ni_objects::descriptors::Region;
 use ni_objects::handles::{Store, is_live_or_none};
 use ni_objects::queues::Queue;
@@ -81,7 +81,7 @@ fn started_with(
     let ct = send_counter(bound);
     await_more(mds, header.home);
     count(cts, ct, successes(1));
-    raise(eqs, send_queue(bound), send_event(header));
+    tell_start(eqs, bound, header);
     ct
 }
 

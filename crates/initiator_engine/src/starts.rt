@@ -1,14 +1,16 @@
 //! What a start sends, counts and tells.
 
 ghost use Rattle.std.specs.Prelude.{◌≡◌, ◌≤◌, true, length};
-ghost use Rattle.ni_model.specs.Starts.{send_counter, send_queue, awaits_more};
+ghost use Rattle.ni_model.specs.Starts.{send_counter, send_told, awaits_more};
 ghost use Rattle.ni_model.specs.Events.{send_event};
 ghost use Rattle.initiator_engine.specs.Initiators.{AreBoundIn, args_fit, args_length, args_bytes};
 
 use crate::answers::bound_of;
 use ni_model::Bound;
+use ni_objects::delivery::tell_of_descriptor;
 use ni_objects::descriptors::Region;
 use ni_objects::handles::{Store, where_set};
+use ni_objects::queues::Queue;
 use ptl_types::{Bytes, Event, EventKind, Handle, Header, PutArgs};
 
 /// The bytes that are sent, in the room that was brought.
@@ -47,18 +49,8 @@ pub fn send_counter(bound: Option<Bound>) -> Option<Handle>
     }
 }
 
-/// The event queue that a start tells.
-pub fn send_queue(bound: Option<Bound>) -> Option<Handle>
-    ensures { result ≡ send_queue bound }
-{
-    match bound {
-        Some(bound) => bound.md.eq,
-        None => None,
-    }
-}
-
 /// The event of a start: its bytes were read, so its room may be used again (Portals 4.3, event types).
-pub fn send_event(header: &Header) -> Event
+fn send_event(header: &Header) -> Event
     ensures { result ≡ send_event header.now }
 {
     Event {
@@ -71,6 +63,15 @@ pub fn send_event(header: &Header) -> Event
         delivered: 0,
         place: 0,
         ok: true,
+    }
+}
+
+/// A start raises Send in the queue of its descriptor, where that shows it.
+pub fn tell_start(eqs: &mut Store<Queue>, bound: Option<Bound>, header: &Header)
+    ensures { eqs.new ≡ send_told bound header.now eqs.old }
+{
+    if let Some(bound) = bound {
+        tell_of_descriptor(eqs, &bound.md.hidden, bound.md.eq, send_event(header));
     }
 }
 

@@ -5,7 +5,10 @@ use crate::steps::Answer::*;
 use crate::steps::Call::*;
 use crate::steps::Step::{self, *};
 use crate::values::FIRST;
-use ptl_types::{AckRequest, Descriptor, Entry, List, Outcome, PutArgs, TriggeredOp};
+use ptl_types::{
+    AckRequest, Descriptor, Entry, HiddenDescriptorEvents, HiddenEntryEvents, List, Outcome,
+    PutArgs, TriggeredOp,
+};
 
 /// An entry over the whole region, for match bits 5 from any rank.
 const ENTRY: Entry = Entry {
@@ -23,6 +26,7 @@ const ENTRY: Entry = Entry {
     no_truncate: false,
     count_comm: false,
     count_overflow: false,
+    hidden: HiddenEntryEvents::NONE,
 };
 
 /// A descriptor over the whole region, which counts acknowledgements.
@@ -34,6 +38,7 @@ const ACKNOWLEDGED: Descriptor = Descriptor {
     count_send: false,
     count_reply: false,
     count_ack: true,
+    hidden: HiddenDescriptorEvents::NONE,
 };
 
 /// The last two bytes, to the start of the entry.

@@ -31,6 +31,8 @@ mod firing;
 #[cfg(test)]
 mod guarded;
 #[cfg(test)]
+mod hidden;
+#[cfg(test)]
 mod managed;
 #[cfg(test)]
 mod matching;

@@ -2,7 +2,7 @@
 
 use ptl_types::{
     AckRequest, Count, Descriptor, ElemType, Entry, Event, EventKind, GetArgs, Handle, Header,
-    Limits, MessageKind, PutArgs,
+    HiddenDescriptorEvents, HiddenEntryEvents, Limits, MessageKind, PutArgs,
 };
 
 /// The limits of every interface of the scripts.
@@ -68,6 +68,7 @@ pub const ENTRY: Entry = Entry {
     no_truncate: false,
     count_comm: false,
     count_overflow: false,
+    hidden: HiddenEntryEvents::NONE,
 };
 
 /// The same entry, which its first message unlinks.
@@ -85,6 +86,7 @@ pub const DESCRIPTOR: Descriptor = Descriptor {
     count_send: false,
     count_reply: false,
     count_ack: false,
+    hidden: HiddenDescriptorEvents::NONE,
 };
 
 /// A put of no bytes of the first descriptor to rank 0 that asks for no acknowledgement.

@@ -9,6 +9,7 @@ pub mod TriggeredOps
 pub mod Home
 pub mod Answering
 pub mod Told
+pub mod HiddenEvents
 pub mod Searching
 pub mod Arriving
 pub mod Triggered

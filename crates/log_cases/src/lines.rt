@@ -2,13 +2,13 @@
 
 use log_lines::{Call, Line, read_line};
 use log_words::Flaw;
-use ptl_types::{List, TriggeredOp};
+use ptl_types::{HiddenDescriptorEvents, HiddenEntryEvents, List, TriggeredOp};
 
 /// A line, and the column and the flaw that it is refused with.
 type Refused = (&'static [u8], usize, Flaw);
 
 /// Each flaw of a line, at words of each kind.
-static REFUSED: [Refused; 24] = [
+static REFUSED: [Refused; 28] = [
     (b"", 1, Flaw::BadSpace),
     (b"0  ct_alloc -> c0", 3, Flaw::BadSpace),
     (b"0 ct_alloc -> c0 ", 18, Flaw::BadSpace),
@@ -33,6 +33,10 @@ static REFUSED: [Refused; 24] = [
     (b"0 md_bind length=4 length=4 -> d0", 20, Flaw::WordTwice),
     (b"0 md_bind width=4 -> d0", 11, Flaw::BadWord),
     (b"0 md_bind send=1 -> d0", 11, Flaw::BadWord),
+    (b"0 md_bind hide_link -> d0", 11, Flaw::BadWord),
+    (b"0 md_bind hide_send=1 -> d0", 11, Flaw::BadWord),
+    (b"0 md_bind hide_send hide_send -> d0", 21, Flaw::WordTwice),
+    (b"0 me_append 0 priority hide_send -> m0", 24, Flaw::BadWord),
     (b"0 get d0 data=1 -> w0", 10, Flaw::BadWord),
     (b"0 write 0 abc -> ok", 11, Flaw::BadHex),
     (b"settle now", 8, Flaw::BadLine),
@@ -107,4 +111,96 @@ fn a_triggered_set(rt: HostRuntime) {
         is_triggered_set(b"0 triggered t0 c0 3 set c1 5 0x6 -> ok"),
         "a triggered set"
     );
+}
+
+const SHOWN: HiddenEntryEvents = HiddenEntryEvents::NONE;
+
+/// What an entry hides by its flags.
+static ENTRIES: [(&'static [u8], HiddenEntryEvents); 7] = [
+    (b"0 me_append 0 priority put -> m0", SHOWN),
+    (
+        b"0 me_append 0 priority hide_link put -> m0",
+        HiddenEntryEvents {
+            link: true,
+            ..SHOWN
+        },
+    ),
+    (
+        b"0 me_append 0 overflow hide_unlink -> m0",
+        HiddenEntryEvents {
+            unlink: true,
+            ..SHOWN
+        },
+    ),
+    (
+        b"0 me_append 0 priority comm hide_comm -> m0",
+        HiddenEntryEvents {
+            comm: true,
+            ..SHOWN
+        },
+    ),
+    (
+        b"0 me_append 0 priority hide_overflow -> m0",
+        HiddenEntryEvents {
+            overflow: true,
+            ..SHOWN
+        },
+    ),
+    (
+        b"0 me_append 0 priority hide_success -> m0",
+        HiddenEntryEvents {
+            success: true,
+            ..SHOWN
+        },
+    ),
+    (
+        b"0 me_append 0 priority hide_success hide_link -> m0",
+        HiddenEntryEvents {
+            link: true,
+            success: true,
+            ..SHOWN
+        },
+    ),
+];
+
+/// What the entry of this append hides.
+fn hidden_by(line: &[u8]) -> Option<HiddenEntryEvents> {
+    match read_line(line) {
+        Ok(Line::Calls(_, Call::MeAppend(_, _, said), _)) => Some(said.entry.hidden),
+        _ => None,
+    }
+}
+
+#[test]
+fn entries_that_hide(rt: HostRuntime) {
+    for (line, hidden) in &ENTRIES {
+        assert_eq!(rt; hidden_by(line), Some(*hidden));
+    }
+}
+
+/// What a descriptor hides by its flags.
+static DESCRIPTORS: [(&'static [u8], bool, bool); 4] = [
+    (b"0 md_bind send -> d0", false, false),
+    (b"0 md_bind hide_send -> d0", true, false),
+    (b"0 md_bind hide_success ack -> d0", false, true),
+    (b"0 md_bind hide_success hide_send -> d0", true, true),
+];
+
+/// What the descriptor of this line hides.
+fn descriptor_hides(line: &[u8]) -> Option<HiddenDescriptorEvents> {
+    match read_line(line) {
+        Ok(Line::Calls(_, Call::MdBind(said), _)) => Some(said.md.hidden),
+        _ => None,
+    }
+}
+
+#[test]
+fn descriptors_that_hide(rt: HostRuntime) {
+    for (line, send, success) in &DESCRIPTORS {
+        let hidden = HiddenDescriptorEvents {
+            send: *send,
+            success: *success,
+        };
+        assert_eq!(rt; descriptor_hides(line), Some(hidden));
+    }
 }

@@ -4,7 +4,7 @@ ghost use Rattle.std.specs.Prelude.{◌≡◌, ◌<◌, ◌≤◌, ◌+◌, ◌+
 ghost use Rattle.std.specs.Prelude.{Some, None, slice_index_or, remove, length, option_copied};
 ghost use Rattle.ni_model.specs.declared.IndexedHeader.{IndexedHeader};
 ghost use Rattle.ni_model.specs.Headers.{unexpected_list, allows, finds, oldest, without_oldest, names_entry, no_room};
-ghost use Rattle.match_lists.specs.unexpected.Places.{indexed_header, header_at};
+ghost use Rattle.match_lists.specs.unexpected.Places.{header_at};
 
 use ni_model::IndexedHeader;
 use ptl_types::{Entry, Handle, MessageKind, NoMemory, UnexpectedHeader, matches};
@@ -157,16 +157,16 @@ impl Headers {
         self.limit as usize <= self.unexpected.len() - self.gone
     }
 
-    /// Adds a header of this portal table index, the youngest.
-    pub fn add(&mut self, pt: u32, header: UnexpectedHeader)
+    /// Adds a header, the youngest.
+    pub fn add(&mut self, unexpected: IndexedHeader)
         requires { length self.old.unexpected < self.old.limit }
-        ensures { self.new ≡ unexpected_list (self.old.unexpected ++ indexed_header pt header ∷ []) self.old.limit }
+        ensures { self.new ≡ unexpected_list (self.old.unexpected ++ unexpected ∷ []) self.old.limit }
     {
         if self.unexpected.len() >= 2 * self.limit as usize {
             drop_gone(&mut self.unexpected, self.gone);
             self.gone = 0;
         }
-        self.unexpected.push_reserved(IndexedHeader { pt, header });
+        self.unexpected.push_reserved(unexpected);
     }
 
     /// Gives all places free where no header is left, so that few of them are written where few headers wait at a time.

@@ -11,8 +11,9 @@ use Rattle.ptl_types.specs.Messages.{Sent}
 use Rattle.ni_model.specs.declared.Bound.{Bound}
 use Rattle.ni_model.specs.Tables.{Table, Live, lookup, changed, where_set}
 use Rattle.ni_model.specs.Counts.{successes, failures, counted}
-use Rattle.ni_model.specs.Queues.{Waiting, raised}
+use Rattle.ni_model.specs.Queues.{Waiting}
 use Rattle.ni_model.specs.Events.{is_reply, asks_event, answer_event}
+use Rattle.ni_model.specs.Shown.{told_of_descriptor}
 
 -- what an initiator has, and what is handed to it
 pub record Home : Type 0 where
@@ -53,9 +54,10 @@ one_answer ok = if ok then successes 1 else failures 1
 abbrev pub counter_home : Header → Bound → Option Handle
 counter_home h b = where_set (if is_reply h.kind then b.md.count_reply else b.md.count_ack) b.md.ct
 
--- an acknowledgement is told as an event only where one was asked for
+-- an acknowledgement is told as an event only where one was asked for, and an answer where the descriptor shows it
 abbrev pub events_home : Header → Bound → Table Waiting → Table Waiting
-events_home h b eqs = if is_reply h.kind || asks_event h.ack then raised b.md.eq (answer_event b h) eqs else eqs
+events_home h b eqs =
+    if is_reply h.kind || asks_event h.ack then told_of_descriptor b.md.hidden b.md.eq (answer_event b h) eqs else eqs
 
 -- one answer fewer is awaited
 abbrev pub one_less : Bound → Bound

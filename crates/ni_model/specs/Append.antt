@@ -5,6 +5,7 @@ use Rattle.std.specs.Prelude.{is_some, slice_set}
 use Rattle.ptl_types.specs.declared.handles.Handle.{Handle}
 use Rattle.ptl_types.specs.declared.handles.Count.{Count}
 use Rattle.ptl_types.specs.declared.entries.Entry.{Entry}
+use Rattle.ptl_types.specs.declared.entries.HiddenEntryEvents.{HiddenEntryEvents}
 use Rattle.ptl_types.specs.declared.entries.List.{List as EntryList}
 use Rattle.ptl_types.specs.declared.entries.List.TheVariants.{Priority, Overflow}
 use Rattle.ptl_types.specs.declared.entries.UnexpectedHeader.{UnexpectedHeader}
@@ -19,10 +20,11 @@ use Rattle.ni_model.specs.declared.Linked.{Linked}
 use Rattle.ni_model.specs.declared.IndexedHeader.{IndexedHeader}
 use Rattle.ni_model.specs.Tables.{Table, handle, where_set, is_live_or_none}
 use Rattle.ni_model.specs.Counts.{successes, counted}
-use Rattle.ni_model.specs.Queues.{Waiting, raised}
+use Rattle.ni_model.specs.Queues.{Waiting}
 use Rattle.ni_model.specs.Lists.{Index, index_at, queue_of, with_list, is_linked_at, entries_in}
 use Rattle.ni_model.specs.Headers.{oldest, without_oldest, found_in, left_in, names_entry}
 use Rattle.ni_model.specs.Events.{header_event, kind_taken, link_event, free_event, missed_event}
+use Rattle.ni_model.specs.Shown.{told_of_entry}
 use Rattle.ni_model.specs.Arrive.{Side, Parts, parts}
 
 -- ---- refusals, the lowest number first
@@ -78,10 +80,13 @@ link_side slot pt list e s =
 abbrev pub queue_at : ℕ → Side → Option Handle
 queue_at pt s = queue_of (index_at pt s.indices)
 
--- the linking, told by Link
+-- the linking, told by Link, where the entry shows it
 abbrev pub link_entry : ℕ → ℕ → EntryList → Entry → Parts → Parts
 link_entry slot pt list e p =
-    record p { side = link_side slot pt list e p.side; eqs = raised (queue_at pt p.side) (link_event pt e.match_bits) p.eqs }
+    record p {
+      side = link_side slot pt list e p.side;
+      eqs = told_of_entry e.hidden (queue_at pt p.side) (link_event pt e.match_bits) p.eqs;
+    }
 
 -- ---- headers go
 
@@ -89,20 +94,21 @@ link_entry slot pt list e p =
 abbrev pub frees : Side → List IndexedHeader → IndexedHeader → Bool
 frees s left a = not (is_linked_at Overflow a.header.entry (index_at a.pt s.indices) || names_entry a.header.entry left)
 
--- the event of a header that goes, and directly after it the freeing of its entry, where it is free
-abbrev pub gone_events : EventKind → List (Option Index) → Bool → IndexedHeader → Table Waiting → Table Waiting
-gone_events kind is freed a eqs =
-    let with_header = raised (queue_of (index_at a.pt is)) (header_event kind a) eqs in
-    if freed then raised (queue_of (index_at a.pt is)) (free_event a.pt) with_header else with_header
+-- the event of a header that goes, where the entry that finds it shows it, and directly after it the freeing of the entry in which it lies,
+-- where that is free and shows it
+abbrev pub gone_events : EventKind → HiddenEntryEvents → List (Option Index) → Bool → IndexedHeader → Table Waiting → Table Waiting
+gone_events kind o is freed a eqs =
+    let with_header = told_of_entry o (queue_of (index_at a.pt is)) (header_event kind a) eqs in
+    if freed then told_of_entry a.hidden (queue_of (index_at a.pt is)) (free_event a.pt) with_header else with_header
 
 -- the same, where the headers in `left` stay
-abbrev pub gone_raised : EventKind → Side → List IndexedHeader → IndexedHeader → Table Waiting → Table Waiting
-gone_raised kind s left a eqs = gone_events kind s.indices (frees s left a) a eqs
+abbrev pub gone_raised : EventKind → HiddenEntryEvents → Side → List IndexedHeader → IndexedHeader → Table Waiting → Table Waiting
+gone_raised kind o s left a eqs = gone_events kind o s.indices (frees s left a) a eqs
 
 -- found headers go one after the other, while those in `stay` stay
-abbrev pub each_gone : Side → List IndexedHeader → List IndexedHeader → Table Waiting → Table Waiting
-each_gone s stay [] eqs = eqs
-each_gone s stay (a ∷ found) eqs = each_gone s stay found (gone_raised (kind_taken a.header.header.kind) s (stay ++ found) a eqs)
+abbrev pub each_gone : HiddenEntryEvents → Side → List IndexedHeader → List IndexedHeader → Table Waiting → Table Waiting
+each_gone o s stay [] eqs = eqs
+each_gone o s stay (a ∷ found) eqs = each_gone o s stay found (gone_raised (kind_taken a.header.header.kind) o s (stay ++ found) a eqs)
 
 -- one count for each header that is taken
 abbrev pub each_counted : Option Handle → List IndexedHeader → Table Count → Table Count
@@ -124,7 +130,7 @@ take_all pt e p =
     (with_unexpected (left_in pt e p.side.headers.unexpected) p.side)
     p.region
     (each_counted (overflow_counter e) (found_in pt e p.side.headers.unexpected) p.cts)
-    (each_gone p.side (left_in pt e p.side.headers.unexpected) (found_in pt e p.side.headers.unexpected) p.eqs)
+    (each_gone e.hidden p.side (left_in pt e p.side.headers.unexpected) (found_in pt e p.side.headers.unexpected) p.eqs)
 
 -- a use-once entry takes the oldest
 abbrev pub take_oldest : ℕ → Entry → IndexedHeader → Parts → Parts
@@ -133,7 +139,7 @@ take_oldest pt e a p =
     (with_unexpected (without_oldest pt e p.side.headers.unexpected) p.side)
     p.region
     (counted (overflow_counter e) (successes 1) p.cts)
-    (gone_raised (kind_taken a.header.header.kind) p.side (without_oldest pt e p.side.headers.unexpected) a p.eqs)
+    (gone_raised (kind_taken a.header.header.kind) e.hidden p.side (without_oldest pt e p.side.headers.unexpected) a p.eqs)
 
 -- ---- the append, where it isn't refused; `slot` is the slot that the new handle gets
 
@@ -181,20 +187,22 @@ pub record Searched : Type 0 where
 abbrev pub search_fault : ℕ → Parts → Option NiFault
 search_fault pt p = need (is_allocated pt p.side) Stale None
 
--- the header that a search found is told, and goes where it is to be deleted
+-- the header that a search found is told, where the given entry shows it, and goes where it is to be deleted
 abbrev pub found_header : ℕ → Entry → Bool → IndexedHeader → Parts → Parts
 found_header pt e delete a p =
     if delete
     then record p {
       side = with_unexpected (without_oldest pt e p.side.headers.unexpected) p.side;
-      eqs = gone_raised Search p.side (without_oldest pt e p.side.headers.unexpected) a p.eqs;
+      eqs = gone_raised Search e.hidden p.side (without_oldest pt e p.side.headers.unexpected) a p.eqs;
     }
-    else record p { eqs = raised (queue_at pt p.side) (header_event Search a) p.eqs }
+    else record p { eqs = told_of_entry e.hidden (queue_at pt p.side) (header_event Search a) p.eqs }
 
 -- by what was found
 abbrev pub searched_at : ℕ → Entry → Bool → Parts → Option IndexedHeader → Searched
-searched_at pt e delete p None =
-    record { parts = record p { eqs = raised (queue_at pt p.side) (missed_event pt e.match_bits) p.eqs }; found = None }
+searched_at pt e delete p None = record {
+  parts = record p { eqs = told_of_entry e.hidden (queue_at pt p.side) (missed_event pt e.match_bits) p.eqs };
+  found = None;
+}
 searched_at pt e delete p (Some a) = record { parts = found_header pt e delete a p; found = Some a.header }
 
 -- a search of the headers of an index

@@ -24,10 +24,11 @@ use Rattle.ni_model.specs.declared.Found.{Found}
 use Rattle.ni_model.specs.declared.Arrived.{Arrived}
 use Rattle.ni_model.specs.Tables.{Table, where_set}
 use Rattle.ni_model.specs.Counts.{successes, counted}
-use Rattle.ni_model.specs.Queues.{Waiting, raised}
+use Rattle.ni_model.specs.Queues.{Waiting}
 use Rattle.ni_model.specs.Lists.{Index, index_at, queue_of, offset_in, space_in, fits, unlinked, advanced, with_list}
 use Rattle.ni_model.specs.Headers.{UnexpectedList, no_room, allows}
 use Rattle.ni_model.specs.Events.{message_event, unlink_event, kind_delivered}
+use Rattle.ni_model.specs.Shown.{told_of_entry}
 
 -- ---- choose
 
@@ -162,24 +163,27 @@ headers_after f h hs =
         unexpected = hs.unexpected ++ (record {
           pt = h.pt;
           header = record { entry = f.linked.handle; place = place f.linked h; delivered = delivered f.linked h; header = h };
+          hidden = f.linked.entry.hidden;
         }) ∷ [];
       }
     ]
 
--- ---- 5. events: the message's, in the priority list alone, and then the unlinking's
+-- ---- 5. events, where the entry's options show them: the message's, in the priority list alone, and then the unlinking's
 
 -- the event of a delivery to a priority entry
 abbrev pub delivery_raised : Found → Header → Option Handle → Table Waiting → Table Waiting
 delivery_raised f h eq eqs =
     elim f.list [
-      | Priority ↦ raised eq (message_event (kind_delivered h.kind) h (delivered f.linked h) (place f.linked h)) eqs
+      | Priority ↦ told_of_entry f.linked.entry.hidden eq
+          (message_event (kind_delivered h.kind) h (delivered f.linked h) (place f.linked h)) eqs
       | InOverflow ↦ eqs
     ]
 
 -- and after it that of the unlinking
 abbrev pub events_after : Found → Header → Option Handle → Table Waiting → Table Waiting
 events_after f h eq eqs =
-    if is_over f.linked h then raised eq (unlink_event h.pt f.linked.entry.match_bits) (delivery_raised f h eq eqs)
+    if is_over f.linked h
+    then told_of_entry f.linked.entry.hidden eq (unlink_event h.pt f.linked.entry.match_bits) (delivery_raised f h eq eqs)
     else delivery_raised f h eq eqs
 
 -- ---- the answer: an acknowledgement where a put or an atomic asked for one, else a reply

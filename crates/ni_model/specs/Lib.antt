@@ -4,6 +4,7 @@ pub mod Queues
 pub mod Lists
 pub mod Headers
 pub mod Events
+pub mod Shown
 pub mod Arrive
 pub mod Answers
 pub mod Starts

@@ -22,9 +22,10 @@ use Rattle.ni_model.specs.declared.Bound.{Bound}
 use Rattle.ni_model.specs.Tables.{Table, lookup, changed, where_set}
 use Rattle.ni_model.specs.Counts.{successes, counted}
 use Rattle.ptl_types.specs.Handles.{one_more}
-use Rattle.ni_model.specs.Queues.{raised}
+use Rattle.ni_model.specs.Queues.{Waiting}
 use Rattle.ni_model.specs.Answers.{Home, home, bound_at}
 use Rattle.ni_model.specs.Events.{send_event}
+use Rattle.ni_model.specs.Shown.{told_of_descriptor}
 
 -- ---- headers
 
@@ -136,10 +137,10 @@ abbrev pub send_counter : Option Bound → Option Handle
 send_counter None = None
 send_counter (Some b) = where_set b.md.count_send b.md.ct
 
--- its event queue, if it has one
-abbrev pub send_queue : Option Bound → Option Handle
-send_queue None = None
-send_queue (Some b) = b.md.eq
+-- its event queue, if it has one, gets Send, where the descriptor shows it
+abbrev pub send_told : Option Bound → Header → Table Waiting → Table Waiting
+send_told None h eqs = eqs
+send_told (Some b) h eqs = told_of_descriptor b.md.hidden b.md.eq (send_event h) eqs
 
 -- one answer more is awaited
 abbrev pub one_awaited : Bound → Bound
@@ -157,7 +158,7 @@ sent_from p d h =
     (awaits_more h.home p.mds)
     p.region
     (counted (send_counter (bound_at (counted_on d) p.mds)) (successes 1) p.cts)
-    (raised (send_queue (bound_at (counted_on d) p.mds)) (send_event h) p.eqs)
+    (send_told (bound_at (counted_on d) p.mds) h p.eqs)
 
 -- what is left after a start: the parts, the message, and the counting event that rose
 pub record Started : Type 0 where

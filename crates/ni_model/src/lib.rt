@@ -3,7 +3,9 @@
 //! The few structs here are those that both the definitions and the code speak of.
 #![tactic(auto)]
 
-use ptl_types::{Descriptor, Entry, Handle, List, Message, Outcome, UnexpectedHeader};
+use ptl_types::{
+    Descriptor, Entry, Handle, HiddenEntryEvents, List, Message, Outcome, UnexpectedHeader,
+};
 
 /// A match entry that is linked in one of the two lists of a portal table index.
 #[derive(Clone, Copy, Debug)]
@@ -41,6 +43,8 @@ pub struct IndexedHeader {
     pub pt: u32,
     /// The header, and where its bytes lie.
     pub header: UnexpectedHeader,
+    /// Which events of the overflow entry in which it lies are hidden.
+    pub hidden: HiddenEntryEvents,
 }
 
 /// What became of a request at its target.

@@ -22,16 +22,17 @@ use Rattle.ni_model.specs.declared.Linked.{Linked}
 use Rattle.ni_model.specs.declared.IndexedHeader.{IndexedHeader}
 use Rattle.ni_model.specs.Tables.{Live, Table, change_one, changed, is_live_or_none}
 use Rattle.ni_model.specs.Counts.{successes}
-use Rattle.ni_model.specs.Queues.{Waiting, raised}
+use Rattle.ni_model.specs.Queues.{Waiting}
 use Rattle.ni_model.specs.Lists.{Index, index_at, queue_of}
 use Rattle.ni_model.specs.Headers.{UnexpectedList, allows, no_room, oldest, found_in, left_in, without_oldest}
 use Rattle.ni_model.specs.Events.{message_event, unlink_event, kind_delivered, link_event, header_event, kind_taken, missed_event, is_reply}
+use Rattle.ni_model.specs.Shown.{told_of_descriptor, told_of_entry}
 use Rattle.ni_model.specs.Events.{asks_event, answer_event, send_event}
 use Rattle.ni_model.specs.Arrive.{Parts, Received, received, refused, request, judged, accepted, chosen, is_overflow, is_over, counter_of}
 use Rattle.ni_model.specs.Arrive.{delivered, place, updated_at, updated, headers_after, delivery_raised, events_after}
 use Rattle.ni_model.specs.Answers.{Home, Returned, answered, answered_at, bound_at, came_home, lost_answer, is_due, counter_home}
 use Rattle.ni_model.specs.Answers.{one_answer, awaits_less, one_less, events_home}
-use Rattle.ni_model.specs.Starts.{started, started_by, header_of, awaits_more, one_awaited, send_counter, send_queue, counted_on}
+use Rattle.ni_model.specs.Starts.{started, started_by, header_of, awaits_more, one_awaited, send_counter, send_told, counted_on}
 use Rattle.ni_model.specs.Append.{Appends, append, append_once, linked_as, linked_at, fresh, next_handle, queue_at, take_all}
 use Rattle.ni_model.specs.Append.{overflow_counter, search, searched_at, found_header}
 use Rattle.ni_model.specs.State.{State, parts_of, with_parts, home_of, with_home}
@@ -40,7 +41,8 @@ use Rattle.portals_ni.specs.Lasting.{HasEntries, EntryIsLive, QueueIsLive, Bound
 use Rattle.portals_ni.specs.Sound.{Stands}
 use Rattle.portals_ni.proofs.Parts.{indices-entries, append-entries}
 use Rattle.portals_ni.proofs.Homes.{KeepsMd, keeps-awaited, keeps-less}
-use Rattle.portals_ni.proofs.Steady.{Grows, grows-same, grows-twice, grows-or-none, grows-raised, grows-gone, grows-each_gone, CountsOn}
+use Rattle.portals_ni.proofs.Steady.{Grows, grows-same, grows-twice, grows-or-none, grows-entry, grows-descriptor, grows-gone}
+use Rattle.portals_ni.proofs.Steady.{grows-each_gone, CountsOn}
 use Rattle.portals_ni.proofs.Steady.{counts-same, counts-counted, counts-each, entries-on, queues-on, bounds-on, operations-on}
 
 pub record Leads (s q : State) : Type 0 where
@@ -131,16 +133,18 @@ headers-limit f h hs = elim f.list as (λ l. (headers_after (record f { list = l
 delivery-grows : (f : Found) (h : Header) (eq : Option Handle) (eqs : Table Waiting) → Grows eqs (delivery_raised f h eq eqs)
 delivery-grows f h eq eqs =
     elim f.list as (λ l. Grows eqs (delivery_raised (record f { list = l }) h eq eqs)) [
-      | Priority ↦ grows-raised eq (message_event (kind_delivered h.kind) h (delivered f.linked h) (place f.linked h)) eqs
+      | Priority ↦ grows-entry f.linked.entry.hidden eq
+          (message_event (kind_delivered h.kind) h (delivered f.linked h) (place f.linked h)) eqs
       | Overflow ↦ grows-same eqs
     ]
 
 events-grow : (f : Found) (h : Header) (eq : Option Handle) (eqs : Table Waiting) → Grows eqs (events_after f h eq eqs)
 events-grow f h eq eqs =
     let told : Table Waiting = delivery_raised f h eq eqs in
-    elim (is_over f.linked h) as (λ b. Grows eqs (if b then raised eq (unlink_event h.pt f.linked.entry.match_bits) told else told)) [
-      | true ↦ grows-twice eqs told (raised eq (unlink_event h.pt f.linked.entry.match_bits) told) (delivery-grows f h eq eqs)
-          (grows-raised eq (unlink_event h.pt f.linked.entry.match_bits) told)
+    let gone : Table Waiting = told_of_entry f.linked.entry.hidden eq (unlink_event h.pt f.linked.entry.match_bits) told in
+    elim (is_over f.linked h) as (λ b. Grows eqs (if b then gone else told)) [
+      | true ↦ grows-twice eqs told gone (delivery-grows f h eq eqs)
+          (grows-entry f.linked.entry.hidden eq (unlink_event h.pt f.linked.entry.match_bits) told)
       | false ↦ delivery-grows f h eq eqs
     ]
 
@@ -189,7 +193,7 @@ linked-lead slot pt list e p found live = record {
   indices = length-set p.side.indices pt (linked_at list (fresh (next_handle slot p.side) e) (index_at pt p.side.indices));
   headers = refl;
   counts = counts-same p.cts;
-  queues = grows-raised (queue_at pt p.side) (link_event pt e.match_bits) p.eqs;
+  queues = grows-entry e.hidden (queue_at pt p.side) (link_event pt e.match_bits) p.eqs;
   entries_live = append-entries (EntryIsLive p.cts) pt list (fresh (next_handle slot p.side) e) p.side.indices live;
   indices_live = queue-set (linked_as slot pt list e found p).parts.eqs p.side.indices pt
       (linked_at list (fresh (next_handle slot p.side) e) (index_at pt p.side.indices))
@@ -201,7 +205,7 @@ taken-lead : (slot pt : ℕ) (e : Entry) (p : Parts) (found : List IndexedHeader
 taken-lead slot pt e p found live =
     let q : Parts = take_all pt e p in
     let counts : CountsOn p.cts q.cts = counts-each (overflow_counter e) (found_in pt e p.side.headers.unexpected) p.cts in
-    let gone : Grows p.eqs q.eqs = grows-each_gone p.side (left_in pt e p.side.headers.unexpected)
+    let gone : Grows p.eqs q.eqs = grows-each_gone e.hidden p.side (left_in pt e p.side.headers.unexpected)
     (found_in pt e p.side.headers.unexpected) p.eqs in
     let linked : PartsLead q (linked_as slot pt Priority e found q).parts =
     linked-lead slot pt Priority e q found (grows-or-none e.ct p.cts q.cts counts.grows live) in
@@ -221,7 +225,7 @@ once-lead slot pt e p (Some a) live = record {
   indices = refl;
   headers = refl;
   counts = counts-counted (overflow_counter e) (successes 1) p.cts;
-  queues = grows-gone (kind_taken a.header.header.kind) p.side (without_oldest pt e p.side.headers.unexpected) a p.eqs;
+  queues = grows-gone (kind_taken a.header.header.kind) e.hidden p.side (without_oldest pt e p.side.headers.unexpected) a p.eqs;
   entries_live = λ all. all;
   indices_live = λ all. all;
 }
@@ -247,7 +251,7 @@ found-lead pt e true a p = record {
   indices = refl;
   headers = refl;
   counts = counts-same p.cts;
-  queues = grows-gone Search p.side (without_oldest pt e p.side.headers.unexpected) a p.eqs;
+  queues = grows-gone Search e.hidden p.side (without_oldest pt e p.side.headers.unexpected) a p.eqs;
   entries_live = λ all. all;
   indices_live = λ all. all;
 }
@@ -255,7 +259,7 @@ found-lead pt e false a p = record {
   indices = refl;
   headers = refl;
   counts = counts-same p.cts;
-  queues = grows-raised (queue_at pt p.side) (header_event Search a) p.eqs;
+  queues = grows-entry e.hidden (queue_at pt p.side) (header_event Search a) p.eqs;
   entries_live = λ all. all;
   indices_live = λ all. all;
 }
@@ -266,7 +270,7 @@ searched-lead pt e delete p None = record {
   indices = refl;
   headers = refl;
   counts = counts-same p.cts;
-  queues = grows-raised (queue_at pt p.side) (missed_event pt e.match_bits) p.eqs;
+  queues = grows-entry e.hidden (queue_at pt p.side) (missed_event pt e.match_bits) p.eqs;
   entries_live = λ all. all;
   indices_live = λ all. all;
 }
@@ -334,6 +338,10 @@ less-limit : (h : Option Handle) (mds : Table Bound) → (awaits_less h mds).lim
 less-limit None mds = refl
 less-limit (Some h) mds = refl
 
+send-grows : (b : Option Bound) (h : Header) (eqs : Table Waiting) → Grows eqs (send_told b h eqs)
+send-grows None h eqs = grows-same eqs
+send-grows (Some b) h eqs = grows-descriptor b.md.hidden b.md.eq (send_event h) eqs
+
 by-lead : (p : Home) (d : TriggeredOp) (o : Option Header) → HomeLead p (started_by p d o).home
 by-lead p d None = same-home p
 by-lead p d (Some h) =
@@ -341,7 +349,7 @@ by-lead p d (Some h) =
     record {
       descriptors = more-limit h.home p.mds;
       counts = counts-counted (send_counter (bound_at (counted_on d) p.mds)) (successes 1) p.cts;
-      queues = grows-raised (send_queue (bound_at (counted_on d) p.mds)) (send_event h) p.eqs;
+      queues = send-grows (bound_at (counted_on d) p.mds) h p.eqs;
       bounds_live = more-bounds q.cts q.eqs h.home p.mds;
     }
 
@@ -351,8 +359,9 @@ started-lead rank p d = by-lead p d (header_of rank d)
 
 home-grows : (h : Header) (b : Bound) (eqs : Table Waiting) → Grows eqs (events_home h b eqs)
 home-grows h b eqs =
-    elim (is_reply h.kind || asks_event h.ack) as (λ t. Grows eqs (if t then raised b.md.eq (answer_event b h) eqs else eqs)) [
-      | true ↦ grows-raised b.md.eq (answer_event b h) eqs
+    let told : Table Waiting = told_of_descriptor b.md.hidden b.md.eq (answer_event b h) eqs in
+    elim (is_reply h.kind || asks_event h.ack) as (λ t. Grows eqs (if t then told else eqs)) [
+      | true ↦ grows-descriptor b.md.hidden b.md.eq (answer_event b h) eqs
       | false ↦ grows-same eqs
     ]
 

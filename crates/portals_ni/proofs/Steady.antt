@@ -8,6 +8,8 @@ use Rattle.ptl_types.specs.declared.handles.Handle.{Handle}
 use Rattle.ptl_types.specs.declared.handles.Count.{Count}
 use Rattle.ptl_types.specs.declared.events.Event.{Event}
 use Rattle.ptl_types.specs.declared.events.EventKind.{EventKind}
+use Rattle.ptl_types.specs.declared.entries.HiddenEntryEvents.{HiddenEntryEvents}
+use Rattle.ptl_types.specs.declared.entries.HiddenDescriptorEvents.{HiddenDescriptorEvents}
 use Rattle.ptl_types.specs.declared.calls.TriggeredOp.{TriggeredOp}
 use Rattle.ptl_types.specs.declared.calls.TriggeredOp.TheVariants.{Put, Get, Atomic, FetchAtomic, Swap, Inc, Set}
 use Rattle.ptl_types.specs.Handles.{same_handle, top}
@@ -18,6 +20,7 @@ use Rattle.ni_model.specs.Counts.{total, successes, bump, counted}
 use Rattle.ni_model.specs.Queues.{Waiting, add_event, raised}
 use Rattle.ni_model.specs.Lists.{Index, queue_of}
 use Rattle.ni_model.specs.Events.{header_event, kind_taken, free_event}
+use Rattle.ni_model.specs.Shown.{descriptor_shows, entry_shows, told_of_descriptor, told_of_entry, where_shown}
 use Rattle.ni_model.specs.Arrive.{Side}
 use Rattle.ni_model.specs.Append.{each_counted, gone_raised, each_gone, queue_at, frees}
 use Rattle.ni_model.specs.Refusals.{counts_on_live}
@@ -55,22 +58,31 @@ pub grows-raised : (eq : Option Handle) (e : Event) (t : Table Waiting) → Grow
 grows-raised None e t = grows-same t
 grows-raised (Some h) e t = grows-changed h (add_event e) t
 
-pub grows-gone : (kind : EventKind) (s : Side) (left : List IndexedHeader) (a : IndexedHeader) (t : Table Waiting) →
-    Grows t (gone_raised kind s left a t)
-grows-gone kind s left a t =
-    let told : Table Waiting = raised (queue_at a.pt s) (header_event kind a) t in
-    elim (frees s left a) as (λ b. Grows t (if b then raised (queue_at a.pt s) (free_event a.pt) told else told)) [
-      | true ↦ grows-twice t told (raised (queue_at a.pt s) (free_event a.pt) told)
-          (grows-raised (queue_at a.pt s) (header_event kind a) t) (grows-raised (queue_at a.pt s) (free_event a.pt) told)
-      | false ↦ grows-raised (queue_at a.pt s) (header_event kind a) t
+pub grows-entry : (o : HiddenEntryEvents) (eq : Option Handle) (e : Event) (t : Table Waiting) → Grows t (told_of_entry o eq e t)
+grows-entry o eq e t = grows-raised (where_shown (entry_shows o e) eq) e t
+
+pub grows-descriptor : (o : HiddenDescriptorEvents) (eq : Option Handle) (e : Event) (t : Table Waiting) →
+    Grows t (told_of_descriptor o eq e t)
+grows-descriptor o eq e t = grows-raised (where_shown (descriptor_shows o e) eq) e t
+
+pub grows-gone : (kind : EventKind) (o : HiddenEntryEvents) (s : Side) (left : List IndexedHeader) (a : IndexedHeader)
+    (t : Table Waiting) → Grows t (gone_raised kind o s left a t)
+grows-gone kind o s left a t =
+    let told : Table Waiting = told_of_entry o (queue_at a.pt s) (header_event kind a) t in
+    let freed : Table Waiting = told_of_entry a.hidden (queue_at a.pt s) (free_event a.pt) told in
+    elim (frees s left a) as (λ b. Grows t (if b then freed else told)) [
+      | true ↦ grows-twice t told freed (grows-entry o (queue_at a.pt s) (header_event kind a) t)
+          (grows-entry a.hidden (queue_at a.pt s) (free_event a.pt) told)
+      | false ↦ grows-entry o (queue_at a.pt s) (header_event kind a) t
     ]
 
-pub grows-each_gone : (s : Side) (stay found : List IndexedHeader) (t : Table Waiting) → Grows t (each_gone s stay found t)
-grows-each_gone s stay [] t = grows-same t
-grows-each_gone s stay (a ∷ found) t =
-    let next : Table Waiting = gone_raised (kind_taken a.header.header.kind) s (stay ++ found) a t in
-    grows-twice t next (each_gone s stay found next) (grows-gone (kind_taken a.header.header.kind) s (stay ++ found) a t)
-    (grows-each_gone s stay found next)
+pub grows-each_gone : (o : HiddenEntryEvents) (s : Side) (stay found : List IndexedHeader) (t : Table Waiting) →
+    Grows t (each_gone o s stay found t)
+grows-each_gone o s stay [] t = grows-same t
+grows-each_gone o s stay (a ∷ found) t =
+    let next : Table Waiting = gone_raised (kind_taken a.header.header.kind) o s (stay ++ found) a t in
+    grows-twice t next (each_gone o s stay found next) (grows-gone (kind_taken a.header.header.kind) o s (stay ++ found) a t)
+    (grows-each_gone o s stay found next)
 
 -- ---- counting events
 

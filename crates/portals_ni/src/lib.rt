@@ -25,15 +25,17 @@
 //!     // The target waits at portal table index 0 with an entry over its whole region, for match bits 5 from any rank.
 //!     target.pt_alloc(0, None).expect(&rt, "an index without a queue");
 //!     let entry = Entry {
-//!         start: 0, length: 4, ct: None, match_id: None, match_bits: 5, ignore_bits: 0, min_free: 0, allow_put: true,
-//!         allow_get: false, use_once: false, manage_local: false, no_truncate: false, count_comm: false, count_overflow: false,
+//!         match_bits: 5,
+//!         ..Entry::over(0, 4)
 //!     };
 //!     target.me_append(0, List::Priority, entry).expect(&rt, "its handle");
 //!
 //!     // The initiator binds its whole region, and counts acknowledgements.
 //!     let acknowledged = initiator.ct_alloc().expect(&rt, "a counting event");
 //!     let md = initiator.md_bind(Descriptor {
-//!         start: 0, length: 4, eq: None, ct: Some(acknowledged), count_send: false, count_reply: false, count_ack: true,
+//!         ct: Some(acknowledged),
+//!         count_ack: true,
+//!         ..Descriptor::over(0, 4)
 //!     }).expect(&rt, "a descriptor");
 //!
 //!     // It puts its last two bytes to the start of the entry. The descriptor then awaits one answer.

@@ -14,6 +14,51 @@ pub enum List {
     Overflow,
 }
 
+/// The events of a match entry that its options hide; an event that is hidden is never raised, and what is counted stays
+/// counted (Portals 4.3, options of match list entries, `PTL_ME_EVENT_.._DISABLE`).
+#[derive(Clone, Copy, Debug, PartialEq, Eq)]
+pub struct HiddenEntryEvents {
+    /// Link.
+    pub link: bool,
+    /// AutoUnlink, and the AutoFree of an overflow entry.
+    pub unlink: bool,
+    /// Put, Get, Atomic and FetchAtomic: what a message delivered to the entry tells.
+    pub comm: bool,
+    /// PutOverflow and AtomicOverflow: what the unexpected headers that its append takes tell.
+    pub overflow: bool,
+    /// Each event whose `ok` is true.
+    pub success: bool,
+}
+
+impl HiddenEntryEvents {
+    /// No event is hidden.
+    pub const NONE: HiddenEntryEvents = HiddenEntryEvents {
+        link: false,
+        unlink: false,
+        comm: false,
+        overflow: false,
+        success: false,
+    };
+}
+
+/// The events of a memory descriptor that its options hide, likewise (Portals 4.3, options of memory descriptors,
+/// `PTL_MD_EVENT_.._DISABLE`).
+#[derive(Clone, Copy, Debug, PartialEq, Eq)]
+pub struct HiddenDescriptorEvents {
+    /// Send.
+    pub send: bool,
+    /// Each event whose `ok` is true.
+    pub success: bool,
+}
+
+impl HiddenDescriptorEvents {
+    /// No event is hidden.
+    pub const NONE: HiddenDescriptorEvents = HiddenDescriptorEvents {
+        send: false,
+        success: false,
+    };
+}
+
 /// A match entry: a part of the region, what it matches, and what is done with a message that it matches
 /// (Portals 4.3, match list entries).
 #[derive(Clone, Copy, Debug, PartialEq, Eq)]
@@ -46,10 +91,13 @@ pub struct Entry {
     pub count_comm: bool,
     /// Each unexpected header that its append takes counts one success.
     pub count_overflow: bool,
+    /// Which of its events are hidden.
+    pub hidden: HiddenEntryEvents,
 }
 
 impl Entry {
-    /// An entry over no bytes that stays linked, takes puts and atomics of match bits 0 from any rank, and counts nothing.
+    /// An entry over no bytes that stays linked, takes puts and atomics of match bits 0 from any rank, counts nothing and hides
+    /// no event.
     pub const PLAIN: Entry = Entry {
         start: 0,
         length: 0,
@@ -65,6 +113,7 @@ impl Entry {
         no_truncate: false,
         count_comm: false,
         count_overflow: false,
+        hidden: HiddenEntryEvents::NONE,
     };
 
     /// The plain entry over this part of the region, in bytes.
@@ -97,6 +146,8 @@ pub struct Descriptor {
     pub count_reply: bool,
     /// Each acknowledgement counts one: a failure where its `ok` is false.
     pub count_ack: bool,
+    /// Which of its events are hidden.
+    pub hidden: HiddenDescriptorEvents,
 }
 
 impl Descriptor {
@@ -109,6 +160,7 @@ impl Descriptor {
         count_send: false,
         count_reply: false,
         count_ack: false,
+        hidden: HiddenDescriptorEvents::NONE,
     };
 
     /// The plain descriptor over this part of the region, in bytes.

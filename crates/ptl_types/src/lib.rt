@@ -20,7 +20,9 @@ pub use calls::{
     Appended, Delivered, EqGot, GetArgs, Limits, NiFault, Outcome, PutArgs, TriggeredOp,
 };
 pub use elements::{AtomicOp, ElemType, SwapOp};
-pub use entries::{Descriptor, Entry, List, UnexpectedHeader};
+pub use entries::{
+    Descriptor, Entry, HiddenDescriptorEvents, HiddenEntryEvents, List, UnexpectedHeader,
+};
 pub use events::{Event, EventKind};
 pub use handles::{Count, Handle, NoMemory, Rank};
 pub use headers::{AckRequest, Header, Lane, MessageKind};

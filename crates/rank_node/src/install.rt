@@ -15,8 +15,8 @@ ghost use Rattle.cuts.specs.view.Calls.{whole_region, action_at, with_entry, are
 use crate::kept::NodeHandles;
 use portals_ni::Nic;
 use ptl_types::{
-    Appended, Call, Count, Descriptor, Entry, Handle, List, NoMemory, PlannedOp, PutArgs,
-    TriggeredOp,
+    Appended, Call, Count, Descriptor, Entry, Handle, HiddenDescriptorEvents, HiddenEntryEvents,
+    List, NoMemory, PlannedOp, PutArgs, TriggeredOp,
 };
 
 /// Allocates portal table index 0, without a queue.
@@ -157,6 +157,7 @@ fn region_descriptor(done: Handle, length: u64, remote: bool) -> Descriptor
         count_send: false,
         count_reply: false,
         count_ack: remote,
+        hidden: HiddenDescriptorEvents::NONE,
     }
 }
 
@@ -179,6 +180,7 @@ fn entry_of_area(start: u64, length: u64, match_bits: u64, ignore_bits: u64) -> 
         no_truncate: true,
         count_comm: false,
         count_overflow: false,
+        hidden: HiddenEntryEvents::NONE,
     }
 }
 
@@ -207,6 +209,7 @@ pub fn entry_of_cell(
         no_truncate: true,
         count_comm: true,
         count_overflow: true,
+        hidden: HiddenEntryEvents::NONE,
     }
 }
 

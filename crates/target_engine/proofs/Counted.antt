@@ -149,6 +149,7 @@ counted-unexpected f h hs r u once =
             delivered f.linked h;
         header = h;
       };
+      hidden = f.linked.entry.hidden;
     } in
     elim f.list as (λ l. AreCounted (elim l as (λ _. UnexpectedList)
     [ Priority ↦ hs | Overflow ↦ unexpected_list (hs.unexpected ++ a ∷ []) hs.limit ]).unexpected

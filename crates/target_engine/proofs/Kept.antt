@@ -230,6 +230,7 @@ kept-unexpected most linked f h is t u hs gs s k room seen_as there eg eu =
             delivered f.linked h;
         header = h;
       };
+      hidden = f.linked.entry.hidden;
     } in
     let at : is_linked_at f.list me (index_at h.pt (seen_in is)) ≡ true = rw seen_as there in
     rw (eg, eu)

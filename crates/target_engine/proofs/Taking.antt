@@ -5,6 +5,7 @@ use Rattle.std.proofs.lemmas.List.{get_or-drop, get_or_default}
 use Rattle.std.proofs.lemmas.List.Elements.{filter_more}
 use Rattle.std.proofs.lemmas.List.Filters.{FiltersInPlace, FiltersInPlace-more_no, FiltersInPlace-more_set}
 use Rattle.ptl_types.specs.declared.entries.Entry.{Entry}
+use Rattle.ptl_types.specs.declared.entries.HiddenEntryEvents.{HiddenEntryEvents}
 use Rattle.ni_model.specs.declared.IndexedHeader.{IndexedHeader}
 use Rattle.ni_model.specs.Tables.{Table}
 use Rattle.ni_model.specs.Queues.{Waiting}
@@ -21,12 +22,13 @@ use Rattle.target_engine.proofs.Recorded.{HasOneOf, recorded-fewer, recorded-fre
 pub one-between : (left found : List IndexedHeader) (x : IndexedHeader) → HasOneOf x (left ++ x ∷ found) (left ++ found)
 one-between left found x = λ p. omega (arith, unexpected-append p left (x ∷ found), unexpected-append p left found)
 
-pub taken-told : (is : List (Option Index)) (left found : List IndexedHeader) (x : IndexedHeader) (t : Table EntryRecord)
-    (eqs : Table Waiting) → AreRecorded is (left ++ x ∷ found) t → each_gone (side 0 0 is 0 (unexpected_list [] 0)) left found
-    (gone_events (kind_taken x.header.header.kind) is (frees_at is t x) x eqs) ≡ each_gone (side 0 0 is 0 (unexpected_list [] 0)) left
-    (x ∷ found) eqs
-taken-told is left found x t eqs a =
-    ap (λ b. each_gone (side 0 0 is 0 (unexpected_list [] 0)) left found (gone_events (kind_taken x.header.header.kind) is b x eqs))
+pub taken-told : (o : HiddenEntryEvents) (is : List (Option Index)) (left found : List IndexedHeader) (x : IndexedHeader)
+    (t : Table EntryRecord) (eqs : Table Waiting) → AreRecorded is (left ++ x ∷ found) t
+    → each_gone o (side 0 0 is 0 (unexpected_list [] 0)) left found
+    (gone_events (kind_taken x.header.header.kind) o is (frees_at is t x) x eqs)
+    ≡ each_gone o (side 0 0 is 0 (unexpected_list [] 0)) left (x ∷ found) eqs
+taken-told o is left found x t eqs a =
+    ap (λ b. each_gone o (side 0 0 is 0 (unexpected_list [] 0)) left found (gone_events (kind_taken x.header.header.kind) o is b x eqs))
     (recorded-frees x is (left ++ x ∷ found) (left ++ found) t a (one-between left found x))
 
 pub taken-recorded : (is : List (Option Index)) (left found : List IndexedHeader) (x : IndexedHeader) (t : Table EntryRecord) →

@@ -4,7 +4,7 @@ ghost use Rattle.std.specs.Prelude.{◌≡◌, ◌+◌, ◌<◌, ◌||◌, ℕ, 
 ghost use Rattle.ptl_types.specs.Handles.{top};
 ghost use Rattle.ni_model.specs.Headers.{found_in, left_in};
 ghost use Rattle.ni_model.specs.Arrive.{parts};
-ghost use Rattle.ni_model.specs.Queues.{raised};
+ghost use Rattle.ni_model.specs.Shown.{told_of_entry};
 ghost use Rattle.ni_model.specs.Events.{link_event};
 ghost use Rattle.ni_model.specs.Calls.{entry_slot};
 ghost use Rattle.ni_model.specs.Append.{append_fault, is_allocated, linked_count, next_handle, link_side, queue_at, overflow_counter};
@@ -18,7 +18,7 @@ use crate::index::{link_at, queue_at};
 use crate::takes::{overflow_counter, take_found, take_header};
 use crate::target::Target;
 use ni_objects::counters::Counter;
-use ni_objects::delivery::raise;
+use ni_objects::delivery::tell_of_entry;
 use ni_objects::descriptors::Region;
 use ni_objects::handles::{Store, is_live_or_none};
 use ni_objects::queues::Queue;
@@ -43,7 +43,7 @@ impl Target {
         self.linked >= self.limit || self.records.by_entry.is_full()
     }
 
-    /// Links an entry at the end of a list, and tells so.
+    /// Links an entry at the end of a list, and tells so where the entry shows it.
     fn link(&mut self, eqs: &mut Store<Queue>, pt: u32, list: Place, entry: Entry) -> Handle
         requires index { is_allocated pt self.old ≡ true }
         requires room { (nat_le self.old.limit (linked_count self.old) || nat_le top self.old.given) ≡ false }
@@ -51,7 +51,7 @@ impl Target {
         ensures free { entry_slot self.old.indices result.slot ≡ false }
         ensures below { result.slot < self.old.limit + self.old.headers.limit }
         ensures linked { self.new ≡ link_side result.slot pt list entry self.old }
-        ensures events { eqs.new ≡ raised (queue_at pt self.old) (link_event pt entry.match_bits) eqs.old }
+        ensures events { eqs.new ≡ told_of_entry entry.hidden (queue_at pt self.old) (link_event pt entry.match_bits) eqs.old }
     {
         let record = EntryRecord {
             pt,
@@ -67,8 +67,9 @@ impl Target {
         self.records.cts.add(entry.ct);
         link_at(&mut self.indices, pt, list, me, entry);
         let eq = queue_at(&self.indices, pt);
-        raise(
+        tell_of_entry(
             eqs,
+            &entry.hidden,
             eq,
             entry_event(EventKind::Link, pt, entry.match_bits, true),
         );
@@ -85,7 +86,7 @@ impl Target {
         ensures left { self.new ≡ with_unexpected (left_in args.now.pt args.now.entry self.old.headers.unexpected) self.old }
         ensures counts { cts.new ≡ each_counted (overflow_counter args.now.entry)
             (found_in args.now.pt args.now.entry self.old.headers.unexpected) cts.old }
-        ensures events { eqs.new ≡ each_gone self.old (left_in args.now.pt args.now.entry self.old.headers.unexpected)
+        ensures events { eqs.new ≡ each_gone args.now.entry.hidden self.old (left_in args.now.pt args.now.entry self.old.headers.unexpected)
             (found_in args.now.pt args.now.entry self.old.headers.unexpected) eqs.old }
         ensures counted { result ≡ counted_by args.now.entry (found_in args.now.pt args.now.entry self.old.headers.unexpected) }
     {

@@ -17,7 +17,7 @@ use crate::events::entry_event;
 use crate::gone::{frees, header_event, raise_gone};
 use crate::index::{Index, allocate_at, free_at, portal_entry_at, queue_at};
 use crate::target::Target;
-use ni_objects::delivery::raise;
+use ni_objects::delivery::tell_of_entry;
 use ni_objects::handles::{Store, is_live_or_none};
 use ni_objects::queues::Queue;
 use ptl_types::{Entry, Event, EventKind, Handle, NiFault, UnexpectedHeader};
@@ -128,11 +128,12 @@ impl Target {
         let unexpected = match self.headers.search(pt, entry) {
             Some(unexpected) => unexpected,
             None => {
-                raise(eqs, eq, missed_event(pt, entry));
+                tell_of_entry(eqs, &entry.hidden, eq, missed_event(pt, entry));
                 return Ok(None);
             }
         };
-        raise(eqs, eq, header_event(EventKind::Search, &unexpected));
+        let event = header_event(EventKind::Search, &unexpected);
+        tell_of_entry(eqs, &entry.hidden, eq, event);
         Ok(Some(unexpected.header))
     }
 
@@ -151,12 +152,19 @@ impl Target {
         let unexpected = match self.headers.take_oldest(pt, entry) {
             Some(unexpected) => unexpected,
             None => {
-                raise(eqs, eq, missed_event(pt, entry));
+                tell_of_entry(eqs, &entry.hidden, eq, missed_event(pt, entry));
                 return None;
             }
         };
         let freed = frees(&self.indices, &mut self.records, &unexpected);
-        raise_gone(&self.indices, eqs, EventKind::Search, &unexpected, freed);
+        raise_gone(
+            &self.indices,
+            eqs,
+            EventKind::Search,
+            &entry.hidden,
+            &unexpected,
+            freed,
+        );
         Some(unexpected.header)
     }
 }

@@ -6,7 +6,7 @@ ghost use Rattle.ni_model.specs.Arrive.{delivery_raised, events_after};
 
 use crate::measures::{delivered, first_byte, is_over};
 use ni_model::Found;
-use ni_objects::delivery::raise;
+use ni_objects::delivery::tell_of_entry;
 use ni_objects::handles::Store;
 use ni_objects::queues::Queue;
 use ptl_types::{Event, EventKind, Handle, Header, List, MessageKind};
@@ -57,7 +57,7 @@ pub fn entry_event(kind: EventKind, pt: u32, match_bits: u64, ok: bool) -> Event
     }
 }
 
-/// The message's event, where it went to the priority list.
+/// The message's event, where it went to the priority list and the entry shows it.
 fn raise_delivery(eqs: &mut Store<Queue>, eq: Option<Handle>, found: &Found, header: &Header)
     requires { found.now.linked.entry.start + found.now.linked.entry.length < 2 ^ 64 }
     ensures { eqs.new ≡ delivery_raised found.now header.now eq eqs.old }
@@ -65,15 +65,16 @@ fn raise_delivery(eqs: &mut Store<Queue>, eq: Option<Handle>, found: &Found, hea
     if let List::Priority = found.list {
         let count = delivered(&found.linked, header);
         let at = first_byte(&found.linked, header);
-        raise(
+        tell_of_entry(
             eqs,
+            &found.linked.entry.hidden,
             eq,
             message_event(kind_delivered(header.kind), header, count, at),
         );
     }
 }
 
-/// The message's event, in the priority list alone, and then the unlinking's.
+/// The message's event, in the priority list alone, and then the unlinking's, each where the entry shows it.
 pub fn raise_events(eqs: &mut Store<Queue>, eq: Option<Handle>, found: &Found, header: &Header)
     requires { found.now.linked.entry.start + found.now.linked.entry.length < 2 ^ 64 }
     ensures { eqs.new ≡ events_after found.now header.now eq eqs.old }
@@ -81,8 +82,9 @@ pub fn raise_events(eqs: &mut Store<Queue>, eq: Option<Handle>, found: &Found, h
     raise_delivery(eqs, eq, found, header);
     if is_over(&found.linked, header) {
         let bits = found.linked.entry.match_bits;
-        raise(
+        tell_of_entry(
             eqs,
+            &found.linked.entry.hidden,
             eq,
             entry_event(EventKind::AutoUnlink, header.pt, bits, true),
         );

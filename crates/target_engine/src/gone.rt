@@ -10,10 +10,10 @@ use crate::entry_records::{Records, drop_header, headers_of};
 use crate::events::{entry_event, message_event};
 use crate::index::{Index, portal_entry_at, queue_at};
 use ni_model::IndexedHeader;
-use ni_objects::delivery::raise;
+use ni_objects::delivery::tell_of_entry;
 use ni_objects::handles::Store;
 use ni_objects::queues::Queue;
-use ptl_types::{Event, EventKind, Handle, List as Place, MessageKind};
+use ptl_types::{Event, EventKind, Handle, HiddenEntryEvents, List as Place, MessageKind};
 
 /// Whether the overflow list of this index holds the entry.
 pub fn is_in_overflow(indices: &[Index], pt: u32, entry: Handle) -> bool
@@ -56,19 +56,22 @@ pub fn frees(indices: &[Index], records: &mut Records, gone: &IndexedHeader) -> 
     last && !is_in_overflow(indices, gone.pt, entry)
 }
 
-/// The event of a header that went, and directly after it the freeing of its entry, where it is free.
+/// The event of a header that went, where the entry that found it shows it, and directly after it the freeing of the entry in
+/// which it lay, where that is free and shows it.
 pub fn raise_gone(
     indices: &[Index],
     eqs: &mut Store<Queue>,
     kind: EventKind,
+    hidden: &HiddenEntryEvents,
     gone: &IndexedHeader,
     freed: bool,
 )
-    ensures { eqs.new ≡ gone_events kind (seen_in indices.now) freed gone.now eqs.old }
+    ensures { eqs.new ≡ gone_events kind hidden.now (seen_in indices.now) freed gone.now eqs.old }
 {
     let eq = queue_at(indices, gone.pt);
-    raise(eqs, eq, header_event(kind, gone));
+    tell_of_entry(eqs, hidden, eq, header_event(kind, gone));
     if freed {
-        raise(eqs, eq, entry_event(EventKind::AutoFree, gone.pt, 0, true));
+        let free = entry_event(EventKind::AutoFree, gone.pt, 0, true);
+        tell_of_entry(eqs, &gone.hidden, eq, free);
     }
 }

@@ -38,7 +38,7 @@ pub fn take_header(
 )
     ensures counts { cts.new ≡ counted (overflow_counter entry.now) (successes 1) cts.old }
     ensures gone { records.new ≡ without_header gone.now records.old }
-    ensures events { eqs.new ≡ gone_events (kind_taken gone.now.header.header.kind) (seen_in indices.now)
+    ensures events { eqs.new ≡ gone_events (kind_taken gone.now.header.header.kind) entry.now.hidden (seen_in indices.now)
         (frees_at (seen_in indices.now) records.old.by_entry gone.now) gone.now eqs.old }
 {
     count(cts, overflow_counter(entry), successes(1));
@@ -47,6 +47,7 @@ pub fn take_header(
         indices,
         eqs,
         kind_taken(gone.header.header.kind),
+        &entry.hidden,
         gone,
         freed,
     );
@@ -72,7 +73,7 @@ pub fn take_found(
     ensures left { headers.new ≡ unexpected_list (left_in args.now.pt args.now.entry headers.old.unexpected) headers.old.limit }
     ensures counts { cts.new ≡ each_counted (overflow_counter args.now.entry) (found_in args.now.pt args.now.entry headers.old.unexpected)
         cts.old }
-    ensures events { eqs.new ≡ each_gone (side 0 0 (seen_in indices.now) 0 (unexpected_list [] 0))
+    ensures events { eqs.new ≡ each_gone args.now.entry.hidden (side 0 0 (seen_in indices.now) 0 (unexpected_list [] 0))
         (left_in args.now.pt args.now.entry headers.old.unexpected) (found_in args.now.pt args.now.entry headers.old.unexpected) eqs.old }
     ensures counted { result ≡ counted_by args.now.entry (found_in args.now.pt args.now.entry headers.old.unexpected) }
 {

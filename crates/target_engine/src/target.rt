@@ -50,15 +50,16 @@ fn note_header(headers: &mut Headers, records: &mut Records, found: &Found, head
     ensures records { records.new ≡ all_with_header found.now header.now records.old }
 {
     if let List::Overflow = found.list {
-        headers.add(
-            header.pt,
-            UnexpectedHeader {
+        headers.add(IndexedHeader {
+            pt: header.pt,
+            header: UnexpectedHeader {
                 entry: found.linked.handle,
                 place: first_byte(&found.linked, header),
                 delivered: delivered(&found.linked, header),
                 header: *header,
             },
-        );
+            hidden: found.linked.entry.hidden,
+        });
         add_header(&mut records.by_entry, found.linked.handle);
         records.waiting.raise(header.pt);
     }

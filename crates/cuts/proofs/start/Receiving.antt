@@ -17,6 +17,7 @@ use Rattle.ni_model.specs.declared.Found.{Found}
 use Rattle.ptl_types.specs.Matching.{bits_match}
 use Rattle.ptl_types.specs.declared.calls.Outcome.TheVariants.{Dropped, Overflow, Violation}
 use Rattle.ptl_types.specs.declared.entries.List.TheVariants.{Overflow as InOverflow}
+use Rattle.ptl_types.specs.declared.entries.TheConstants.HiddenEntryEvents as hidden_entry_events
 use Rattle.ptl_types.specs.declared.headers.AckRequest.TheVariants.{CtAck}
 use Rattle.cuts.proofs.view.StepArrive.{ack_as, writes-for, ack-as, atomic-whole, delivered-pair, header_as, is_put, not_answer, part-place}
 use Rattle.cuts.proofs.view.StepArrive.{whole-by, written-place}
@@ -262,6 +263,7 @@ module _ (p : Plan) (inputs : Inputs) (sound : SoundPlan p (length inputs)) (s :
             header =
                 link_header p k l;
           };
+          hidden = hidden_entry_events.NONE;
         }) ∷ []) (length (links_to p r))) (delivered-area k)
         ∙ ap (λ v. unexpected_list v (length (links_to p r)))
         (sym (map-append (arrived_of p) (early_all p s r senders early) (early_of p s r senders early (came l bs) ∷ []))

@@ -38,6 +38,7 @@ use Rattle.ni_model.specs.Refusals.{ct_inc_fault, inc_passes}
 use Rattle.ni_model.specs.State.{State, parts_of, side_of, with_parts}
 use Rattle.ptl_types.specs.declared.calls.NiFault.TheVariants.{CountFull, NoSpace, OutOfRegion, Stale}
 use Rattle.ptl_types.specs.declared.entries.List.TheVariants.{Priority}
+use Rattle.ptl_types.specs.declared.entries.TheConstants.HiddenEntryEvents as hidden_entry_events
 use Rattle.ptl_types.specs.declared.handles.Handle.{Handle}
 use Rattle.ptl_types.specs.Handles.{same_handle, top}
 use Rattle.cuts.proofs.view.Installed.{placed_step, map-same, placed, placed-own, placed-shift, sum_step}
@@ -352,7 +353,7 @@ module _ (starts : CombineStarts) (annex : Annex) (p : Plan) (inputs : Inputs) (
     -- the headers go, and no queue hears of it
     none-gone : (rank limit given : ℕ) (es : List Linked) (hs : UnexpectedList) (stay : List IndexedHeader) (xs : List Early)
         (eqs : Table Waiting)
-        → each_gone (record {
+        → each_gone hidden_entry_events.NONE (record {
           rank = rank;
           limit = limit;
           indices = Some (record { eq = None; priority = es; overflow = annex.before })
@@ -362,7 +363,7 @@ module _ (starts : CombineStarts) (annex : Annex) (p : Plan) (inputs : Inputs) (
         }) stay (map (arrived_of p) xs) eqs ≡ eqs
     none-gone rank limit given es hs stay [] eqs = refl
     none-gone rank limit given es hs stay (x ∷ xs) eqs =
-        ap (each_gone (record {
+        ap (each_gone hidden_entry_events.NONE (record {
           rank = rank;
           limit = limit;
           indices = Some (record { eq = None; priority = es; overflow = annex.before })
@@ -487,7 +488,7 @@ module _ (starts : CombineStarts) (annex : Annex) (p : Plan) (inputs : Inputs) (
               ∙ ap₂ (λ t u. record (filled_by g u (es ++ cell_linked n c ∷ []) (n + 1)
               (view annex p inputs s r (took g (map early_came (here_of c xs)))).memory) {
                 cts = each_counted (Some (cell_ct p s c)) t (view annex p inputs s r g).cts;
-                eqs = each_gone (side_of (filled_by g (map (arrived_of p) xs) es n
+                eqs = each_gone hidden_entry_events.NONE (side_of (filled_by g (map (arrived_of p) xs) es n
                     (view annex p inputs s r (took g (map early_came (here_of c xs)))).memory)) u t (view annex p inputs s r g).eqs;
               }) found (left-is c i xs facts)
               ∙ ap₂ (λ k q. record (filled_by g (map (arrived_of p) (left_of c xs)) (es ++ cell_linked n c ∷ []) (n + 1)

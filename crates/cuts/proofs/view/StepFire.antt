@@ -17,11 +17,9 @@ use Rattle.ni_model.specs.State.{Posted, State}
 use Rattle.ni_model.specs.Tables.{Live, change, lookup, Table}
 use Rattle.ni_model.specs.declared.Bound.{Bound}
 use Rattle.ni_model.specs.Counts.{bump, successes, counted}
-use Rattle.ni_model.specs.Queues.{raised}
-use Rattle.ni_model.specs.Starts.{started, put_header, send_counter, send_queue, one_awaited, awaits_more, bytes_at}
+use Rattle.ni_model.specs.Starts.{started, put_header, send_counter, send_told, one_awaited, awaits_more, bytes_at}
 use Rattle.ni_model.specs.Ready.{Fires, fires, fired, fired_op, is_ready, is_ready_op, is_reached, is_number, posted_at, without_number}
 use Rattle.ni_model.specs.Ready.{done}
-use Rattle.ni_model.specs.Events.{send_event}
 use Rattle.ptl_types.specs.declared.headers.Header.{Header}
 use Rattle.plan_core.specs.declared.LinkKind.TheVariants.{Atomic, Bump, Put}
 use Rattle.plan_core.specs.declared.LinkKind.{LinkKind}
@@ -262,8 +260,7 @@ module _ (annex : Annex) where
   abbrev pub sent_state : State → Option Bound → Header → Table Bound → State
   sent_state v b h mds = record v {
     cts = counted (send_counter b) (successes 1) v.cts;
-    eqs =
-        raised (send_queue b) (send_event h) v.eqs;
+    eqs = send_told b h v.eqs;
     mds = mds;
   }
 

@@ -4,6 +4,7 @@ use Rattle.std.specs.Prelude.{filter, flat_map, sum_by}
 use Rattle.ptl_types.specs.declared.handles.Handle.{Handle}
 use Rattle.ptl_types.specs.declared.elements.AtomicOp.{AtomicOp}
 use Rattle.ptl_types.specs.declared.elements.ElemType.{ElemType}
+use Rattle.ptl_types.specs.declared.entries.TheConstants.HiddenEntryEvents as hidden_entry_events
 use Rattle.ptl_types.specs.Elements.{combined, starting}
 use Rattle.ni_model.specs.declared.Linked.{Linked}
 use Rattle.ni_model.specs.declared.IndexedHeader.{IndexedHeader}
@@ -28,11 +29,12 @@ pub record Early : Type 0 where
   pub entry : Handle
   pub place : ℕ
 
--- its header
+-- its header; the area hides no event
 abbrev pub arrived_of : Plan → Early → IndexedHeader
 arrived_of p x = record {
   pt = 0;
   header = record { entry = x.entry; place = x.place; delivered = (link p x.came.link).length; header = link_header p x.slots x.came.link };
+  hidden = hidden_entry_events.NONE;
 }
 
 -- what lies in the area: an atomic came upon starting values

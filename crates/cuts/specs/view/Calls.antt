@@ -7,6 +7,8 @@ use Rattle.ptl_types.specs.declared.elements.ElemType.{ElemType}
 use Rattle.ptl_types.specs.declared.headers.AckRequest.{AckRequest}
 use Rattle.ptl_types.specs.declared.entries.Entry.{Entry}
 use Rattle.ptl_types.specs.declared.entries.Descriptor.{Descriptor}
+use Rattle.ptl_types.specs.declared.entries.TheConstants.HiddenEntryEvents as hidden_entry_events
+use Rattle.ptl_types.specs.declared.entries.TheConstants.HiddenDescriptorEvents as hidden_descriptor_events
 use Rattle.ptl_types.specs.declared.entries.List.{List as EntryList}
 use Rattle.ptl_types.specs.declared.entries.List.TheVariants.{Priority, Overflow as InOverflow}
 use Rattle.ptl_types.specs.declared.calls.NiFault.{NiFault}
@@ -49,6 +51,7 @@ cell_entry ct start n bits ignored = record {
   no_truncate = true;
   count_comm = true;
   count_overflow = true;
+  hidden = hidden_entry_events.NONE;
 }
 
 -- the entry of an area: messages lie there one after the other, and nothing is counted
@@ -68,6 +71,7 @@ area_entry start n bits ignored = record {
   no_truncate = true;
   count_comm = false;
   count_overflow = false;
+  hidden = hidden_entry_events.NONE;
 }
 
 -- the whole region; where completion waits for acknowledgements it counts them on the done counter
@@ -80,6 +84,7 @@ whole_region done n remote = record {
   count_send = false;
   count_reply = false;
   count_ack = remote;
+  hidden = hidden_descriptor_events.NONE;
 }
 
 -- the arguments of what is sent

@@ -1,11 +1,11 @@
-//! A count and an event reach what is named, and nothing where none is.
+//! A count and an event reach what is named, an event where options show it, and nothing where none is.
 
 use crate::answers::gives;
 use ni_objects::counters::Counter;
-use ni_objects::delivery::{count, raise, successes};
+use ni_objects::delivery::{count, successes, tell_of_descriptor, tell_of_entry};
 use ni_objects::handles::{Store, is_live_or_none, names, where_set};
 use ni_objects::queues::Queue;
-use ptl_types::{EqGot, Event, EventKind, Handle};
+use ptl_types::{EqGot, Event, EventKind, Handle, HiddenDescriptorEvents, HiddenEntryEvents};
 use std::test::Fail;
 
 const EVENT: Event = Event {
@@ -18,6 +18,16 @@ const EVENT: Event = Event {
     delivered: 1,
     place: 0,
     ok: true,
+};
+
+const HIDES_COMM: HiddenEntryEvents = HiddenEntryEvents {
+    comm: true,
+    ..HiddenEntryEvents::NONE
+};
+
+const HIDES_SUCCESS: HiddenDescriptorEvents = HiddenDescriptorEvents {
+    success: true,
+    ..HiddenDescriptorEvents::NONE
 };
 
 const FIRST: Handle = Handle { slot: 0, stamp: 0 };
@@ -41,8 +51,10 @@ fn what_is_named_is_told(rt: HostRuntime) -> Result<(), Fail> {
     let mut eqs = Store::open(alloc, 1)?;
     let queue = Queue::open(alloc, 2)?;
     assert!(rt; eqs.insert(queue).is_ok());
-    raise(&mut eqs, Some(FIRST), EVENT);
-    raise(&mut eqs, None, EVENT);
+    tell_of_entry(&mut eqs, &HiddenEntryEvents::NONE, Some(FIRST), EVENT);
+    tell_of_entry(&mut eqs, &HiddenEntryEvents::NONE, None, EVENT);
+    tell_of_entry(&mut eqs, &HIDES_COMM, Some(FIRST), EVENT);
+    tell_of_descriptor(&mut eqs, &HIDES_SUCCESS, Some(FIRST), EVENT);
     if let Some(queue) = eqs.get_mut(FIRST) {
         gives!(rt; queue.take(), EqGot::Got(EVENT));
         gives!(rt; queue.take(), EqGot::Empty);

@@ -2,32 +2,40 @@
 
 use crate::answers::gives;
 use match_lists::unexpected::Headers;
-use ptl_types::{AckRequest, ElemType, Entry, Handle, Header, MessageKind, UnexpectedHeader};
+use ni_model::IndexedHeader;
+use ptl_types::{
+    AckRequest, ElemType, Entry, Handle, Header, HiddenEntryEvents, MessageKind, UnexpectedHeader,
+};
 use std::test::Fail;
 
-fn put(match_bits: u64, place: u64) -> UnexpectedHeader {
-    UnexpectedHeader {
-        entry: Handle { slot: 0, stamp: 0 },
-        place,
-        delivered: 1,
-        header: Header {
-            kind: MessageKind::Put,
-            source: 1,
-            target: 0,
-            pt: 1,
-            match_bits,
-            offset: 0,
-            length: 1,
-            hdr_data: 0,
-            op: None,
-            swap: None,
-            ty: ElemType::U8,
-            operand: 0,
-            ack: AckRequest::NoAck,
-            home: None,
-            home_offset: 0,
-            ok: true,
+fn put(match_bits: u64, place: u64) -> IndexedHeader {
+    let header = Header {
+        kind: MessageKind::Put,
+        source: 1,
+        target: 0,
+        pt: 1,
+        match_bits,
+        offset: 0,
+        length: 1,
+        hdr_data: 0,
+        op: None,
+        swap: None,
+        ty: ElemType::U8,
+        operand: 0,
+        ack: AckRequest::NoAck,
+        home: None,
+        home_offset: 0,
+        ok: true,
+    };
+    IndexedHeader {
+        pt: 1,
+        header: UnexpectedHeader {
+            entry: Handle { slot: 0, stamp: 0 },
+            place,
+            delivered: 1,
+            header,
         },
+        hidden: HiddenEntryEvents::NONE,
     }
 }
 
@@ -47,6 +55,7 @@ fn entry(match_bits: u64) -> Entry {
         no_truncate: false,
         count_comm: false,
         count_overflow: false,
+        hidden: HiddenEntryEvents::NONE,
     }
 }
 
@@ -56,7 +65,7 @@ fn the_oldest_that_matches_is_taken(rt: HostRuntime) -> Result<(), Fail> {
     gives!(rt; headers.at(1, 0).is_none(), true);
     for place in 0..2 {
         if !headers.is_full() {
-            headers.add(1, put(5, place));
+            headers.add(put(5, place));
         }
     }
     gives!(rt; headers.is_full(), true);
@@ -77,7 +86,7 @@ fn a_header_is_put_over_another_and_the_youngest_go(rt: HostRuntime) -> Result<(
     let me = Handle { slot: 0, stamp: 0 };
     for (match_bits, place) in [(6, 0), (5, 1)] {
         if !headers.is_full() {
-            headers.add(1, put(match_bits, place));
+            headers.add(put(match_bits, place));
         }
     }
     assert_eq!(rt; headers.as_slice().len(), 2);
@@ -94,10 +103,10 @@ fn a_header_is_put_over_another_and_the_youngest_go(rt: HostRuntime) -> Result<(
 #[test]
 fn one_after_the_other_is_taken_where_one_has_room(rt: HostRuntime) -> Result<(), Fail> {
     let mut headers = Headers::open(rt.alloc(), 2)?;
-    headers.add(1, put(7, 100));
+    headers.add(put(7, 100));
     for place in 0..20 {
         if !headers.is_full() {
-            headers.add(1, put(5, place));
+            headers.add(put(5, place));
             gives!(rt; headers.is_full(), true);
             let taken = headers
                 .take_oldest(1, &entry(5))

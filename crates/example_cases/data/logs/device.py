@@ -1,5 +1,5 @@
 #!/usr/bin/env python3
-"""A device in Python, written from docs/PROFILE.md alone, and 31 that break one rule each.
+"""A device in Python, written from docs/PROFILE.md alone, and 35 that break one rule each.
 
     device.py [RULE] < LOG                 makes the calls of a log, and prints them with its own answers; the log gives names alone
     device.py --judge PORTALS_LOG          the device and each broken one make the calls of each log beside this file; portals_log judges
@@ -18,15 +18,18 @@ HEADER = "kind source target pt bits offset length data op swap type operand ack
 FETCHING = ("fetch_atomic", "swap")
 ATOMIC = ("atomic", *FETCHING)
 STARTS = ("put", "get", *ATOMIC)
+HIDES = {"hide_link": ("link",), "hide_unlink": ("auto_unlink", "auto_free"), "hide_comm": ("put", "get", "atomic", "fetch_atomic"),
+         "hide_overflow": ("put_overflow", "atomic_overflow"), "hide_send": ("send",)}
 RULES = """
 a_conditional_swap_never_swaps a_dropped_message_moves_the_offset a_full_queue_loses_the_oldest a_full_table_comes_before_a_stale_handle
 a_handle_comes_back a_local_entry_takes_the_offset_of_the_message a_loss_is_never_told a_use_once_entry_stays a_violation_unlinks
 an_answer_has_the_length_that_was_asked an_answer_has_the_offset_of_the_message an_append_takes_the_youngest_header
-auto_free_comes_early cancels_one_operation delivers_beyond_the_end each_start_counts failures_are_counted_first
-gets_search_the_overflow_list headers_have_no_limit min_free_is_not_looked_at overflow_deliveries_raise_events
-ready_one_below_the_threshold releases_what_awaits_an_answer the_last_entry_is_the_first the_overflow_list_is_first
-the_sending_half_awaits_the_reply the_signed_least_is_the_unsigned thresholds_count_successes_alone truncates_where_it_is_forbidden
-unlinks_at_min_free writes_parts_of_elements
+auto_free_comes_early auto_free_goes_by_the_taker cancels_one_operation delivers_beyond_the_end each_start_counts
+failures_are_counted_first failures_are_hidden_as_successes gets_search_the_overflow_list headers_have_no_limit
+hidden_events_are_lost min_free_is_not_looked_at overflow_deliveries_raise_events ready_one_below_the_threshold
+releases_what_awaits_an_answer the_last_entry_is_the_first the_overflow_list_is_first the_sending_half_awaits_the_reply
+the_signed_least_is_the_unsigned thresholds_count_successes_alone truncates_where_it_is_forbidden unlinks_at_min_free
+what_is_hidden_is_not_counted writes_parts_of_elements
 """.split()
 
 
@@ -106,10 +109,22 @@ class Interface:
         failures = min(failures, room - successes)
         ct.count = [ct.count[0] + successes, ct.count[1] + failures]
 
-    def raised(self, queue, kind, **fields):
+    def hides(self, holder, kind, ok=1):
+        """Whether an option of this entry or descriptor hides an event."""
+        named = any(flag in holder.flags and kind in kinds for flag, kinds in HIDES.items())
+        return named or "hide_success" in holder.flags and bool(ok or self.breaks("failures_are_hidden_as_successes"))
+
+    def counts(self, holder, flag, kind, ok=1):
+        """Whether what is told by this event is counted."""
+        return holder.ct and flag in holder.flags and not (self.breaks("what_is_hidden_is_not_counted") and self.hides(holder, kind, ok))
+
+    def raised(self, holder, queue, kind, **fields):
         if queue is None:
             return
         event = {"kind": kind, **dict.fromkeys(EVENT, 0), "ok": 1, **fields}
+        if self.hides(holder, kind, event["ok"]):
+            queue.lost = queue.lost or self.breaks("hidden_events_are_lost") and len(queue.events) == queue.room
+            return
         if len(queue.events) < queue.room:
             queue.events.append(event)
             return
@@ -151,9 +166,9 @@ class Interface:
     def unlink(self, index, name, entry):
         index.lists[name].remove(entry)
         entry.linked = False
-        self.raised(index.queue, "auto_unlink", pt=index.number, bits=entry.bits)
+        self.raised(entry, index.queue, "auto_unlink", pt=index.number, bits=entry.bits)
         if name == "overflow" and self.breaks("auto_free_comes_early"):
-            self.raised(index.queue, "auto_free", pt=index.number)
+            self.raised(entry, index.queue, "auto_free", pt=index.number)
 
     def told(self, header):
         """What events tell of an unexpected header."""
@@ -165,11 +180,12 @@ class Interface:
         return [header for header in self.headers if header.message.pt == number and self.fits_bits(entry, header.message)
                 and self.allows(entry, header.message.kind)]
 
-    def forget(self, index, header):
+    def forget(self, index, header, taker):
         self.headers.remove(header)
+        holder = taker if self.breaks("auto_free_goes_by_the_taker") else header.entry
         left = [other for other in self.headers if other.entry is header.entry]
         if not header.entry.linked and not left and not self.breaks("auto_free_comes_early"):
-            self.raised(index.queue, "auto_free", pt=index.number)
+            self.raised(holder, index.queue, "auto_free", pt=index.number)
 
     def append(self, number, name, entry):
         """The header that was taken, or the entry where it is linked."""
@@ -182,15 +198,16 @@ class Interface:
         if found and "once" in entry.flags:
             found = found[-1:] if self.breaks("an_append_takes_the_youngest_header") else found[:1]
         for header in found:
-            self.raised(index.queue, header.message.kind + "_overflow", **self.told(header))
-            self.forget(index, header)
-            if entry.ct and "overflow" in entry.flags:
+            kind = header.message.kind + "_overflow"
+            self.raised(entry, index.queue, kind, **self.told(header))
+            self.forget(index, header, entry)
+            if self.counts(entry, "overflow", kind):
                 self.count(entry.ct, 1, 0)
         if found and "once" in entry.flags:
             return found[0]
         index.lists[name].append(entry)
         entry.linked = True
-        self.raised(index.queue, "link", pt=number, bits=entry.bits)
+        self.raised(entry, index.queue, "link", pt=number, bits=entry.bits)
         return entry
 
     def search(self, number, deletes, entry):
@@ -198,11 +215,11 @@ class Interface:
         refuse((index is None, "Stale"))
         found = self.found(number, entry)[:1]
         if not found:
-            self.raised(index.queue, "search", pt=number, bits=entry.bits, ok=0)
+            self.raised(entry, index.queue, "search", pt=number, bits=entry.bits, ok=0)
             return None
-        self.raised(index.queue, "search", **self.told(found[0]))
+        self.raised(entry, index.queue, "search", **self.told(found[0]))
         if deletes:
-            self.forget(index, found[0])
+            self.forget(index, found[0], entry)
         return found[0]
 
     # ---- operations on elements
@@ -287,14 +304,15 @@ class Interface:
         place, delivered = self.place(entry, message)
         old = bytes(self.memory[place : place + delivered])
         self.memory[place : place + delivered] = self.written(message, old)
-        if entry.ct and "comm" in entry.flags:
+        kind = "fetch_atomic" if message.kind == "swap" else message.kind
+        if self.counts(entry, "comm", kind):
             self.count(entry.ct, 1, 0)
         entry.running += delivered if "local" in entry.flags else 0
         header = Thing(message=message, entry=entry, place=place, delivered=delivered)
         if name == "overflow":
             self.headers.append(header)
         if name == "priority" or self.breaks("overflow_deliveries_raise_events"):
-            self.raised(index.queue, "fetch_atomic" if message.kind == "swap" else message.kind, **self.told(header))
+            self.raised(entry, index.queue, kind, **self.told(header))
         if self.goes(entry):
             self.unlink(index, name, entry)
         return "matched" if name == "priority" else "overflow", self.answer(message, True, old)
@@ -308,11 +326,11 @@ class Interface:
         at = md.start + message.home_offset
         if writes:
             self.memory[at : at + length] = message.bytes
-        if md.ct and message.kind in md.flags:
+        if self.counts(md, message.kind, message.kind, message.ok):
             self.count(md.ct, int(message.ok), int(not message.ok))
         if message.kind == "reply" or message.ack == "full":
             place = at if message.kind == "reply" and length else 0
-            self.raised(md.queue, message.kind, source=message.source, pt=message.pt, bits=message.bits, data=message.data,
+            self.raised(md, md.queue, message.kind, source=message.source, pt=message.pt, bits=message.bits, data=message.data,
                         delivered=message.length, place=place, ok=message.ok)
         md.awaits -= 1
         return "answered"
@@ -350,9 +368,9 @@ class Interface:
             home = md
         home_offset = deed.back_offset if fetches else deed.at if deed.kind == "get" else 0
         data = b"" if deed.kind == "get" else bytes(self.memory[md.start + deed.at : md.start + deed.at + deed.length])
-        if md.ct and ("send" in md.flags or self.breaks("each_start_counts")):
+        if md.ct and self.breaks("each_start_counts") or self.counts(md, "send", "send"):
             self.count(md.ct, 1, 0)
-        self.raised(md.queue, "send", source=self.rank, pt=deed.pt, bits=deed.bits, data=deed.data, requested=deed.length)
+        self.raised(md, md.queue, "send", source=self.rank, pt=deed.pt, bits=deed.bits, data=deed.data, requested=deed.length)
         if home:
             home.awaits = min(TOP, home.awaits + 1)
         return Thing(kind=deed.kind, source=self.rank, target=deed.target, pt=deed.pt, bits=deed.bits, offset=deed.offset,

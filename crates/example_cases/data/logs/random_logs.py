@@ -60,6 +60,9 @@ class Draw:
     def flags(self, *names):
         return "".join(f" {name}" for name in names if self.below(2))
 
+    def hiding(self, *names):
+        return "".join(f" hide_{name}" for name in names if self.below(4) == 0)
+
     def open(self, rank):
         tables = " ".join(f"{key}={2 + self.below(6)}" for key in "entries unexpected mds cts eqs pts triggered".split())
         region = bytes(self.below(256) for _ in range(48)).hex()
@@ -69,6 +72,7 @@ class Draw:
         amounts = f" start={self.below(44)} length={self.below(12)} bits={self.below(3)} ignore={self.one(0, 0, 1, 3)}"
         source = f" source={self.below(RANKS)}" if self.below(4) == 0 else ""
         flags = self.flags("put", "put", "get", "once", "local", "no_truncate", "comm", "overflow").replace(" put put", " put")
+        flags += self.hiding("link", "unlink", "comm", "overflow", "success")
         return f"{amounts} min_free={self.below(4)}{source}{self.field(rank, 'ct', 'c')}{flags}"
 
     def start(self, rank):
@@ -121,7 +125,7 @@ class Draw:
         if self.below(3) == 0:
             part = f"start={self.below(44)} length={self.below(16)}"
             named = self.field(rank, "eq", "q") + self.field(rank, "ct", "c")
-            self.say(rank, "md_bind", part + named + self.flags("send", "reply", "ack"), "d")
+            self.say(rank, "md_bind", part + named + self.flags("send", "reply", "ack") + self.hiding("send", "success"), "d")
         else:
             self.say(rank, *self.one(("md_release", self.some(rank, "d")), ("awaits", self.some(rank, "d")), ("awaits_any",)))
 
@@ -184,7 +188,8 @@ def main(program, logs, calls="200"):
     print(f"{logs} logs conform, {judged} calls")
 
 
-if sys.argv[1:2] == ["--print"]:
-    print("\n".join(Draw(int(sys.argv[2])).log(int((sys.argv[3:4] or ["200"])[0]))))
-else:
-    main(*sys.argv[1:])
+if __name__ == "__main__":
+    if sys.argv[1:2] == ["--print"]:
+        print("\n".join(Draw(int(sys.argv[2])).log(int((sys.argv[3:4] or ["200"])[0]))))
+    else:
+        main(*sys.argv[1:])

@@ -11,6 +11,8 @@ use Rattle.ptl_types.specs.declared.headers.AckRequest.{AckRequest}
 use Rattle.ptl_types.specs.declared.headers.AckRequest.TheVariants.{NoAck}
 use Rattle.ptl_types.specs.declared.entries.Entry.{Entry}
 use Rattle.ptl_types.specs.declared.entries.Descriptor.{Descriptor}
+use Rattle.ptl_types.specs.declared.entries.TheConstants.HiddenEntryEvents as hidden_entry_events
+use Rattle.ptl_types.specs.declared.entries.TheConstants.HiddenDescriptorEvents as hidden_descriptor_events
 use Rattle.ptl_types.specs.declared.calls.Limits.{Limits}
 use Rattle.ptl_types.specs.declared.calls.PutArgs.{PutArgs}
 use Rattle.ptl_types.specs.declared.calls.GetArgs.{GetArgs}
@@ -51,6 +53,7 @@ entry start length = record {
   no_truncate = false;
   count_comm = false;
   count_overflow = false;
+  hidden = hidden_entry_events.NONE;
 }
 
 abbrev pub once : Entry → Entry
@@ -73,8 +76,8 @@ part_of start length = record {
   ct = None;
   count_send = false;
   count_reply = false;
-  count_ack =
-      false;
+  count_ack = false;
+  hidden = hidden_descriptor_events.NONE;
 }
 
 -- ---- messages of rank 1 to rank 0, with match bits 5 and header data 77

@@ -117,7 +117,11 @@ overflow_unlinks = refl
 
 header_is_kept :
     (kept part put).headers.unexpected
-    ≡ record { pt = 1; header = record { entry = first; place = 5; delivered = 5; header = with_seven Put 9 } } ∷ []
+    ≡ record {
+      pt = 1;
+      header = record { entry = first; place = 5; delivered = 5; header = with_seven Put 9 };
+      hidden = part.hidden;
+    } ∷ []
 unfolding target request append
 header_is_kept = refl
 

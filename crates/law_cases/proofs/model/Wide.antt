@@ -18,7 +18,7 @@ use Rattle.ni_model.specs.Queues.{Waiting}
 use Rattle.ni_model.specs.Tables.{handle, lookup}
 use Rattle.ni_model.specs.State.{State, opened}
 use Rattle.ni_model.specs.Calls.{ct_alloc, eq_alloc, md_bind}
-use Rattle.law_cases.proofs.model.Setting.{first, second}
+use Rattle.law_cases.proofs.model.Setting.{first, second, part_of}
 
 abbrev pub many : Limits
 many = record { entries = 6; unexpected = 5; mds = 2; cts = 3; eqs = 2; pts = 3; triggered = 7; msg = 16; atomic = 8; fetch_atomic = 4 }
@@ -39,11 +39,11 @@ base = (eq_alloc 1 8 (eq_alloc 0 8 (ct_alloc 1 (ct_alloc 0 (opened 1 4 many regi
 
 -- bytes 2 to 7, with the first counting event and the first queue; it counts starts
 abbrev pub source : Descriptor
-source = record { start = 2; length = 6; eq = Some first; ct = Some first; count_send = true; count_reply = false; count_ack = false }
+source = record (part_of 2 6) { eq = Some first; ct = Some first; count_send = true }
 
 -- bytes 8 to 15, with the second ones
 abbrev pub goal : Descriptor
-goal = record { start = 8; length = 8; eq = Some second; ct = Some second; count_send = true; count_reply = false; count_ack = false }
+goal = record (part_of 8 8) { eq = Some second; ct = Some second; count_send = true }
 
 abbrev pub bound_both : Descriptor → Descriptor → State
 bound_both a b = (md_bind 1 b (md_bind 0 a base).state).state

@@ -5,6 +5,8 @@ use Rattle.ptl_types.specs.declared.calls.Limits.{Limits}
 use Rattle.ptl_types.specs.declared.calls.PutArgs.{PutArgs}
 use Rattle.ptl_types.specs.declared.entries.Entry.{Entry}
 use Rattle.ptl_types.specs.declared.entries.Descriptor.{Descriptor}
+use Rattle.ptl_types.specs.declared.entries.HiddenEntryEvents.{HiddenEntryEvents}
+use Rattle.ptl_types.specs.declared.entries.HiddenDescriptorEvents.{HiddenDescriptorEvents}
 use Rattle.ptl_types.specs.declared.headers.AckRequest.{AckRequest}
 use Rattle.ptl_types.specs.declared.headers.AckRequest.TheVariants.{NoAck, CtAck, Ack}
 use Rattle.log_words.specs.Words.{Word}
@@ -60,6 +62,16 @@ set_queue key v q = if bytes_eq key (codes "eq") then put_in (name_in v) (λ w. 
 abbrev pub bound_as : (Descriptor → Descriptor) → MdSaid → MdSaid
 bound_as f m = record m { md = f m.md }
 
+abbrev pub bound_hiding : (HiddenDescriptorEvents → HiddenDescriptorEvents) → MdSaid → MdSaid
+bound_hiding f m = bound_as (λ d. record d { hidden = f d.hidden }) m
+
+-- the events that it hides
+unfoldable pub set_md_hidden : List ℕ → Option Word → MdSaid → Result MdSaid Flaw
+set_md_hidden key v m =
+    if bytes_eq key (codes "hide_send") then put_in (flag_in v) (λ b. bound_hiding (λ h. record h { send = b }) m)
+    else if bytes_eq key (codes "hide_success") then put_in (flag_in v) (λ b. bound_hiding (λ h. record h { success = b }) m)
+    else Err BadWord
+
 unfoldable pub set_md : List ℕ → Option Word → MdSaid → Result MdSaid Flaw
 set_md key v m =
     if bytes_eq key (codes "start") then put_in (amount_in v) (λ n. bound_as (λ d. record d { start = n }) m)
@@ -69,12 +81,25 @@ set_md key v m =
     else if bytes_eq key (codes "send") then put_in (flag_in v) (λ b. bound_as (λ d. record d { count_send = b }) m)
     else if bytes_eq key (codes "reply") then put_in (flag_in v) (λ b. bound_as (λ d. record d { count_reply = b }) m)
     else if bytes_eq key (codes "ack") then put_in (flag_in v) (λ b. bound_as (λ d. record d { count_ack = b }) m)
-    else Err BadWord
+    else set_md_hidden key v m
 
 -- ---- `me_append` and `me_search`
 
 abbrev pub entered : (Entry → Entry) → EntrySaid → EntrySaid
 entered f e = record e { entry = f e.entry }
+
+abbrev pub hiding : (HiddenEntryEvents → HiddenEntryEvents) → EntrySaid → EntrySaid
+hiding f e = entered (λ x. record x { hidden = f x.hidden }) e
+
+-- the events that it hides
+unfoldable pub set_entry_hidden : List ℕ → Option Word → EntrySaid → Result EntrySaid Flaw
+set_entry_hidden key v e =
+    if bytes_eq key (codes "hide_link") then put_in (flag_in v) (λ b. hiding (λ h. record h { link = b }) e)
+    else if bytes_eq key (codes "hide_unlink") then put_in (flag_in v) (λ b. hiding (λ h. record h { unlink = b }) e)
+    else if bytes_eq key (codes "hide_comm") then put_in (flag_in v) (λ b. hiding (λ h. record h { comm = b }) e)
+    else if bytes_eq key (codes "hide_overflow") then put_in (flag_in v) (λ b. hiding (λ h. record h { overflow = b }) e)
+    else if bytes_eq key (codes "hide_success") then put_in (flag_in v) (λ b. hiding (λ h. record h { success = b }) e)
+    else Err BadWord
 
 unfoldable pub set_entry_flag : List ℕ → Option Word → EntrySaid → Result EntrySaid Flaw
 set_entry_flag key v e =
@@ -85,7 +110,7 @@ set_entry_flag key v e =
     else if bytes_eq key (codes "no_truncate") then put_in (flag_in v) (λ b. entered (λ x. record x { no_truncate = b }) e)
     else if bytes_eq key (codes "comm") then put_in (flag_in v) (λ b. entered (λ x. record x { count_comm = b }) e)
     else if bytes_eq key (codes "overflow") then put_in (flag_in v) (λ b. entered (λ x. record x { count_overflow = b }) e)
-    else Err BadWord
+    else set_entry_hidden key v e
 
 unfoldable pub set_entry : List ℕ → Option Word → EntrySaid → Result EntrySaid Flaw
 set_entry key v e =

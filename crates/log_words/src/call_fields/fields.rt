@@ -1,8 +1,8 @@
 //! What the fields and flags of each call say.
 
 ghost use Rattle.std.specs.Prelude.{◌≡◌};
-ghost use Rattle.log_words.specs.call_fields.Fields.{ack_in, set_any, set_entry, set_entry_flag, set_fetching, set_md, set_opening};
-ghost use Rattle.log_words.specs.call_fields.Fields.{set_queue};
+ghost use Rattle.log_words.specs.call_fields.Fields.{ack_in, set_any, set_entry, set_entry_flag, set_entry_hidden, set_fetching};
+ghost use Rattle.log_words.specs.call_fields.Fields.{set_md, set_md_hidden, set_opening, set_queue};
 ghost use Rattle.log_words.specs.call_fields.Fields.{set_sending, set_sizes, set_start, set_swapping};
 
 use crate::call_fields::said::{EntrySaid, MdSaid, Opening, QueueSaid, StartName, StartSaid};
@@ -132,6 +132,38 @@ fn with_entry_flag<'a>(
         said.entry.count_overflow = flag_in(value)?;
         return Ok(said);
     }
+    with_entry_hidden(said, key, value)
+}
+
+/// The events that an entry hides.
+#[tactic(auto, unfolding(crate::specs::call_fields::Fields::set_entry_hidden))]
+fn with_entry_hidden<'a>(
+    mut said: EntrySaid<'a>,
+    key: &[u8],
+    value: Option<Word<'a>>,
+) -> Result<EntrySaid<'a>, Flaw>
+    ensures { result ≡ set_entry_hidden key.now value.entry said.entry }
+{
+    if is(key, b"hide_link") {
+        said.entry.hidden.link = flag_in(value)?;
+        return Ok(said);
+    }
+    if is(key, b"hide_unlink") {
+        said.entry.hidden.unlink = flag_in(value)?;
+        return Ok(said);
+    }
+    if is(key, b"hide_comm") {
+        said.entry.hidden.comm = flag_in(value)?;
+        return Ok(said);
+    }
+    if is(key, b"hide_overflow") {
+        said.entry.hidden.overflow = flag_in(value)?;
+        return Ok(said);
+    }
+    if is(key, b"hide_success") {
+        said.entry.hidden.success = flag_in(value)?;
+        return Ok(said);
+    }
     Err(Flaw::BadWord)
 }
 
@@ -209,8 +241,28 @@ impl<'a> HasFields<'a> for MdSaid<'a> {
             self.md.count_ack = flag_in(value)?;
             return Ok(self);
         }
-        Err(Flaw::BadWord)
+        with_md_hidden(self, key, value)
     }
+}
+
+/// The events that a descriptor hides.
+#[tactic(auto, unfolding(crate::specs::call_fields::Fields::set_md_hidden))]
+fn with_md_hidden<'a>(
+    mut said: MdSaid<'a>,
+    key: &[u8],
+    value: Option<Word<'a>>,
+) -> Result<MdSaid<'a>, Flaw>
+    ensures { result ≡ set_md_hidden key.now value.entry said.entry }
+{
+    if is(key, b"hide_send") {
+        said.md.hidden.send = flag_in(value)?;
+        return Ok(said);
+    }
+    if is(key, b"hide_success") {
+        said.md.hidden.success = flag_in(value)?;
+        return Ok(said);
+    }
+    Err(Flaw::BadWord)
 }
 
 impl<'a> HasFields<'a> for QueueSaid<'a> {

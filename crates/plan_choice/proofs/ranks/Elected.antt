@@ -3,6 +3,7 @@ use Rattle.std.proofs.Common.{ℕ, false, ◌+◌, ◌*◌, ◌≡◌, ◌∙◌
 use Rattle.coll_lang.specs.declared.choices.ChoiceKind.{ChoiceKind}
 use Rattle.coll_lang.specs.declared.choices.ChoiceKind.TheVariants.{Elect}
 use Rattle.ptl_types.specs.declared.entries.Descriptor.{Descriptor}
+use Rattle.ptl_types.specs.declared.entries.TheConstants.HiddenDescriptorEvents as hidden_descriptor_events
 use Rattle.ptl_types.specs.declared.handles.Handle.{Handle}
 use Rattle.ni_model.specs.State.{State}
 use Rattle.ni_model.specs.Tables.{handle}
@@ -19,7 +20,16 @@ use Rattle.plan_choice.proofs.ranks.Made.{made-both, made-counter, made-descript
 
 -- the descriptor of a word
 abbrev pub word_md : ℕ → Option Handle → Descriptor
-word_md start ct = record { start = start; length = 8; eq = None; ct = ct; count_send = false; count_reply = is_some ct; count_ack = false }
+word_md start ct = record {
+  start = start;
+  length = 8;
+  eq = None;
+  ct = ct;
+  count_send = false;
+  count_reply = is_some ct;
+  count_ack = false;
+  hidden = hidden_descriptor_events.NONE;
+}
 
 module _ (ks : List ChoiceKind) (t counter : ℕ) (s0 s1 s2 s3 s4 s5 : State) (a0 a1 a2 a3 a4 a5 : Handles) (d1 d2 d3 : Descriptor)
     (h1 h2 : Handle) (is : choice_at ks t ≡ Elect) (number : counter ≡ 2 + before counters_in ks t) (all : AreAllOf s0 a0)

@@ -20,8 +20,8 @@ use crate::ranks::region::{NOBODY, region};
 use coll_lang::ChoiceKind;
 use portals_ni::Nic;
 use ptl_types::{
-    AckRequest, AtomicOp, Descriptor, ElemType, Entry, GetArgs, Handle, Limits, List as MatchList,
-    NoMemory, PutArgs, Rank, SwapOp, TriggeredOp,
+    AckRequest, AtomicOp, Descriptor, ElemType, Entry, GetArgs, Handle, HiddenDescriptorEvents,
+    HiddenEntryEvents, Limits, List as MatchList, NoMemory, PutArgs, Rank, SwapOp, TriggeredOp,
 };
 use rank_node::{
     History, NodeHandles, alloc_index, make_counter, make_descriptor, make_entry, one, post,
@@ -56,8 +56,8 @@ fn word_at(start: u64, ct: Option<Handle>) -> Descriptor
       ct = ct;
       count_send = false;
       count_reply = is_some ct;
-      count_ack =
-          false;
+      count_ack = false;
+      hidden = HiddenDescriptorEvents.NONE;
     } }
 {
     Descriptor {
@@ -68,6 +68,7 @@ fn word_at(start: u64, ct: Option<Handle>) -> Descriptor
         count_send: false,
         count_reply: ct.is_some(),
         count_ack: false,
+        hidden: HiddenDescriptorEvents::NONE,
     }
 }
 
@@ -207,6 +208,7 @@ fn entry_of(step: u64) -> Entry
         no_truncate: false,
         count_comm: false,
         count_overflow: false,
+        hidden: HiddenEntryEvents::NONE,
     }
 }
 

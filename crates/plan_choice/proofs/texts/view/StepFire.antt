@@ -20,9 +20,7 @@ use Rattle.ni_model.specs.Append.{need}
 use Rattle.ni_model.specs.Calls.{ct_inc, ends, ends_by}
 use Rattle.ni_model.specs.Refusals.{inc_passes}
 use Rattle.ni_model.specs.Counts.{counted, plus, successes}
-use Rattle.ni_model.specs.Queues.{raised}
-use Rattle.ni_model.specs.Events.{send_event}
-use Rattle.ni_model.specs.Starts.{bytes_at, fetch_header, get_header, one_awaited, send_counter, send_queue, started}
+use Rattle.ni_model.specs.Starts.{bytes_at, fetch_header, get_header, one_awaited, send_counter, send_told, started}
 use Rattle.ni_model.specs.Ready.{done, fires, is_number, is_reached, is_ready, is_ready_op, posted_at}
 use Rattle.plan_core.specs.Members.{In}
 use Rattle.plan_core.proofs.Lists.{In-filter, In-filter_cases, In-map_cases}
@@ -224,8 +222,7 @@ left_waiting k ks seat next w h e same =
 abbrev pub sent_state : State → Option Bound → Header → Table Bound → State
 sent_state v b h mds = record v {
   cts = counted (send_counter b) (successes 1) v.cts;
-  eqs =
-      raised (send_queue b) (send_event h) v.eqs;
+  eqs = send_told b h v.eqs;
   mds = mds;
 }
 

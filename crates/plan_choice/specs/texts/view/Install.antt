@@ -11,6 +11,8 @@ use Rattle.ptl_types.specs.declared.headers.MessageKind.TheVariants.{FetchAtomic
 use Rattle.ptl_types.specs.declared.headers.AckRequest.TheVariants.{NoAck}
 use Rattle.ptl_types.specs.declared.entries.Entry.{Entry}
 use Rattle.ptl_types.specs.declared.entries.Descriptor.{Descriptor}
+use Rattle.ptl_types.specs.declared.entries.TheConstants.HiddenEntryEvents as hidden_entry_events
+use Rattle.ptl_types.specs.declared.entries.TheConstants.HiddenDescriptorEvents as hidden_descriptor_events
 use Rattle.ptl_types.specs.declared.calls.Limits.{Limits}
 use Rattle.ptl_types.specs.declared.calls.PutArgs.{PutArgs}
 use Rattle.ptl_types.specs.declared.calls.GetArgs.{GetArgs}
@@ -153,6 +155,7 @@ descriptor_of k ks x = record {
   count_send = false;
   count_reply = has_counter x;
   count_ack = false;
+  hidden = hidden_descriptor_events.NONE;
 }
 
 -- ---- entries, on rank 0: the word of a step, which its number matches
@@ -172,6 +175,7 @@ word_entry s = record {
   no_truncate = false;
   count_comm = false;
   count_overflow = false;
+  hidden = hidden_entry_events.NONE;
 }
 
 -- as it is linked

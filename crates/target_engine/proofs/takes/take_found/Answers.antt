@@ -53,7 +53,7 @@ loop-at-preserved c =
             sifted = rw (w.headers-is, w.kept-is) (step-gone pt e xs ys zs k i _ _ c.finds.ensures c.as_slice.ensures h.sifted lt
                 w.if-finds.true);
             room = rw w.headers-is h.room;
-            events = rw (w.eqs-is, w.take_header.ensures.events) (taken-told _ _ _ _ _ _ was ∙ told);
+            events = rw (w.eqs-is, w.take_header.ensures.events) (taken-told _ _ _ _ _ _ _ was ∙ told);
             counts = rw (w.cts-is, w.take_header.ensures.counts) (rw step at h.counts);
             rose = rw (w.counted-is, w.overflow_counter-counted.ensures)
                 (sym (step-rose pt e xs ys zs k i _ _ c.finds.ensures c.as_slice.ensures h.sifted lt w.if-finds.true));

@@ -14,9 +14,9 @@ invariant-loop-at l =
       sifted : FiltersInPlace (λ (a : IndexedHeader). not (finds l.args.pt l.args.entry a)) xs l.headers.unexpected l.kept l.at;
       room : l.headers.limit ≡ l.fn.headers.limit;
       events :
-          each_gone (side 0 0 (seen_in l.indices) 0 (unexpected_list [] 0)) (left_in l.args.pt l.args.entry xs)
+          each_gone l.args.entry.hidden (side 0 0 (seen_in l.indices) 0 (unexpected_list [] 0)) (left_in l.args.pt l.args.entry xs)
           (found_in l.args.pt l.args.entry (drop l.at xs)) l.eqs
-          ≡ each_gone (side 0 0 (seen_in l.indices) 0 (unexpected_list [] 0)) (left_in l.args.pt l.args.entry xs)
+          ≡ each_gone l.args.entry.hidden (side 0 0 (seen_in l.indices) 0 (unexpected_list [] 0)) (left_in l.args.pt l.args.entry xs)
           (found_in l.args.pt l.args.entry xs) l.fn.eqs;
       counts :
           each_counted (overflow_counter l.args.entry) (found_in l.args.pt l.args.entry (drop l.at xs)) l.cts
