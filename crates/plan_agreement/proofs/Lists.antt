@@ -1,8 +1,9 @@
 -- Inputs of a shape, and plans for them.
-use Rattle.std.proofs.Common.{ℕ, ◌+◌, ◌*◌, ◌/◌, ◌%◌, ◌≡◌, ◌≤◌, ◌<◌, List, [], ◌∷◌, ◌++◌, length, map, get_or, None}
+use Rattle.std.proofs.Common.{ℕ, zero, suc, take, lit<, ◌+◌, ◌*◌, ◌/◌, ◌%◌, ◌≡◌, ◌≤◌, ◌<◌, List, [], ◌∷◌, ◌++◌, length, map, get_or, None}
 use Rattle.std.proofs.Common.{refl, ap, ap₂, sym, subst, ◌∙◌, arith, mod-lt, inl, inr}
 use Rattle.std.proofs.lemmas.Bool.{cases_lt}
-use Rattle.std.proofs.lemmas.List.{get_or_append_left, get_or_push, length_push}
+use Rattle.std.specs.Prelude.{All}
+use Rattle.std.proofs.lemmas.List.{get_or_append_left, get_or_push, length_push, take_all, take_more}
 use Rattle.std.proofs.lemmas.List.Elements.{All-push}
 use Rattle.std.proofs.lemmas.Nat.{div-mul-add, mul-le}
 use Rattle.number_lists.specs.Numbers.{from_to}
@@ -15,7 +16,7 @@ use Rattle.coll_shape.proofs.Rows.{before-end, row-at, row-long, rows-many}
 use Rattle.plan_core.specs.Plan.{Plan, all_cells}
 use Rattle.plan_core.specs.Values.{value}
 use Rattle.plan_core.specs.Sound.{SoundPlan}
-use Rattle.plan_core.proofs.Drawing.{length-row}
+use Rattle.plan_core.proofs.Drawing.{length-row, row-more}
 use Rattle.plan_judge.specs.Causes.{judged}
 use Rattle.plan_judge.proofs.Flawless.{none_sound}
 use Rattle.plan_tables.proofs.Passes.{get-row, get_or-any, length-table}
@@ -26,7 +27,7 @@ use Rattle.schedule_compiler.specs.shapes.Drawing.{plan_of}
 use Rattle.schedule_compiler.specs.shapes.Footprint.{refusal}
 use Rattle.schedule_compiler.proofs.shapes.Final.{fine-shape, inputs_fit, sound}
 use Rattle.plan_agreement.specs.Agreement.{IsPlanFor}
-use Rattle.plan_agreement.specs.Witness.{AreWitnesses, IsListOf}
+use Rattle.plan_agreement.specs.Witness.{AreWitnesses, IsListOf, number_units, numbered, numbered_byte, numbered_list, numbered_lists}
 
 -- ---- lists for all inputs
 its_list : (o : Outline) (lists : List (List ℕ)) (b r : ℕ) → AreWitnesses o lists → b < o.inputs → r < o.ranks
@@ -144,6 +145,15 @@ not_meant p o inputs b r c values held x y known is means own due unlike same =
     (own ∙ ap (λ (v : List (List ℕ)). get_or v c []) is ∙ get-row (value p inputs) (length p.cells) c [] there ∙ same
     ∙ sym (due ∙ ap (λ (m : Lists). at (lists_of m b) r) means))
 
+-- a list that is
+pub is_meant : (p : Plan) (o : Outline) (inputs : Lists) (b r c : ℕ) (values : Lists) (held : List (List ℕ)) (x y : List ℕ)
+    → c < length held → held ≡ map (value p inputs) (all_cells p) → values ≡ meaning_of o inputs → x ≡ get_or held c []
+    → y ≡ at (lists_of values b) r → x ≡ y → value p inputs c ≡ at (lists_of (meaning_of o inputs) b) r
+is_meant p o inputs b r c values held x y known is means own due same =
+    let there : c < length p.cells = omega (arith, known, length-table (value p inputs) (length p.cells) held is) in
+    sym (own ∙ ap (λ (v : List (List ℕ)). get_or v c []) is ∙ get-row (value p inputs) (length p.cells) c [] there)
+    ∙ same ∙ due ∙ ap (λ (m : Lists). at (lists_of m b) r) means
+
 pub no_bytes : IsListOf 0 []
 no_bytes = record { long = refl; bytes = λ k d l. absurd (omega (arith, l)) }
 
@@ -160,3 +170,48 @@ all_lists o lists i n is h l all =
       many = omega (arith, is, h, many, l);
       each = λ j k. all.each j (omega (arith, is, h, k));
     }
+
+-- ---- inputs of numbered bytes
+pub longer_row : {X : Type 0} (f : ℕ → X) (k : ℕ) (xs ys : List X) (x : X) → ys ≡ xs ++ x ∷ [] → xs ≡ map f (from_to 0 k) → x ≡ f k
+    → ys ≡ map f (from_to 0 (k + 1))
+longer_row {X} f k xs ys x e is own =
+    e ∙ ap₂ (λ (zs : List X) z. zs ++ z ∷ []) is own ∙ sym (row-more f k)
+
+numbered_bytes : (unit i n : ℕ) → IsListOf n (numbered_list unit i n)
+numbered_bytes unit i n =
+    let long : length (numbered_list unit i n) ≡ n = length-row (numbered_byte unit i) 0 n in
+    record {
+      long = long;
+      bytes = λ k d l.
+          subst (λ x. x < 256) (sym (get-row (numbered_byte unit i) n k d (subst (λ m. k < m) long l)))
+          (mod-lt ((i * 32768 + k % 32768 + 1) / unit) (lit< tt));
+    }
+
+pub numbered_taken : (o : Outline) (unit : ℕ) → AreInputs o (numbered o unit)
+numbered_taken o unit =
+    let f : ℕ → List ℕ = λ i. numbered_list unit i (list_bytes (buffer_at o (i / o.ranks))) in
+    are_inputs o (numbered_lists o unit)
+    (record {
+      many = length-row f 0 (o.inputs * o.ranks);
+      each = λ i h.
+          subst (IsListOf (list_bytes (buffer_at o (i / o.ranks)))) (sym (get-row f (o.inputs * o.ranks) i [] h))
+          (numbered_bytes unit i (list_bytes (buffer_at o (i / o.ranks))));
+    })
+
+-- ---- unit by unit
+pub all_units : All (λ unit. 0 < unit) number_units
+all_units = λ k d l. one_of k d l
+  where
+    one_of : (k d : ℕ) → k < 4 → 0 < get_or number_units k d
+    one_of zero d l = lit< tt
+    one_of (suc zero) d l = lit< tt
+    one_of (suc (suc zero)) d l = lit< tt
+    one_of (suc (suc (suc zero))) d l = lit< tt
+    one_of (suc (suc (suc (suc k)))) d l = absurd (omega (arith, l))
+
+pub one_more_of : {X : Type 0} (P : X → Type 0) (xs : List X) (i : ℕ) (x : X) → i < length xs → All P (take i xs) → P (get_or xs i x)
+    → All P (take (i + 1) xs)
+one_more_of P xs i x h so_far p = subst (All P) (sym (take_more xs i x h)) (All-push P (take i xs) (get_or xs i x) so_far p)
+
+pub all_taken : {X : Type 0} (P : X → Type 0) (xs : List X) (i : ℕ) → length xs ≤ i → All P (take i xs) → All P xs
+all_taken P xs i h all = subst (All P) (take_all i xs h) all

@@ -1,5 +1,5 @@
 -- What is found of a plan whose results are named, for all inputs of a shape.
-use Rattle.std.specs.Prelude.{ℕ, ◌<◌, ◌≡◌, List, Option, Some, None, [], length, get_or, take}
+use Rattle.std.specs.Prelude.{ℕ, ◌<◌, ◌≡◌, List, Option, Some, None, [], length, get_or, take, All}
 use Rattle.coll_shape.specs.Folding.{at}
 use Rattle.coll_shape.specs.Meaning.{AreInputs, Lists, lists_of, meaning_of}
 use Rattle.coll_shape.specs.Outline.{Outline}
@@ -14,6 +14,7 @@ use Rattle.schedule_compiler.specs.shapes.Drawing.{drawing_of}
 use Rattle.plan_agreement.specs.declared.agreement.Agreement.{Agreement}
 use Rattle.plan_agreement.specs.declared.agreement.Agreement.TheVariants.{Same, Differs, Unknown}
 use Rattle.plan_agreement.specs.declared.comparing.Unlike.{Unlike}
+use Rattle.plan_agreement.specs.Witness.{number_units, numbered}
 
 -- a sound plan for all inputs of the shape
 pub record IsPlanFor (p : Plan) (o : Outline) : Type 0 where
@@ -74,6 +75,29 @@ abbrev pub Agrees : Plan → Outline → List Mark → Agreement → Type 0
 Agrees p o ms Same = AreMeantTo p o ms (length ms)
 Agrees p o ms (Differs i inputs) = IsShown p o ms i inputs
 Agrees p o ms (Unknown i k) = IsOpen p o ms i k
+
+-- ---- which inputs were tried
+-- the line names a cell of the plan
+abbrev pub HasCell : Plan → Mark → Type 0
+HasCell p (Result b r c) = c < length p.cells
+HasCell p (Enter s r c) = c < length p.cells
+HasCell p (Leave s r c) = c < length p.cells
+
+-- the inputs whose bytes are these of their numbers don't show that the result isn't what is meant
+abbrev pub IsMeantIfThere : Plan → Outline → Mark → ℕ → Type 0
+IsMeantIfThere p o m unit = HasCell p m → IsMeant p o (numbered o unit) m
+
+-- inputs that show it
+pub record IsWrongFor (p : Plan) (o : Outline) (m : Mark) (inputs : Lists) : Type 0 where
+  pub taken : AreInputs o inputs
+  pub differs : IsMeant p o inputs m → ⊥
+
+-- Where it isn't known, the result is what is meant for the inputs whose bytes are their numbers, byte by byte of these. Where nothing is
+-- combined, these inputs show from which byte of the inputs each byte of the result comes.
+abbrev pub AreNumbersTried : Plan → Outline → List Mark → Agreement → Type 0
+AreNumbersTried p o ms Same = Unit {0}
+AreNumbersTried p o ms (Differs i inputs) = Unit {0}
+AreNumbersTried p o ms (Unknown i k) = All (IsMeantIfThere p o (mark_at ms i)) number_units
 
 -- ---- by the shape's own plan
 

@@ -1,25 +1,30 @@
 //! What is found for all inputs.
 
-ghost use Rattle.std.specs.Prelude.{◌≡◌, ◌<◌, ◌^◌, true, None, IfOk, MatchOption, length};
-ghost use Rattle.coll_shape.specs.Meaning.{AreInputs};
+ghost use Rattle.std.specs.Prelude.{◌≡◌, ◌<◌, ◌^◌, None, All, IfOk, MatchOption, length};
+ghost use Rattle.mark_judge.specs.Due.{mark_at};
 ghost use Rattle.schedule_compiler.specs.shapes.Drawing.{drawing_of, plan_of};
 ghost use Rattle.schedule_compiler.specs.shapes.Footprint.{refusal};
-ghost use Rattle.plan_agreement.specs.Agreement.{Agrees, AreMeantTo, IsMeant, IsOpenAt, IsPlanFor};
+ghost use Rattle.plan_agreement.specs.Agreement.{Agrees, AreMeantTo, AreNumbersTried, IsMeantIfThere, IsOpenAt, IsPlanFor};
+ghost use Rattle.plan_agreement.specs.Witness.{number_units};
 
 use crate::comparing::{Unlike, first_result, first_unlike};
+use crate::exact::differs;
+use crate::numbers::by_numbers;
+use crate::sources::{NO_LIST, other_list};
 use crate::witness::witness;
-use coll_meaning::buffers_of;
 use coll_shape::{Inputs, Shape};
 use given_lines::Mark;
 use plan_core::Plan;
-use plan_judge::values::values;
 use plan_terms::cell_places;
 use plan_terms::terms::{TermFault, Terms};
 use ptl_types::NoMemory;
 use schedule_compiler::shapes::{CompileFault, DrawnShape, drawn_shape};
 use std::alloc::Global;
 
-/// How many inputs are tried.
+/// Inputs of numbered bytes are tried, with each of the four bytes of the numbers.
+const UNITS: [u64; 4] = [1, 256, 65_536, 16_777_216];
+
+/// How many inputs are tried after these.
 const TRIES: u32 = 9;
 
 /// What is found of the results of a plan, for all inputs.
@@ -30,62 +35,56 @@ pub enum Agreement {
     /// This one isn't for these inputs. Each before it is for all inputs.
     Differs(u32, Inputs),
     /// Each before this one is for all inputs, and of this one so many of its first bytes are what the shape means of them. Of the rest
-    /// neither was found.
+    /// neither was found, but for inputs of numbered bytes it is what the shape means.
     Unknown(u32, u64),
 }
 
-/// Whether two lists aren't the same.
-fn are_unlike(a: &[u8], b: &[u8]) -> bool
-    ensures { result ≡ true → a.now ≡ b.now → ⊥ }
-{
-    a != b
-}
-
-/// Whether a result's cell holds another list than the shape means of these inputs.
-fn differs(
-    alloc: Global,
-    plan: &Plan,
-    shape: &Shape,
-    inputs: &Inputs,
-    mark: Mark,
-) -> Result<bool, NoMemory>
-    requires fits { IsPlanFor plan.now shape.now }
-    requires inputs { AreInputs shape.now inputs.now }
-    ensures { IfOk result (λ found. found ≡ true → IsMeant plan.now shape.now inputs.now mark → ⊥) }
-{
-    shape.recall_form();
-    let Mark::Result { buffer, rank, cell } = mark else {
-        return Ok(false);
-    };
-    let values = values(alloc, plan, inputs, shape.input_count())?;
-    if cell as usize >= values.len() {
-        return Ok(false);
-    }
-    let meant = buffers_of(alloc, shape, inputs)?;
-    Ok(are_unlike(values.cell(cell), meant.list(buffer, rank)))
-}
-
-/// Looks for inputs that show of a mark that its cell doesn't hold what is meant.
-fn search(
+/// Tries inputs that may show of a mark that its cell doesn't hold what is meant. The list of the number `other` comes into one of the
+/// cell and the cell in the shape's own plan, if there is one.
+fn try_inputs(
     alloc: Global,
     plan: &Plan,
     shape: &Shape,
     marks: &[Mark],
     unknown: Unlike,
+    other: u32,
 ) -> Result<Agreement, NoMemory>
     requires fits { IsPlanFor plan.now shape.now }
     requires unknown { IsOpenAt plan.now shape.now marks.now unknown }
-    ensures { IfOk result (λ found. Agrees plan.now shape.now marks.now found) }
+    requires numbers { All (IsMeantIfThere plan.now shape.now (mark_at marks.now unknown.mark)) number_units }
+    ensures agrees { IfOk result (λ found. Agrees plan.now shape.now marks.now found) }
+    ensures tried { IfOk result (λ found. AreNumbersTried plan.now shape.now marks.now found) }
 {
     let mark = unknown.mark;
     for kind in 0..TRIES {
-        let inputs = witness(alloc, shape, kind)?;
+        let inputs = witness(alloc, shape, kind, other)?;
         let found = differs(alloc, plan, shape, &inputs, marks[mark as usize])?;
         if found {
             return Ok(Agreement::Differs(mark, inputs));
         }
     }
     Ok(Agreement::Unknown(mark, unknown.bytes))
+}
+
+/// Looks for inputs that show of a mark that its cell doesn't hold what is meant: first for those of numbered bytes.
+fn search(
+    alloc: Global,
+    plan: &Plan,
+    shape: &Shape,
+    marks: &[Mark],
+    unknown: Unlike,
+    other: u32,
+) -> Result<Agreement, NoMemory>
+    requires fits { IsPlanFor plan.now shape.now }
+    requires unknown { IsOpenAt plan.now shape.now marks.now unknown }
+    ensures agrees { IfOk result (λ found. Agrees plan.now shape.now marks.now found) }
+    ensures tried { IfOk result (λ found. AreNumbersTried plan.now shape.now marks.now found) }
+{
+    let shown = by_numbers(alloc, plan, shape, marks[unknown.mark as usize], &UNITS)?;
+    match shown {
+        Some(inputs) => Ok(Agreement::Differs(unknown.mark, inputs)),
+        None => try_inputs(alloc, plan, shape, marks, unknown, other),
+    }
 }
 
 /// The bytes of the longest list of an input.
@@ -142,15 +141,17 @@ fn by_first(
     shape: &Shape,
     marks: &[Mark],
     first: Option<Unlike>,
+    other: u32,
 ) -> Result<Agreement, NoMemory>
     requires fits { IsPlanFor plan.now shape.now }
     requires first { MatchOption first (AreMeantTo plan.now shape.now marks.now (length marks.now))
         (IsOpenAt plan.now shape.now marks.now) }
-    ensures { IfOk result (λ found. Agrees plan.now shape.now marks.now found) }
+    ensures agrees { IfOk result (λ found. Agrees plan.now shape.now marks.now found) }
+    ensures tried { IfOk result (λ found. AreNumbersTried plan.now shape.now marks.now found) }
 {
     match first {
         None => Ok(Agreement::Same),
-        Some(unknown) => search(alloc, plan, shape, marks, unknown),
+        Some(unknown) => search(alloc, plan, shape, marks, unknown, other),
     }
 }
 
@@ -158,9 +159,10 @@ fn by_first(
 fn by_none(alloc: Global, plan: &Plan, shape: &Shape, marks: &[Mark]) -> Result<Agreement, NoMemory>
     requires fits { IsPlanFor plan.now shape.now }
     requires few_marks { length marks.now < 2 ^ 32 }
-    ensures { IfOk result (λ found. Agrees plan.now shape.now marks.now found) }
+    ensures agrees { IfOk result (λ found. Agrees plan.now shape.now marks.now found) }
+    ensures tried { IfOk result (λ found. AreNumbersTried plan.now shape.now marks.now found) }
 {
-    by_first(alloc, plan, shape, marks, first_result(marks))
+    by_first(alloc, plan, shape, marks, first_result(marks), NO_LIST)
 }
 
 /// What is found by a comparison with the shape's own plan.
@@ -176,10 +178,14 @@ fn against(
     requires plan { drawn.now.plan ≡ plan_of shape.now }
     requires held { drawn.now.held ≡ (drawing_of shape.now).held }
     requires few_marks { length marks.now < 2 ^ 32 }
-    ensures { IfOk result (λ found. Agrees plan.now shape.now marks.now found) }
+    ensures agrees { IfOk result (λ found. Agrees plan.now shape.now marks.now found) }
+    ensures tried { IfOk result (λ found. AreNumbersTried plan.now shape.now marks.now found) }
 {
     match unlike(alloc, plan, shape, drawn, marks) {
-        Ok(found) => by_first(alloc, plan, shape, marks, found),
+        Ok(found) => {
+            let other = other_list(alloc, plan, shape, drawn, marks, found)?;
+            by_first(alloc, plan, shape, marks, found, other)
+        }
         Err(TermFault::NoMemory) => Err(NoMemory),
         Err(_) => by_none(alloc, plan, shape, marks),
     }
@@ -203,7 +209,8 @@ pub fn agree(
 ) -> Result<Agreement, NoMemory>
     requires fits { IsPlanFor plan.now shape.now }
     requires few_marks { length marks.now < 2 ^ 32 }
-    ensures { IfOk result (λ found. Agrees plan.now shape.now marks.now found) }
+    ensures agrees { IfOk result (λ found. Agrees plan.now shape.now marks.now found) }
+    ensures tried { IfOk result (λ found. AreNumbersTried plan.now shape.now marks.now found) }
 {
     match drawn_shape(alloc, shape) {
         Ok(drawn) => against(alloc, plan, shape, &drawn, marks),

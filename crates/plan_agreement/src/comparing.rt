@@ -21,7 +21,18 @@ pub(crate) struct Unlike {
     pub(crate) bytes: u64,
 }
 
-/// The places of the cell of the shape's own plan that holds a buffer at a rank; none, where no cell does.
+/// The cell of the shape's own plan that holds a buffer at a rank, if one does.
+pub(crate) fn due_cell(shape: &Shape, held: &BufferCells, buffer: u32, rank: Rank) -> Option<u32>
+    requires held { held.now ≡ (drawing_of shape.now).held }
+    requires buffer { buffer < length shape.now.buffers }
+    requires rank { rank < shape.now.ranks }
+    ensures { result ≡ held_cell (drawing_of shape.now).held buffer rank }
+{
+    shape.recall_form();
+    held.cell(buffer, rank)
+}
+
+/// Its places; none, where no cell does.
 fn due_places<'a>(
     shape: &Shape,
     own: &'a CellPlaces,
@@ -34,15 +45,14 @@ fn due_places<'a>(
     requires rank { rank < shape.now.ranks }
     ensures { result.now ≡ held_places own.now (held_cell (drawing_of shape.now).held buffer rank) }
 {
-    shape.recall_form();
-    match held.cell(buffer, rank) {
+    match due_cell(shape, held, buffer, rank) {
         Some(cell) => own.cell(cell),
         None => &[],
     }
 }
 
 /// Whether there are such a buffer, such a rank and such a cell.
-fn is_known(plan: &Plan, shape: &Shape, buffer: u32, rank: Rank, cell: u32) -> bool
+pub(crate) fn is_known(plan: &Plan, shape: &Shape, buffer: u32, rank: Rank, cell: u32) -> bool
     ensures buffer { result ≡ true → buffer < length shape.now.buffers }
     ensures rank { result ≡ true → rank < shape.now.ranks }
     ensures cell { result ≡ true → cell < length plan.now.cells }

@@ -13,6 +13,9 @@ ghost use Rattle.plan_agreement.specs.Agreement.{IsPlanFor};
 
 mod agreement;
 mod comparing;
+mod exact;
+mod numbers;
+mod sources;
 mod witness;
 
 pub use agreement::{Agreement, agree};

@@ -16,31 +16,64 @@ fn stepped(state: u64) -> u64 {
         .wrapping_add(1_442_695_040_888_963_407)
 }
 
-/// A byte of the kind of this try: all bytes, or small numbers.
-fn byte_of(kind: u32, state: u64) -> u8 {
-    let byte = ((state >> 33) % 256) as u8;
-    match kind % 3 {
-        0 => byte,
-        1 => byte % 3,
-        _ => byte % 2,
+/// How the bytes of a list are chosen.
+#[derive(Clone, Copy)]
+enum Bytes {
+    /// All are this one.
+    All(u8),
+    /// Any.
+    Any,
+    /// Zeros and ones.
+    Bits,
+    /// From zero to two.
+    Few,
+}
+
+/// How the bytes of a list are chosen in a try. In the first three it is known whether only one of two plans reads the list: its bytes
+/// then show in any fold, since all others together are what the fold would be without them, or is zero, or is greater.
+fn bytes_in(kind: u32, is_other: bool, state: u64) -> Bytes {
+    match kind {
+        0 => Bytes::All(if is_other { 1 } else { 0 }),
+        1 => Bytes::All(if is_other { 0 } else { 255 }),
+        2 => Bytes::All(if is_other { 128 } else { 0 }),
+        3 | 6 => Bytes::Any,
+        4 | 7 => Bytes::All(((state >> 33) % 2) as u8),
+        5 => Bytes::Bits,
+        _ => Bytes::Few,
+    }
+}
+
+/// A byte that is chosen so.
+fn byte_of(bytes: Bytes, state: u64) -> u8 {
+    let any = ((state >> 33) % 256) as u8;
+    match bytes {
+        Bytes::All(byte) => byte,
+        Bytes::Any => any,
+        Bytes::Bits => any % 2,
+        Bytes::Few => any % 3,
     }
 }
 
 /// So many bytes, by the generator from this state on.
-fn witness_list(alloc: Global, kind: u32, from: u64, count: u64) -> Result<InputList, AllocError>
+fn witness_list(
+    alloc: Global,
+    chosen: Bytes,
+    from: u64,
+    count: u64,
+) -> Result<InputList, AllocError>
     ensures { IfOk result (λ list. IsListOf count list) }
 {
     let mut state = from;
     let mut bytes = Vec::with_capacity(alloc, count as usize)?;
     for k in 0..count {
         state = stepped(state ^ k);
-        bytes.push(byte_of(kind, state))?;
+        bytes.push(byte_of(chosen, state))?;
     }
     Ok(InputList::of(bytes))
 }
 
 /// How many lists the inputs of a shape have together.
-fn list_count(shape: &Shape) -> u32
+pub(crate) fn list_count(shape: &Shape) -> u32
     ensures { result ≡ shape.now.inputs * shape.now.ranks }
 {
     shape.recall_form();
@@ -48,7 +81,7 @@ fn list_count(shape: &Shape) -> u32
 }
 
 /// The bytes of one of these lists, of which each input has one a rank.
-fn bytes_at(shape: &Shape, i: u32) -> u64
+pub(crate) fn bytes_at(shape: &Shape, i: u32) -> u64
     requires { i < shape.now.inputs * shape.now.ranks }
     ensures { result ≡ list_bytes (buffer_at shape.now (i / shape.now.ranks)) }
 {
@@ -58,25 +91,38 @@ fn bytes_at(shape: &Shape, i: u32) -> u64
     buffers[input as usize].list_bytes()
 }
 
-/// The lists of all inputs of a shape, rank by rank in each.
-fn witness_lists(alloc: Global, shape: &Shape, kind: u32) -> Result<Vec<InputList>, AllocError>
+/// The lists of all inputs of a shape, rank by rank in each, for a try. The list of the number `other` is one that only one of two plans
+/// reads.
+fn witness_lists(
+    alloc: Global,
+    shape: &Shape,
+    kind: u32,
+    other: u32,
+) -> Result<Vec<InputList>, AllocError>
     ensures { IfOk result (λ lists. AreWitnesses shape.now lists.items) }
 {
     let mut lists = Vec::new(alloc);
     for i in 0..list_count(shape) {
-        let state = u64::from(i).wrapping_mul(0x9E37_79B9_7F4A_7C15) ^ u64::from(kind);
-        let list = witness_list(alloc, kind, stepped(state), bytes_at(shape, i))?;
+        let state = stepped(u64::from(i).wrapping_mul(0x9E37_79B9_7F4A_7C15) ^ u64::from(kind));
+        let chosen = bytes_in(kind, i == other, state);
+        let list = witness_list(alloc, chosen, state, bytes_at(shape, i))?;
         lists.push(list)?;
     }
     Ok(lists)
 }
 
-/// Inputs of a shape, others for each kind.
-pub(crate) fn witness(alloc: Global, shape: &Shape, kind: u32) -> Result<Inputs, NoMemory>
+/// Inputs of a shape, others for each kind. The list of the number `other`, counted input by input and by rank in each, is one that only
+/// one of two plans reads, if there is one.
+pub(crate) fn witness(
+    alloc: Global,
+    shape: &Shape,
+    kind: u32,
+    other: u32,
+) -> Result<Inputs, NoMemory>
     ensures { IfOk result (λ inputs. AreInputs shape.now inputs) }
 {
     shape.recall_form();
-    match witness_lists(alloc, shape, kind) {
+    match witness_lists(alloc, shape, kind, other) {
         Ok(lists) => Ok(Inputs::of(shape.ranks(), shape.input_count(), lists)),
         Err(_) => Err(NoMemory),
     }

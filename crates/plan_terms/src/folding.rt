@@ -6,7 +6,7 @@ ghost use Rattle.ptl_types.specs.Operations.{bytes_of};
 ghost use Rattle.plan_core.specs.Plan.{cell};
 ghost use Rattle.plan_core.specs.Values.{land_all, land_as};
 ghost use Rattle.plan_terms.specs.terms.Terms.{IsSolution, Keeps, Lists};
-ghost use Rattle.plan_terms.specs.terms.Folds.{AreCombined, folds_bytes};
+ghost use Rattle.plan_terms.specs.terms.Folds.{AreCombined, AreFoldsBytes, folds_bytes};
 ghost use Rattle.plan_terms.specs.Cells.{ComesTo, carried_from};
 
 use crate::next_cell::NextCell;
@@ -147,6 +147,39 @@ pub(crate) fn land_atomics(
     Ok(())
 }
 
+/// The first place of a fold's bytes, whose members are put by rising places.
+fn place_in_order(
+    terms: &mut Terms,
+    alloc: Global,
+    op: AtomicOp,
+    ty: ElemType,
+    fold: &Members,
+) -> Result<u32, TermFault>
+    ensures keeps { Keeps terms.old terms.new }
+    ensures is { IfOk result (λ s. AreFoldsBytes terms.new op ty s fold.now) }
+{
+    let all = fold.in_order(alloc, op, ty)?;
+    terms.fold_place(alloc, op, ty, all.as_slice())
+}
+
+/// The first place of a fold's bytes.
+fn place_of_fold(
+    terms: &mut Terms,
+    alloc: Global,
+    op: AtomicOp,
+    ty: ElemType,
+    fold: &Members,
+) -> Result<u32, TermFault>
+    ensures keeps { Keeps terms.old terms.new }
+    ensures is { IfOk result (λ s. AreFoldsBytes terms.new op ty s fold.now) }
+{
+    if fold.is_settled() {
+        terms.fold_place(alloc, op, ty, fold.as_slice())
+    } else {
+        place_in_order(terms, alloc, op, ty, fold)
+    }
+}
+
 /// The places of the bytes of folds.
 pub(crate) fn fold_places(
     terms: &mut Terms,
@@ -162,7 +195,7 @@ pub(crate) fn fold_places(
     let size = ty.size() as u32;
     let mut places = Vec::new(alloc);
     for fold in folds {
-        let first = terms.fold_place(alloc, op, ty, fold.as_slice())?;
+        let first = place_of_fold(terms, alloc, op, ty, fold)?;
         push_run(&mut places, first, size)?;
     }
     Ok(places)

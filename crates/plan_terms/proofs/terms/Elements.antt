@@ -18,7 +18,7 @@ use Rattle.op_laws.proofs.Swaps.{pattern-little, span-is}
 use Rattle.plan_terms.specs.declared.terms.term.Member.{Member}
 use Rattle.plan_terms.specs.declared.terms.term.Making.TheVariants.{Bytes, Fold}
 use Rattle.plan_terms.specs.terms.Terms.{Table, again, bytes_at, fold_of, no_member, word_at}
-use Rattle.plan_terms.specs.terms.Folds.{AreFoldsBytes, IsFoldAt, IsPlaceOf, IsPlain, IsWordOf, folds_bytes}
+use Rattle.plan_terms.specs.terms.Folds.{AreFoldsBytes, AreMore, IsFoldAt, IsPlaceOf, IsPlain, IsWordOf, folds_bytes}
 use Rattle.plan_terms.proofs.terms.Folds.{fold-below, pattern-below, word-below}
 
 -- ---- the first bytes of a term
@@ -61,6 +61,12 @@ pub fold_bytes : (t : Table) (o : AtomicOp) (ty : ElemType) (s : ℕ) (ms : List
     → AreFoldsBytes t o ty s ms
 fold_bytes t o ty s ms is inputs V solution =
     first-bytes V s (fold_of V o ty ms) (bytes_of ty) (few_bytes ty) (is inputs V solution)
+
+-- the bytes of a fold whose members were put in another order
+pub other_order : (t : Table) (o : AtomicOp) (ty : ElemType) (s : ℕ) (ms listed ns : List Member) → listed ≡ ns → AreMore o ty ms ns []
+    → AreFoldsBytes t o ty s listed → AreFoldsBytes t o ty s ms
+other_order t o ty s ms listed ns e same is inputs V solution =
+    is inputs V solution ∙ ap (little_endian (bytes_of ty)) (ap (fold_of V o ty) e ∙ same V)
 
 -- ---- the word of some places
 pub run_word : (t : Table) (s : ℕ) (places : List ℕ) → places ≡ from_to s (length places) → IsWordOf t s places

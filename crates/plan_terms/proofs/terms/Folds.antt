@@ -1,5 +1,5 @@
 -- Folds of members.
-use Rattle.std.proofs.Common.{ℕ, suc, ◌+◌, ◌^◌, ◌≡◌, ◌<◌, List, [], ◌∷◌, ◌++◌, length, map, take, drop, set, get_or, refl, ap}
+use Rattle.std.proofs.Common.{ℕ, suc, ◌+◌, ◌^◌, ◌≡◌, ◌<◌, List, [], ◌∷◌, ◌++◌, length, map, take, drop, set, get_or, refl, ap, ap₂}
 use Rattle.std.proofs.Common.{sym}
 use Rattle.std.proofs.Common.{◌∙◌, subst, arith, drop-cons}
 use Rattle.std.proofs.lemmas.List.{set_split, take-append-drop, take_all, take_more}
@@ -64,12 +64,8 @@ fold-between V o ty ms ns m z l =
     ∙ fold-again V o ty ns x m.times (fold_from V o ty ms z) (word-below V ty m.word) (fold-below V o ty ms z l)
     ∙ ap (again m.times (λ y. op o ty y x)) (sym (fold-append V o ty ms ns z))
 
-pub insert-more : (o : AtomicOp) (ty : ElemType) (ms : List Member) (at : ℕ) (m : Member)
-    → IsMore o ty ms (take at ms ++ m ∷ drop at ms) m.word m.times
-insert-more o ty ms at m V =
-    fold-between V o ty (take at ms) (drop at ms) m (start_value o ty) (start-lt o ty)
-    ∙ ap (λ (ns : List Member). again m.times (λ y. op o ty y (word_at V (bytes_of ty) m.word)) (fold_of V o ty ns))
-    (take-append-drop at ms)
+pub push-more : (o : AtomicOp) (ty : ElemType) (ms : List Member) (m : Member) → IsMore o ty ms (ms ++ m ∷ []) m.word m.times
+push-more o ty ms m V = fold-append V o ty ms (m ∷ []) (start_value o ty)
 
 -- the list with the member at a place put in the middle
 split : (ms : List Member) (at : ℕ) → at < length ms → ms ≡ take at ms ++ get_or ms at no_member ∷ drop (suc at) ms
@@ -144,6 +140,26 @@ one_more_member o ty old now new ms i h so_far more V =
     ∙ ap f (so_far V)
     ∙ sym (fold-append V o ty (take i ms) (m ∷ []) (fold_of V o ty old))
     ∙ ap (λ (ns : List Member). fold_from V o ty ns (fold_of V o ty old)) (sym (take_more ms i no_member h))
+
+-- ---- members in another order
+pub more_after : (o : AtomicOp) (ty : ElemType) (old now new : List Member) (word times : ℕ) → AreMore o ty old now []
+    → IsMore o ty now new word times → IsMore o ty old new word times
+more_after o ty old now new word times same more V = more V ∙ ap (again times (λ y. op o ty y (word_at V (bytes_of ty) word))) (same V)
+
+pub all_after : (o : AtomicOp) (ty : ElemType) (old now new ms : List Member) → AreMore o ty old now [] → AreMore o ty now new ms
+    → AreMore o ty old new ms
+all_after o ty old now new ms same more V = more V ∙ ap (fold_from V o ty ms) (same V)
+
+-- a list whose halves were put in order, and then together
+pub halves_more : (o : AtomicOp) (ty : ElemType) (list first second early late all : List Member) → list ≡ first ++ second
+    → AreMore o ty first early [] → AreMore o ty second late [] → AreMore o ty early all late → AreMore o ty list all []
+halves_more o ty list first second early late all whole before after more V =
+    more V
+    ∙ fold-joined V o ty late early
+    ∙ ap₂ (op o ty) (before V) (after V)
+    ∙ sym (fold-joined V o ty second first)
+    ∙ sym (fold-append V o ty first second (start_value o ty))
+    ∙ ap (fold_of V o ty) (sym whole)
 
 -- ---- two lists at once
 -- the next member of the list that the others go on from

@@ -11,10 +11,10 @@ use ptl_types::{AtomicOp, ElemType};
 use std::alloc::Global;
 use std::marker::Model;
 
-/// A list with so many times more members takes them one by one.
+/// A list with so many times more members takes them one by one, and one alone always.
 const FEW: usize = 16;
 
-/// The members of a fold, by rising places, each once.
+/// The members of a fold, in any order. Now and then, and at the end, they are put by rising places, each once.
 #[derive(Drop)]
 pub struct Members {
     list: Vec<Member>,
@@ -29,21 +29,16 @@ impl Model for Members {
     ghost view = { λ m. m.list.items };
 }
 
-/// The place of the first member whose word isn't before this one.
-fn first_from(list: &[Member], word: u32) -> usize
-    ensures { result ≤ length list.now }
+/// Whether members stand by rising places, each once.
+fn are_rising(list: &[Member]) -> bool
+    ensures { result ≡ false → 2 ≤ length list.now }
 {
-    let mut low = 0usize;
-    let mut high = list.len();
-    while low < high {
-        let middle = low + (high - low) / 2;
-        if list[middle].word < word {
-            low = middle + 1;
-        } else {
-            high = middle;
+    for i in 1..list.len() {
+        if list[i].word <= list[i - 1].word {
+            return false;
         }
     }
-    low
+    true
 }
 
 impl Members {
@@ -121,45 +116,19 @@ impl Members {
         }
     }
 
-    /// Puts a member in between.
-    fn put_in(&mut self, at: usize, member: Member) -> Result<(), TermFault>
-        requires { at ≤ length self.old }
-        ensures { OnOk result (self.new ≡ take at self.old ++ member ∷ drop at self.old) }
+    /// Puts a member at the end.
+    fn push(&mut self, member: Member) -> Result<(), TermFault>
+        ensures { OnOk result (self.new ≡ self.old ++ member ∷ []) }
     {
-        self.list.insert(at, member)?;
+        self.list.push(member)?;
         Ok(())
     }
 
-    /// Adds a member at its place.
-    fn put(
-        &mut self,
-        op: AtomicOp,
-        ty: ElemType,
-        at: usize,
-        member: Member,
-    ) -> Result<(), TermFault>
-        requires { at ≤ length self.old }
+    /// Adds a member at the end.
+    fn put(&mut self, op: AtomicOp, ty: ElemType, member: Member) -> Result<(), TermFault>
         ensures { OnOk result (IsMore op ty self.old self.new member.word member.times) }
     {
-        self.put_in(at, member)
-    }
-
-    /// Combines a word so many times more.
-    pub(crate) fn add(
-        &mut self,
-        op: AtomicOp,
-        ty: ElemType,
-        word: u32,
-        times: u64,
-    ) -> Result<(), TermFault>
-        ensures { OnOk result (IsMore op ty self.old self.new word times) }
-    {
-        let at = first_from(self.list.as_slice(), word);
-        if at < self.list.len() && self.list[at].word == word {
-            self.count_up(op, ty, at, times)
-        } else {
-            self.put(op, ty, at, Member { word, times })
-        }
+        self.push(member)
     }
 
     /// Combines a word so many times more: it is that of the last member, or the new last one.
@@ -170,17 +139,92 @@ impl Members {
         if end > 0 && self.list[end - 1].word == member.word {
             self.count_up(op, ty, end - 1, member.times)
         } else {
-            self.put(op, ty, end, member)
+            self.put(op, ty, member)
         }
     }
 
+    /// Whether the members stand by rising places, each once.
+    pub(crate) fn is_settled(&self) -> bool {
+        are_rising(self.list.as_slice())
+    }
+
+    /// The members by rising places, each once. It takes the order of n log n steps.
+    pub(crate) fn in_order(
+        &self,
+        alloc: Global,
+        op: AtomicOp,
+        ty: ElemType,
+    ) -> Result<Members, TermFault>
+        ensures { IfOk result (λ all. AreMore op ty self.now all []) }
+    {
+        settled(alloc, op, ty, self.list.as_slice())
+    }
+
+    /// Puts the members by rising places, each once.
+    #[tactic(auto, using(crate::proofs::terms::Folds::no_more))]
+    fn settle(&mut self, alloc: Global, op: AtomicOp, ty: ElemType) -> Result<(), TermFault>
+        ensures { OnOk result (AreMore op ty self.old self.new []) }
+    {
+        if self.is_settled() {
+            return Ok(());
+        }
+        *self = self.in_order(alloc, op, ty)?;
+        Ok(())
+    }
+
+    /// Where there is no room for a further member, puts them by rising places, each once: then there is room again, or twice as much is
+    /// taken.
+    #[tactic(auto, using(crate::proofs::terms::Folds::no_more))]
+    fn settle_full(&mut self, alloc: Global, op: AtomicOp, ty: ElemType) -> Result<(), TermFault>
+        ensures { OnOk result (AreMore op ty self.old self.new []) }
+    {
+        if self.list.len() < self.list.capacity() {
+            return Ok(());
+        }
+        self.settle(alloc, op, ty)
+    }
+
+    /// Combines a word so many times more.
+    pub(crate) fn add(
+        &mut self,
+        alloc: Global,
+        op: AtomicOp,
+        ty: ElemType,
+        member: Member,
+    ) -> Result<(), TermFault>
+        ensures { OnOk result (IsMore op ty self.old self.new member.word member.times) }
+    {
+        self.settle_full(alloc, op, ty)?;
+        self.append(op, ty, member)
+    }
+
     /// Combines the words of these members, which are few, as many times as they say.
-    fn add_each(&mut self, op: AtomicOp, ty: ElemType, members: &[Member]) -> Result<(), TermFault>
+    fn add_each(
+        &mut self,
+        alloc: Global,
+        op: AtomicOp,
+        ty: ElemType,
+        members: &[Member],
+    ) -> Result<(), TermFault>
         ensures { OnOk result (AreMore op ty self.old self.new members.now) }
     {
         for member in members {
-            self.add(op, ty, member.word, member.times)?;
+            self.add(alloc, op, ty, *member)?;
         }
+        Ok(())
+    }
+
+    /// Joins the members with these. All stand by rising places.
+    fn join(
+        &mut self,
+        alloc: Global,
+        op: AtomicOp,
+        ty: ElemType,
+        members: &[Member],
+    ) -> Result<(), TermFault>
+        ensures { OnOk result (AreMore op ty self.old self.new members.now) }
+    {
+        *self = merged(alloc, op, ty, self.list.as_slice(), members)?;
         Ok(())
     }
 
@@ -194,11 +238,11 @@ impl Members {
     ) -> Result<(), TermFault>
         ensures { OnOk result (AreMore op ty self.old self.new members.now) }
     {
-        if members.len() < self.list.len() / FEW {
-            return self.add_each(op, ty, members);
+        if members.len() <= 1 + self.list.len() / FEW {
+            return self.add_each(alloc, op, ty, members);
         }
-        *self = merged(alloc, op, ty, self.list.as_slice(), members)?;
-        Ok(())
+        self.settle(alloc, op, ty)?;
+        self.join(alloc, op, ty, members)
     }
 }
 
@@ -240,4 +284,49 @@ fn merged(
         }
     }
     Ok(all)
+}
+
+/// The members of two lists together, each of which is by rising places.
+fn joined(
+    alloc: Global,
+    op: AtomicOp,
+    ty: ElemType,
+    first: &Members,
+    second: &Members,
+) -> Result<Members, TermFault>
+    ensures { IfOk result (λ all. AreMore op ty first.now all second.now) }
+{
+    merged(alloc, op, ty, first.as_slice(), second.as_slice())
+}
+
+/// The first half of a list, and the rest.
+fn halves(list: &[Member]) -> (&[Member], &[Member])
+    requires { 2 ≤ length list.now }
+    ensures together { list.now ≡ result.0.now ++ result.1.now }
+    ensures first { length result.0.now < length list.now }
+    ensures second { length result.1.now < length list.now }
+{
+    list.split_at(list.len() / 2)
+}
+
+/// The same members.
+fn copied(alloc: Global, list: &[Member]) -> Result<Members, TermFault>
+    ensures { IfOk result (λ all. all ≡ list.now) }
+{
+    Ok(Members {
+        list: Vec::from_slice(alloc, list)?,
+    })
+}
+
+/// The members of a list by rising places, each once.
+fn settled(alloc: Global, op: AtomicOp, ty: ElemType, list: &[Member]) -> Result<Members, TermFault>
+    ensures { IfOk result (λ all. AreMore op ty list.now all []) }
+{
+    if are_rising(list) {
+        return copied(alloc, list);
+    }
+    let (first, second) = halves(list);
+    let early = settled(alloc, op, ty, first)?;
+    let late = settled(alloc, op, ty, second)?;
+    joined(alloc, op, ty, &early, &late)
 }

@@ -5,10 +5,14 @@ ghost use Rattle.plan_terms.specs.terms.Terms.{AreBefore, Keeps, Lists, Solved, 
 ghost use Rattle.plan_terms.specs.terms.Folds.{IsPlaceOf};
 
 use crate::terms::fault::TermFault;
-use crate::terms::index::{TermIndex, list_of};
+use crate::terms::index::{TermIndex, hash_of};
 use crate::terms::term::{Making, Member, StoredTerm};
 use std::alloc::Global;
 use std::marker::Model;
+
+/// How many terms of a list are looked at. A list has few, but for terms that were sought out to have one hash. Where that isn't enough
+/// the term is made anew.
+const MOST_STEPS: u32 = 64;
 
 /// How many places there are.
 const MOST_PLACES: u64 = 4_294_967_295;
@@ -119,17 +123,25 @@ impl Terms {
         }
     }
 
-    /// The number of the term of these members, if there is one in its list.
-    fn find(&self, making: Making, members: &[Member], list: usize) -> Option<u32>
+    /// Whether term r, which is in a list, is that of these members, by their hash first.
+    fn is_listed(&self, r: u32, hash: u32, making: Making, members: &[Member]) -> bool
+        ensures known { result ≡ true → r < length self.now.terms }
+        ensures is { result ≡ true → get_or self.now.terms r no_term ≡ record { making = making; members = members.now } }
+    {
+        self.index.has_hash(r, hash) && self.is(r, making, members)
+    }
+
+    /// The number of the term of these members, if there is one among the last in its list.
+    fn find(&self, making: Making, members: &[Member], hash: u32) -> Option<u32>
         ensures known { IfSome result (λ r. r < length self.now.terms) }
         ensures is { IfSome result (λ r. get_or self.now.terms r no_term ≡ record { making = making; members = members.now }) }
     {
-        let mut at = self.index.last(list);
-        for _ in 0..self.terms.len() {
+        let mut at = self.index.last(hash);
+        for _ in 0..MOST_STEPS {
             if at as usize >= self.terms.len() {
                 return None;
             }
-            if self.is(at, making, members) {
+            if self.is_listed(at, hash, making, members) {
                 return Some(at);
             }
             at = self.index.earlier(at);
@@ -152,7 +164,7 @@ impl Terms {
         alloc: Global,
         making: Making,
         members: &[Member],
-        list: usize,
+        hash: u32,
     ) -> Result<u32, TermFault>
         ensures keeps { Keeps self.old self.new }
         ensures is { IfOk result (λ s. IsPlaceOf self.new s making members.now) }
@@ -163,7 +175,7 @@ impl Terms {
             return Err(TermFault::TooMany);
         }
         let term = StoredTerm::of(making, Vec::from_slice(alloc, members)?);
-        self.index.add(list, number as u32)?;
+        self.index.add(alloc, hash, number as u32)?;
         self.terms.push(term)?;
         Ok(first as u32)
     }
@@ -178,10 +190,10 @@ impl Terms {
         ensures keeps { Keeps self.old self.new }
         ensures is { IfOk result (λ s. IsPlaceOf self.new s making members.now) }
     {
-        let list = list_of(making, members);
-        match self.find(making, members, list) {
+        let hash = hash_of(making, members);
+        match self.find(making, members, hash) {
             Some(r) => Ok(self.place(r)),
-            None => self.add(alloc, making, members, list),
+            None => self.add(alloc, making, members, hash),
         }
     }
 

@@ -110,7 +110,7 @@ impl Terms {
     {
         match self.fold_at(op, ty, word) {
             Some(r) => members.add_all(alloc, op, ty, self.members(r)),
-            None => members.add(op, ty, word, 1),
+            None => members.add(alloc, op, ty, Member { word, times: 1 }),
         }
     }
 

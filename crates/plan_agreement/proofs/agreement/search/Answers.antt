@@ -1,13 +1,19 @@
--- The inputs that were tried last show it.
+-- Inputs of numbered bytes show it, or they are what is meant.
+use Rattle.plan_agreement.proofs.Lists.{all_units}
 use Rattle.plan_agreement.proofs.agreement.search.Goals as goal
 
-pub returns-then-found : goal.returns-then-found
-returns-then-found c = record {
-  mark = c.requires.unknown.mark;
-  before = c.requires.unknown.before;
-  taken = c.in_ok-inputs.ensures;
-  differs = c.in_ok-found.ensures c.if-found.true;
-}
+pub by_numbers-requires-clause-units : goal.by_numbers-requires-clause-units
+by_numbers-requires-clause-units c = all_units
 
-pub returns : goal.returns
-returns c = c.requires.unknown
+pub try_inputs-requires-clause-numbers : goal.try_inputs-requires-clause-numbers
+try_inputs-requires-clause-numbers c = rw c.in-None.is at c.in_ok-shown.ensures
+
+pub returns-in-Some-clause-agrees : goal.returns-in-Some-clause-agrees
+returns-in-Some-clause-agrees c =
+    let wrong = rw c.in-Some.is at c.in_ok-shown.ensures in
+    record {
+      mark = c.requires.unknown.mark;
+      before = c.requires.unknown.before;
+      taken = wrong.taken;
+      differs = wrong.differs;
+    }

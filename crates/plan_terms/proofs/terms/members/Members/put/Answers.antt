@@ -1,11 +1,11 @@
 use Rattle.std.proofs.Common.{ap, ◌∙◌}
 use Rattle.std.proofs.lemmas.Result.{on_ok_weaker}
 use Rattle.plan_terms.specs.terms.Terms.{fold_of}
-use Rattle.plan_terms.proofs.terms.Folds.{insert-more}
+use Rattle.plan_terms.proofs.terms.Folds.{push-more}
 use Rattle.plan_terms.proofs.terms.members.Members.put.Goals as goal
 
 pub returns : goal.returns
 returns c =
-    on_ok_weaker c.put_in.result
-    (λ e V. ap (fold_of V c.args.op c.args.ty) e ∙ insert-more c.args.op c.args.ty c.args.self.now c.args.at c.args.member V)
-    c.put_in.ensures
+    on_ok_weaker c.push.result
+    (λ e V. ap (fold_of V c.args.op c.args.ty) e ∙ push-more c.args.op c.args.ty c.args.self.now c.args.member V)
+    c.push.ensures

@@ -2,7 +2,7 @@
 use Rattle.std.proofs.Common.{◌<◌, ap, ◌∙◌, sym, subst}
 use Rattle.plan_core.specs.Draw.{HeldCells}
 use Rattle.schedule_compiler.proofs.shapes.Final.{fine-shape}
-use Rattle.plan_agreement.proofs.comparing.due_places.Goals as goal
+use Rattle.plan_agreement.proofs.comparing.due_cell.Goals as goal
 
 pub cell-requires-clause-buffer : goal.cell-requires-clause-buffer
 cell-requires-clause-buffer c =
