@@ -121,12 +121,21 @@ def links_that_overlap():
     return g.text()
 
 
+def entries(g, ranks, steps):
+    """For each barrier and rank a cell that waits for the rank's start."""
+    enter = [[g.cell(r) for r in range(ranks)] for _ in range(steps)]
+    for row in enter:
+        for r, c in enumerate(row):
+            g.link(r, c)
+    return enter
+
+
 def chain(spread):
     """64 barriers of 256 ranks, over as many cells and links as there may be: each enter cell leads to each leave cell through a chain
     of cells, each with links from the cells before it."""
     ranks, steps = 256, 64
     g = begun(ranks, 1, "barrier\n" * steps)
-    enter = [[g.cell(r) for r in range(ranks)] for _ in range(steps)]
+    enter = entries(g, ranks, steps)
     middle = g.cell(0)
     for row in enter:
         for c in row:
@@ -159,7 +168,7 @@ def barriers_far():
     """The same, with links from far away cells in place of a chain."""
     ranks, steps = 256, 64
     g = begun(ranks, 1, "barrier\n" * steps)
-    enter = [[g.cell(r) for r in range(ranks)] for _ in range(steps)]
+    enter = entries(g, ranks, steps)
     middle = g.cell(0)
     for row in enter:
         for c in row:
@@ -192,12 +201,17 @@ def bytes_put():
 
 
 def bytes_combined(times=100):
-    """A cell with many bytes, to which the one before it comes a hundred times: a text of a few thousand bytes."""
+    """A cell with many bytes, to which the one before it comes a hundred times: a text of a few thousand bytes, which is refused."""
     g = begun(2, 1)
     a, b = g.cell(0, 64_000_000, "sum"), g.cell(0, 64_000_000, "sum")
     for _ in range(times):
         g.link(a, b, "atomic", 64_000_000)
     return g.text()
+
+
+def bytes_carried():
+    """The same as often as is evaluated."""
+    return bytes_combined(4)
 
 
 def falling():
@@ -242,7 +256,7 @@ def ordered_folds():
 
 
 KINDS = [digits, blank, spaces, digits_in_a_plan, blank_after_a_plan, words_in_a_plan, enters, cells, links, links_that_overlap, barriers,
-         barriers_far, bytes_put, bytes_combined, falling, folds, ordered_folds]
+         barriers_far, bytes_put, bytes_combined, bytes_carried, falling, folds, ordered_folds]
 
 
 def measured(words, text):

@@ -1,5 +1,5 @@
 -- What is answered on the text of a description and of a plan that is given for it.
-use Rattle.std.specs.Prelude.{ℕ, Bool, ◌+◌, ◌*◌, ◌/◌, ◌^◌, ◌<◌, ◌≡◌, nat_lt, List, [], length, map}
+use Rattle.std.specs.Prelude.{ℕ, Bool, ◌+◌, ◌*◌, ◌/◌, ◌^◌, ◌<◌, ◌≡◌, ◌||◌, nat_lt, List, [], length, map}
 use Rattle.std.specs.Prelude.{sum_by, get_or, take, drop, Option, Some, None}
 use Rattle.std.specs.Prelude.{Result, Ok, Err, option_map, if◌then◌else◌}
 use Rattle.ptl_types.specs.Operations.{bytes_of}
@@ -36,6 +36,7 @@ use Rattle.given_verdicts.specs.declared.answer.FlawlessText.{FlawlessText}
 use Rattle.given_verdicts.specs.declared.answer.WrongResult.{WrongResult}
 use Rattle.given_verdicts.specs.declared.answer.Judged.{Judged}
 use Rattle.given_verdicts.specs.declared.answer.Judged.TheVariants.{Answered, Flawless}
+use Rattle.given_verdicts.specs.declared.for_inputs.TheConstants.{MOST_CARRIED}
 use Rattle.given_verdicts.specs.declared.judging.TheConstants.{LONGEST_GIVEN}
 use Rattle.given_verdicts.specs.Differences.{difference_from}
 
@@ -151,9 +152,9 @@ abbrev pub on_results : Option WrongResult → GivenAnswer
 on_results None = Holds
 on_results (Some wrong) = Fails wrong.line wrong.cause
 
--- a plan whose cells have too many bytes together isn't evaluated
+-- a plan whose cells have too many bytes together, or whose links carry too many, isn't evaluated
 abbrev pub is_large : Plan → Bool
-is_large p = nat_lt MOST_BYTES (sum_by (λ c. c.length) p.cells)
+is_large p = nat_lt MOST_BYTES (sum_by (λ c. c.length) p.cells) || nat_lt MOST_CARRIED (sum_by (λ k. k.length) p.links)
 
 abbrev pub on_size : FlawlessText → GivenAnswer
 on_size t =

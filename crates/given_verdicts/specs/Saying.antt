@@ -6,7 +6,7 @@ use Rattle.coll_lang.specs.Words.{refusal_word}
 use Rattle.given_lines.specs.declared.fault.GivenRefusal.{GivenRefusal}
 use Rattle.given_lines.specs.declared.fault.GivenRefusal.TheVariants as givens
 use Rattle.mark_judge.specs.declared.flaw.MarkFlaw.{MarkFlaw}
-use Rattle.mark_judge.specs.declared.flaw.MarkFlaw.TheVariants.{BadDone, BadResult, NoResult, BarrierOpen}
+use Rattle.mark_judge.specs.declared.flaw.MarkFlaw.TheVariants.{BadDone, BadResult, NoResult, EarlyEntry, BarrierOpen}
 use Rattle.plan_judge.specs.declared.flaw.PlanCause.{PlanCause}
 use Rattle.plan_judge.specs.declared.flaw.PlanCause.TheVariants.{NoRank, TooManyRanks, MissingCells, TooManyCells, TooManyLinks}
 use Rattle.plan_judge.specs.declared.flaw.PlanCause.TheVariants.{TooManyBytes}
@@ -56,6 +56,7 @@ abbrev pub mark_word : MarkFlaw → List ℕ
 mark_word (BadDone r) = codes "BadDone"
 mark_word (BadResult i) = codes "BadResult"
 mark_word (NoResult d) = codes "NoResult"
+mark_word (EarlyEntry i) = codes "EarlyEntry"
 mark_word (BarrierOpen i) = codes "BarrierOpen"
 
 abbrev pub given_word : GivenRefusal → List ℕ

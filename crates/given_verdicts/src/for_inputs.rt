@@ -1,7 +1,9 @@
 //! The answer on a text for the inputs of its description.
 
-ghost use Rattle.std.specs.Prelude.{◌≡◌, IfOk};
+ghost use Rattle.std.specs.Prelude.{◌≡◌, IfOk, nat_lt, sum_by};
 ghost use Rattle.coll_shape.specs.Meaning.{AreInputs};
+ghost use Rattle.schedule_compiler.specs.declared.shapes.judging.TheConstants.{MOST_BYTES};
+ghost use Rattle.given_verdicts.specs.declared.for_inputs.TheConstants.{MOST_CARRIED};
 ghost use Rattle.given_verdicts.specs.Answers.{IsFlawless, answer_of, is_large, on_results, on_size, wrong_for};
 
 use crate::answer::{FlawlessText, GivenAnswer, Judged, WrongResult};
@@ -9,7 +11,7 @@ use crate::judging::{judge_text, too_large};
 use crate::results::first_wrong;
 use coll_meaning::buffers_of;
 use coll_shape::Inputs;
-use plan_core::Plan;
+use plan_core::{Cell, Link, Plan};
 use plan_judge::values::{judged_plans, values};
 use ptl_types::NoMemory;
 use schedule_compiler::shapes::MOST_BYTES;
@@ -41,11 +43,14 @@ pub fn wrong_for(
     }
 }
 
-/// Whether the cells of a plan have more bytes together than are evaluated.
-pub fn is_large(plan: &Plan) -> bool
-    ensures { result ≡ is_large plan.now }
+/// The most bytes that the links of a plan carry together when it is evaluated. It is twice that of cells, which no plan passes that is
+/// compiled from a description: in the cells of each of its steps at most two bytes land for each that they have.
+pub const MOST_CARRIED: u64 = 268_435_456;
+
+/// Whether these cells have more bytes together than are evaluated.
+fn are_large(cells: &[Cell]) -> bool
+    ensures { result ≡ nat_lt MOST_BYTES (sum_by (λ c. c.length) cells.now) }
 {
-    let cells = plan.cells();
     let mut left = MOST_BYTES;
     for cell in cells {
         if cell.length > left {
@@ -54,6 +59,27 @@ pub fn is_large(plan: &Plan) -> bool
         left -= cell.length;
     }
     false
+}
+
+/// Whether these links carry more bytes together than are evaluated.
+fn are_heavy(links: &[Link]) -> bool
+    ensures { result ≡ nat_lt MOST_CARRIED (sum_by (λ k. k.length) links.now) }
+{
+    let mut left = MOST_CARRIED;
+    for link in links {
+        if link.length > left {
+            return true;
+        }
+        left -= link.length;
+    }
+    false
+}
+
+/// Whether the cells of a plan have more bytes together than are evaluated, or its links carry more.
+pub fn is_large(plan: &Plan) -> bool
+    ensures { result ≡ is_large plan.now }
+{
+    are_large(plan.cells()) || are_heavy(plan.links())
 }
 
 /// What the results of a plan show.

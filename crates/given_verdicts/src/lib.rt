@@ -13,7 +13,7 @@ mod results;
 mod saying;
 
 pub use answer::{FlawlessText, GivenAnswer, GivenCause, Judged, TextRefusal, WrongResult};
-pub use for_inputs::{answer_of, is_large, wrong_for};
+pub use for_inputs::{MOST_CARRIED, answer_of, is_large, wrong_for};
 pub use judging::{LONGEST_GIVEN, judge_text, too_large};
 pub use results::{element_size, name_of};
 pub use saying::answer_line;

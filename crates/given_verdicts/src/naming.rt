@@ -61,6 +61,7 @@ pub(crate) fn mark_word(flaw: MarkFlaw) -> &'static [u8]
         MarkFlaw::BadDone { .. } => b"BadDone",
         MarkFlaw::BadResult { .. } => b"BadResult",
         MarkFlaw::NoResult { .. } => b"NoResult",
+        MarkFlaw::EarlyEntry { .. } => b"EarlyEntry",
         MarkFlaw::BarrierOpen { .. } => b"BarrierOpen",
     }
 }

@@ -133,3 +133,30 @@ fn faults_are_the_same_for_all_inputs(rt: HostRuntime) -> Result<(), Fail> {
         ["fails 22 OutOfSource\n", "fails 22 OutOfSource\n"],
     )
 }
+
+/// A text of six lines and a plan in which so many atomics, each of 32 MiB, come to one cell.
+fn carrying(alloc: Global, atomics: u32) -> Result<String, Fail> {
+    let links = u64::from(atomics) + 1;
+    let mut text = format!(in alloc;
+        "coll 2\nranks 1\ninput a u8 1\n7\nprint a\nend\n\
+        plan 1 4 {links} local\ncell 0 0 u8 - 0 1\ncell 1 0 u8 - 1 1\n\
+        cell 2 0 u64 sum 33554432 0\ncell 3 0 u64 sum 33554432 {atomics}\nlink 0 0 0 0 1 0 bump\n"
+    )?;
+    for l in 0..atomics {
+        let number = l + 1;
+        let link = format!(in alloc; "link {number} 2 0 33554432 3 0 atomic\n")?;
+        text.push_str(link.as_str())?;
+    }
+    text.push_str("done 0 4\nresult a 0 1\nend\n")?;
+    Ok(text)
+}
+
+#[test]
+fn bytes_that_links_carry(rt: HostRuntime) -> Result<(), Fail> {
+    let alloc = rt.alloc();
+    let most = carrying(alloc, 8)?;
+    says(&rt, alloc, most.as_str(), "holds\n")?;
+    let more = carrying(alloc, 9)?;
+    says(&rt, alloc, more.as_str(), "refused 7 TooLarge\n")?;
+    says_of_all(&rt, alloc, more.as_str(), "refused 7 TooLarge\n")
+}

@@ -11,6 +11,8 @@ mod causes;
 #[cfg(test)]
 mod drawing;
 #[cfg(test)]
+mod entering;
+#[cfg(test)]
 mod evaluated;
 #[cfg(test)]
 mod general;

@@ -4,5 +4,6 @@ pub mod Chains
 pub mod Naming
 pub mod Bits
 pub mod Opening
+pub mod Binding
 pub mod Good
 pub mod Right

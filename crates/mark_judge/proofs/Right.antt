@@ -3,8 +3,8 @@ use Rattle.std.proofs.Common.{ℕ, Bool, true, false, cond, not, ◌&&◌, ◌�
 use Rattle.std.proofs.Common.{sym, subst, length, get_or, take, inl, inr, arith}
 use Rattle.std.specs.List.{list_any}
 use Rattle.std.specs.Option.{option_or}
-use Rattle.std.proofs.lemmas.Bool.{and_from, and_parts, cases_Bool, eqb-true, eq-eqb, false_from_ne_true, false≢true, not-true}
-use Rattle.std.proofs.lemmas.Bool.{not_from_false}
+use Rattle.std.proofs.lemmas.Bool.{and_from, and_parts, cases_Bool, eqb-true, eq-eqb, false_from_ne_true, false≢true, not-false, not-true}
+use Rattle.std.proofs.lemmas.Bool.{not_from_false, not_from_true}
 use Rattle.std.proofs.lemmas.List.{get_or-take, length-take-le}
 use Rattle.std.proofs.lemmas.List.Folds.{list_any_at}
 use Rattle.std.proofs.lemmas.Option.{none-some}
@@ -17,10 +17,11 @@ use Rattle.given_lines.specs.declared.given.Mark.TheVariants as marks
 use Rattle.mark_judge.specs.declared.flaw.Due.{Due}
 use Rattle.mark_judge.specs.declared.flaw.Due.TheVariants.{Result, Enter, Leave}
 use Rattle.mark_judge.specs.declared.flaw.MarkFlaw.{MarkFlaw}
-use Rattle.mark_judge.specs.declared.flaw.MarkFlaw.TheVariants.{BadDone, BadResult, NoResult, BarrierOpen}
+use Rattle.mark_judge.specs.declared.flaw.MarkFlaw.TheVariants.{BadDone, BadResult, NoResult, EarlyEntry, BarrierOpen}
+use Rattle.mark_judge.specs.Bound.{is_bound}
 use Rattle.mark_judge.specs.Due.{cell_of, does_fit, due_of, is_barrier_at, is_due, is_good, is_named, is_same, mark_at, no_mark}
-use Rattle.mark_judge.specs.Judged.{done_flaw, is_apart, is_open, line_flaw, marks_flaw, marks_judged, missing, missing_at}
-use Rattle.mark_judge.specs.Judged.{missing_barriers}
+use Rattle.mark_judge.specs.Judged.{barriers_flaw, done_flaw, early_flaw, is_apart, is_early, is_open, line_flaw, marks_flaw, marks_judged}
+use Rattle.mark_judge.specs.Judged.{missing, missing_at, missing_barriers}
 use Rattle.mark_judge.specs.Judged.{missing_member, missing_results, open_flaw}
 use Rattle.mark_judge.specs.Leading.{leads}
 use Rattle.mark_judge.specs.Marked.{AreMarked, DoesFit, IsDue, IsMember}
@@ -114,27 +115,30 @@ record Clear (p : Plan) (o : Outline) (said : List ℕ) (ms : List Mark) : Type 
   lines : (i : ℕ) → i < length ms → line_flaw p o ms i ≡ None
   results : missing_results o (is_named ms) ≡ None
   barriers : missing_barriers o (is_named ms) ≡ None
+  begun : (i : ℕ) → i < length ms → early_flaw p ms i ≡ None
   closed : (i : ℕ) → i < length ms → open_flaw p ms i ≡ None
 
 from_judged : (p : Plan) (o : Outline) (done : List ℕ) (ms : List Mark) → marks_judged p o done ms ≡ None → Clear p o done ms
-from_judged p o done ms e =
-    let a = or_clear (first_found (done_flaw p done) (from_to 0 p.ranks)) (marks_flaw p o ms) e in
-    let ending = first_found (open_flaw p ms) (from_to 0 (length ms)) in
+from_judged p o done ms clear =
+    let a = or_clear (first_found (done_flaw p done) (from_to 0 p.ranks)) (marks_flaw p o ms) clear in
+    let ending = barriers_flaw p ms in
     let b = or_clear (first_found (line_flaw p o ms) (from_to 0 (length ms)))
     (option_or (missing_results o (is_named ms)) (option_or (missing_barriers o (is_named ms)) ending)) a.1 in
     let c = or_clear (missing_results o (is_named ms)) (option_or (missing_barriers o (is_named ms)) ending) b.1 in
     let d = or_clear (missing_barriers o (is_named ms)) ending c.1 in
+    let e = or_clear (first_found (early_flaw p ms) (from_to 0 (length ms))) (first_found (open_flaw p ms) (from_to 0 (length ms))) d.1 in
     record {
       done = λ r h. none_found (done_flaw p done) 0 p.ranks a.0 r (omega arith) (omega arith);
       lines = λ i h. none_found (line_flaw p o ms) 0 (length ms) b.0 i (omega arith) (omega arith);
       results = c.0;
       barriers = d.0;
-      closed = λ i h. none_found (open_flaw p ms) 0 (length ms) d.1 i (omega arith) (omega arith);
+      begun = λ i h. none_found (early_flaw p ms) 0 (length ms) e.0 i (omega arith) (omega arith);
+      closed = λ i h. none_found (open_flaw p ms) 0 (length ms) e.1 i (omega arith) (omega arith);
     }
 
 to_judged : (p : Plan) (o : Outline) (done : List ℕ) (ms : List Mark) → Clear p o done ms → marks_judged p o done ms ≡ None
 to_judged p o done ms k =
-    let ending = first_found (open_flaw p ms) (from_to 0 (length ms)) in
+    let ending = barriers_flaw p ms in
     clear_or (first_found (done_flaw p done) (from_to 0 p.ranks)) (marks_flaw p o ms)
     (found_none (done_flaw p done) 0 p.ranks (λ r a h. k.done r (omega arith)))
     ∙ clear_or (first_found (line_flaw p o ms) (from_to 0 (length ms)))
@@ -142,6 +146,8 @@ to_judged p o done ms k =
     (found_none (line_flaw p o ms) 0 (length ms) (λ i a h. k.lines i (omega arith)))
     ∙ clear_or (missing_results o (is_named ms)) (option_or (missing_barriers o (is_named ms)) ending) k.results
     ∙ clear_or (missing_barriers o (is_named ms)) ending k.barriers
+    ∙ clear_or (first_found (early_flaw p ms) (from_to 0 (length ms))) (first_found (open_flaw p ms) (from_to 0 (length ms)))
+    (found_none (early_flaw p ms) 0 (length ms) (λ i a h. k.begun i (omega arith)))
     ∙ found_none (open_flaw p ms) 0 (length ms) (λ i a h. k.closed i (omega arith))
 
 -- ---- what is asked for has a line
@@ -188,6 +194,19 @@ no_barrier o ms all =
     member_in s r t j = member-is o s r (and_from (is_barrier_at o s) (is_in r (group_at o s)) t (In-is_in r (group_at o s) j))
 
 -- ---- barriers
+begun_at : (p : Plan) (ms : List Mark) → ((i : ℕ) → i < length ms → early_flaw p ms i ≡ None) → (s r c : ℕ) → In (marks.Enter s r c) ms
+    → is_bound p c ≡ true
+begun_at p ms begun s r c enters =
+    let i = get_or-In (marks.Enter s r c) ms no_mark enters in
+    not-false (is_bound p c)
+    (ap (is_early p) (sym i.2) ∙ failed (is_early p (mark_at ms i.0)) (EarlyEntry i.0) (begun i.0 i.1))
+
+early_none : (p : Plan) (ms : List Mark) → ((s r c : ℕ) → In (marks.Enter s r c) ms → is_bound p c ≡ true) → (m : Mark) → In m ms
+    → is_early p m ≡ false
+early_none p ms all (marks.Result b r c) i = refl
+early_none p ms all (marks.Enter s r c) i = not_from_true (is_bound p c) (all s r c i)
+early_none p ms all (marks.Leave s r c) i = refl
+
 closed_at : (p : Plan) (ms : List Mark) → ((i : ℕ) → i < length ms → open_flaw p ms i ≡ None) → (s r q b c : ℕ)
     → In (marks.Enter s r b) ms → In (marks.Leave s q c) ms → leads p b c ≡ true
 closed_at p ms closed s r q b c enters leaves =
@@ -228,6 +247,7 @@ judged_right p o done ms up e =
       fit = λ i h. good_fit p o (mark_at ms i) (line_good p o ms i (k.lines i h));
       once = λ i j lt h q. false≢true (sym (line_new p o ms j (k.lines j h)) ∙ earlier ms i j lt h q);
       all = λ d h. named-is ms d (has_line o ms k.results k.barriers d h);
+      begun = λ s r c h. begun_at p ms k.begun s r c h;
       closed = λ s r q b c h i. leads-Leads p b c (closed_at p ms k.closed s r q b c h i);
     }
 
@@ -243,6 +263,8 @@ right_judged p o done ms up a =
           (not_from_false (is_named (take i ms) (due_of (mark_at ms i))) (first_for i h)));
       results = no_result o ms all;
       barriers = no_barrier o ms all;
+      begun = λ i h. fails (is_early p (mark_at ms i)) (EarlyEntry i)
+          (early_none p ms a.begun (mark_at ms i) (In-get_or ms i no_mark h));
       closed = λ i h. fails (is_open p ms (mark_at ms i)) (BarrierOpen i)
           (open_none p ms (λ s r q b c e l. Leads-leads p up b c (a.closed s r q b c e l)) (mark_at ms i) (In-get_or ms i no_mark h));
     })

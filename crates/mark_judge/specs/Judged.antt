@@ -9,7 +9,8 @@ use Rattle.given_lines.specs.declared.given.Mark.TheVariants as marks
 use Rattle.mark_judge.specs.declared.flaw.Due.{Due}
 use Rattle.mark_judge.specs.declared.flaw.Due.TheVariants as dues
 use Rattle.mark_judge.specs.declared.flaw.MarkFlaw.{MarkFlaw}
-use Rattle.mark_judge.specs.declared.flaw.MarkFlaw.TheVariants.{BadDone, BadResult, NoResult, BarrierOpen}
+use Rattle.mark_judge.specs.declared.flaw.MarkFlaw.TheVariants.{BadDone, BadResult, NoResult, EarlyEntry, BarrierOpen}
+use Rattle.mark_judge.specs.Bound.{is_bound}
 use Rattle.mark_judge.specs.Due.{due_of, is_barrier_at, is_good, is_named, mark_at}
 use Rattle.mark_judge.specs.Leading.{leads}
 use Rattle.plan_core.specs.calls.RankOps.{done_threshold}
@@ -45,6 +46,14 @@ abbrev pub missing_barriers : Outline → (Due → Bool) → Option MarkFlaw
 missing_barriers o named = first_found (missing_at o named) (from_to 0 (length o.steps))
 
 -- ---- a barrier
+-- the line names where a rank enters a step, in a cell that may be reached before that rank's start
+abbrev pub is_early : Plan → Mark → Bool
+is_early p (marks.Enter s r c) = not (is_bound p c)
+is_early p _ = false
+
+abbrev pub early_flaw : Plan → List Mark → ℕ → Option MarkFlaw
+early_flaw p ms i = if is_early p (mark_at ms i) then Some (EarlyEntry i) else None
+
 -- the line names where a rank enters step s, from where no chain of links leads to cell c
 abbrev pub is_apart : Plan → ℕ → ℕ → Mark → Bool
 is_apart p s c (marks.Enter t r b) = (t == s) && not (leads p b c)
@@ -58,6 +67,11 @@ is_open p ms _ = false
 abbrev pub open_flaw : Plan → List Mark → ℕ → Option MarkFlaw
 open_flaw p ms i = if is_open p ms (mark_at ms i) then Some (BarrierOpen i) else None
 
+-- of those where ranks enter, then of those where they leave
+abbrev pub barriers_flaw : Plan → List Mark → Option MarkFlaw
+barriers_flaw p ms =
+    option_or (first_found (early_flaw p ms) (from_to 0 (length ms))) (first_found (open_flaw p ms) (from_to 0 (length ms)))
+
 -- ---- all of them
 
 -- of the lines one by one, in order, then of what is missing, then of the barriers
@@ -65,7 +79,7 @@ abbrev pub marks_flaw : Plan → Outline → List Mark → Option MarkFlaw
 marks_flaw p o ms =
     option_or (first_found (line_flaw p o ms) (from_to 0 (length ms)))
     (option_or (missing_results o (is_named ms))
-    (option_or (missing_barriers o (is_named ms)) (first_found (open_flaw p ms) (from_to 0 (length ms)))))
+    (option_or (missing_barriers o (is_named ms)) (barriers_flaw p ms)))
 
 -- The first flaw of the lines after the links of a plan, for a description.
 abbrev pub marks_judged : Plan → Outline → List ℕ → List Mark → Option MarkFlaw

@@ -1,3 +1,4 @@
+pub mod Bound
 pub mod Leading
 pub mod Due
 pub mod Judged

@@ -39,6 +39,11 @@ abbrev pub AreNamed : List Mark → List Bool → Type 0
 AreNamed ms named = (d : Due) → has named d ≡ is_named ms d
 
 -- ---- where barriers are entered
+-- the line names where a rank enters a step, in a cell of which the table doesn't say that it is reached after its rank's start alone
+abbrev pub is_unbound : List Bool → Mark → Bool
+is_unbound bound (marks.Enter s r c) = not (get_or bound c false)
+is_unbound bound _ = false
+
 abbrev pub no_entry : Entry
 no_entry = record { step = 0; cell = 0 }
 

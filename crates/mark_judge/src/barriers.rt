@@ -1,4 +1,4 @@
-//! Whether from each cell where a barrier is entered links lead to each where it is left.
+//! Whether ranks enter barriers after their start alone, and from each cell where a barrier is entered links lead to each where it is left.
 
 ghost use Rattle.std.specs.Prelude.{ℕ, ◌≡◌, ◌<◌, ◌≤◌, ◌+◌, ◌-◌, ◌^◌, ◌||◌, false, if◌then◌else◌, None, Some, true, IfOk, get_or, length};
 ghost use Rattle.std.specs.Prelude.{map, set};
@@ -6,13 +6,14 @@ ghost use Rattle.std.specs.List.{list_any};
 ghost use Rattle.number_lists.specs.Numbers.{from_to};
 ghost use Rattle.mark_judge.specs.declared.flaw.MarkFlaw.TheVariants.{BarrierOpen};
 ghost use Rattle.mark_judge.specs.Due.{cell_of, mark_at};
-ghost use Rattle.mark_judge.specs.Judged.{is_open, open_flaw};
+ghost use Rattle.mark_judge.specs.Judged.{barriers_flaw, is_open, open_flaw};
 ghost use Rattle.mark_judge.specs.Tables.{does_miss, is_unmet};
 ghost use Rattle.plan_core.specs.Plan.{all_cells, in_links};
 ghost use Rattle.plan_core.specs.Sound.{SoundLink};
 ghost use Rattle.plan_judge.specs.Causes.{first_found};
 
 use crate::asked::mark_at;
+use crate::bound::first_early_flaw;
 use crate::entries::{Entry, entries_of, lacks_one};
 use crate::entry_bits::Bits;
 use crate::flaw::MarkFlaw;
@@ -130,7 +131,32 @@ fn first_open(unmet: &[bool]) -> Option<MarkFlaw>
 /// # Errors
 ///
 /// There was no memory for the tables.
-pub(crate) fn first_open_flaw(
+fn first_open_flaw(
+    alloc: Global,
+    plan: &Plan,
+    into: &ByRank,
+    marks: &[Mark],
+) -> Result<Option<MarkFlaw>, NoMemory>
+    requires at_most { length plan.now.cells + length plan.now.links < 2 ^ 32 - 1 }
+    requires links { (l : ℕ) → l < length plan.now.links → SoundLink plan.now l }
+    requires table { into.now ≡ map (in_links plan.now) (all_cells plan.now) }
+    requires few_marks { length marks.now < 2 ^ 32 }
+    requires known { (i : ℕ) → i < length marks.now → cell_of (mark_at marks.now i) < length plan.now.cells }
+    ensures { IfOk result (λ flaw. flaw ≡ first_found (open_flaw plan.now marks.now) (from_to 0 (length marks.now))) }
+{
+    match open_lines(alloc, plan, into, marks) {
+        Ok(unmet) => Ok(first_open(unmet.as_slice())),
+        Err(_) => Err(NoMemory),
+    }
+}
+
+/// The first line that names where a rank enters a step in a cell which may be reached before that rank's start; else the first that names
+/// where a rank leaves a step such that some cell where a rank enters that step doesn't lead there.
+///
+/// # Errors
+///
+/// There was no memory for the tables.
+pub(crate) fn first_barrier_flaw(
     alloc: Global,
     plan: &Plan,
     marks: &[Mark],
@@ -139,11 +165,12 @@ pub(crate) fn first_open_flaw(
     requires links { (l : ℕ) → l < length plan.now.links → SoundLink plan.now l }
     requires few_marks { length marks.now < 2 ^ 32 }
     requires known { (i : ℕ) → i < length marks.now → cell_of (mark_at marks.now i) < length plan.now.cells }
-    ensures { IfOk result (λ flaw. flaw ≡ first_found (open_flaw plan.now marks.now) (from_to 0 (length marks.now))) }
+    ensures { IfOk result (λ flaw. flaw ≡ barriers_flaw plan.now marks.now) }
 {
     let into = links_by_target(alloc, plan)?;
-    match open_lines(alloc, plan, &into, marks) {
-        Ok(unmet) => Ok(first_open(unmet.as_slice())),
-        Err(_) => Err(NoMemory),
+    let early = first_early_flaw(alloc, plan, &into, marks)?;
+    if early.is_some() {
+        return Ok(early);
     }
+    first_open_flaw(alloc, plan, &into, marks)
 }

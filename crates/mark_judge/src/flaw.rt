@@ -54,6 +54,12 @@ pub enum MarkFlaw {
         /// What is missing.
         due: Due,
     },
+    /// The line names a cell where a rank enters a barrier, which may be reached before that rank's start: it isn't the rank's go cell,
+    /// no message comes to it, and no bump comes to it from a cell that isn't reached before the start either.
+    EarlyEntry {
+        /// The line.
+        mark: u32,
+    },
     /// From some cell where a rank enters the barrier no chain of links leads to the cell where this line says that a rank leaves it.
     BarrierOpen {
         /// The line.
@@ -67,6 +73,7 @@ impl fmt::Display for MarkFlaw {
             MarkFlaw::BadDone { .. } => "BadDone",
             MarkFlaw::BadResult { .. } => "BadResult",
             MarkFlaw::NoResult { .. } => "NoResult",
+            MarkFlaw::EarlyEntry { .. } => "EarlyEntry",
             MarkFlaw::BarrierOpen { .. } => "BarrierOpen",
         })
     }
@@ -91,9 +98,9 @@ pub fn line_of(first: u32, plan: &Plan, marks: &[Mark], flaw: MarkFlaw) -> u64
     let ranks = u64::from(plan.ranks());
     match flaw {
         MarkFlaw::BadDone { rank } => done + u64::from(rank),
-        MarkFlaw::BadResult { mark } | MarkFlaw::BarrierOpen { mark } => done
-            + ranks
-            + u64::from(mark),
+        MarkFlaw::BadResult { mark }
+        | MarkFlaw::EarlyEntry { mark }
+        | MarkFlaw::BarrierOpen { mark } => done + ranks + u64::from(mark),
         MarkFlaw::NoResult { .. } => done + ranks + marks.len() as u64,
     }
 }

@@ -4,7 +4,7 @@ ghost use Rattle.std.specs.Prelude.{◌≡◌, ◌<◌, ◌^◌, IfOk, length};
 ghost use Rattle.mark_judge.specs.Judged.{marks_flaw, marks_judged};
 ghost use Rattle.plan_core.specs.Sound.{SoundPlan};
 
-use crate::barriers::first_open_flaw;
+use crate::barriers::first_barrier_flaw;
 use crate::done::first_done_flaw;
 use crate::flaw::MarkFlaw;
 use crate::lines::first_line_flaw;
@@ -42,12 +42,13 @@ fn marks_flaw(
     if barrier.is_some() {
         return Ok(barrier);
     }
-    first_open_flaw(alloc, plan, marks)
+    first_barrier_flaw(alloc, plan, marks)
 }
 
 /// The first flaw of what a sound plan's text says after its links, for a description: of the lines `done` by rank; then of the lines
 /// `result`, `enter` and `leave` one by one, in order; then what the description asks for and no line is for, results before barriers;
-/// then the first `leave` to which not each `enter` of its step leads. None: `no_mark_flaw` says what then holds.
+/// then the first `enter` whose cell may be reached before its rank's start; then the first `leave` to which not each `enter` of its step
+/// leads. None: `no_mark_flaw` says what then holds.
 ///
 /// It takes a number of steps in the order of the plan's cells and links, once for each 256 lines `enter`, of which a description asks
 /// for 16,384 at most.

@@ -12,6 +12,7 @@ ghost use Rattle.plan_core.specs.Sound.{SoundPlan};
 
 mod asked;
 mod barriers;
+mod bound;
 mod done;
 mod entries;
 mod entry_bits;

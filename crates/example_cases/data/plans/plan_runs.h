@@ -311,7 +311,7 @@ typedef struct { Message at[2 * LINKS]; int first, end; } Lane;
 static struct {
     const Plan *plan;
     char fault[160];
-    bool is_early; /* before its rank's start a cell's memory was read, or it stood for an entry into a barrier: it waits for nothing */
+    bool is_early; /* before its rank's start a cell's memory was read: it waits for nothing */
     int begins[CELLS], count[CELLS], stands[RANKS], all_bytes, inputs;
     bool went[CELLS], awake[RANKS];
     uint8_t memory[MEMORY], carried[MEMORY * 4];
@@ -342,7 +342,6 @@ static void leave(const Mark *at) {
     for (const Mark *e = p->mark; e < p->mark + p->marks; e++) {
         if (e->what != ENTER || e->of != at->of) continue;
         if (!run.went[e->cell]) fault("barrier %d is left at rank %d before rank %d entered it", at->of, at->rank, e->rank);
-        run.is_early |= !run.awake[e->rank];
     }
 }
 
@@ -352,8 +351,12 @@ static void reached(int cell) {
     run.went[cell] = true;
     run.ready[run.readies++] = p->links + cell;
     for (int i = run.out_first[cell]; i < run.out_first[cell + 1]; i++) run.ready[run.readies++] = run.out[i];
-    for (int m = 0; m < p->marks; m++)
-        if (p->mark[m].what == LEAVE && p->mark[m].cell == cell) leave(&p->mark[m]);
+    for (int m = 0; m < p->marks; m++) {
+        const Mark *it = &p->mark[m];
+        if (it->cell != cell) continue;
+        if (it->what == ENTER && !run.awake[it->rank]) fault("rank %d enters barrier %d before its start", it->rank, it->of);
+        if (it->what == LEAVE) leave(it);
+    }
 }
 
 static void raise_cell(int cell) {

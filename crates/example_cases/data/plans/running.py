@@ -169,7 +169,10 @@ class Run:
         self.passed(cell)
 
     def passed(self, cell):
-        """Where a cell is one at which a rank leaves a barrier, all have entered it."""
+        """Where a cell is one at which a rank enters a barrier, it has started; where it leaves one, all have entered it."""
+        for (step, rank), number in self.given.enters.items():
+            if number == cell and rank in self.asleep:
+                self.fault = f"barrier {step} is entered before rank {rank} starts"
         for (step, _), number in self.given.leaves.items():
             if number == cell and any(not self.went[c] for (s, _), c in self.given.enters.items() if s == step):
                 self.fault = f"barrier {step} is left too early"

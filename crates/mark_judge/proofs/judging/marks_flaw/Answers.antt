@@ -7,7 +7,7 @@ use Rattle.coll_shape.specs.Outline.{Outline}
 use Rattle.given_lines.specs.declared.given.Mark.{Mark}
 use Rattle.mark_judge.specs.declared.flaw.MarkFlaw.{MarkFlaw}
 use Rattle.mark_judge.specs.Due.{is_named}
-use Rattle.mark_judge.specs.Judged.{line_flaw, marks_flaw, missing_barriers, missing_results, open_flaw}
+use Rattle.mark_judge.specs.Judged.{barriers_flaw, line_flaw, marks_flaw, missing_barriers, missing_results}
 use Rattle.mark_judge.specs.Tables.{AreNamed, has}
 use Rattle.mark_judge.proofs.Finds.{at_fourth, at_second, at_third}
 use Rattle.mark_judge.proofs.Right.{all_known}
@@ -21,7 +21,7 @@ abbrev by_line : Plan → Outline → List Mark → Option MarkFlaw
 by_line p o ms = first_found (line_flaw p o ms) (from_to 0 (length ms))
 
 abbrev by_barrier : Plan → List Mark → Option MarkFlaw
-by_barrier p ms = first_found (open_flaw p ms) (from_to 0 (length ms))
+by_barrier p ms = barriers_flaw p ms
 
 -- by the table or by the lines
 results_by : (o : Outline) (ms : List Mark) (named words : List Bool) → words ≡ named → AreNamed ms named
@@ -64,8 +64,8 @@ returns-then-is_some-3 c =
     (c.missing_barriers-barrier.ensures ∙ barriers_by o ms named c.as_slice-2.result.now c.as_slice-2.ensures.value told)
     (sym c.is_some-3.ensures ∙ c.if-is_some-3.true)
 
-pub first_open_flaw-requires-clause-known : goal.first_open_flaw-requires-clause-known
-first_open_flaw-requires-clause-known c =
+pub first_barrier_flaw-requires-clause-known : goal.first_barrier_flaw-requires-clause-known
+first_barrier_flaw-requires-clause-known c =
     all_known c.args.plan.now c.args.shape.now c.args.marks.now
     (sym c.first_line_flaw-line.ensures.flaw
     ∙ some_none c.first_line_flaw-line.result (sym c.is_some.ensures ∙ c.if-is_some.false))
@@ -80,10 +80,10 @@ returns c =
     let told = c.first_line_flaw-line.ensures.named clear in
     let results = some_none c.missing_results-result.result (sym c.is_some-2.ensures ∙ c.if-is_some-2.false) in
     let barriers = some_none c.missing_barriers-barrier.result (sym c.is_some-3.ensures ∙ c.if-is_some-3.false) in
-    IfOk-weaker c.first_open_flaw.result (λ flaw. flaw ≡ by_barrier p ms) (λ flaw. flaw ≡ marks_flaw p o ms)
+    IfOk-weaker c.first_barrier_flaw.result (λ flaw. flaw ≡ by_barrier p ms) (λ flaw. flaw ≡ marks_flaw p o ms)
     (λ flaw e. e ∙ at_fourth (by_line p o ms) (missing_results o (is_named ms)) (missing_barriers o (is_named ms)) (by_barrier p ms)
     (sym c.first_line_flaw-line.ensures.flaw ∙ clear)
     (sym (results_by o ms named c.as_slice.result.now c.as_slice.ensures.value told) ∙ sym c.missing_results-result.ensures ∙ results)
     (sym (barriers_by o ms named c.as_slice-2.result.now c.as_slice-2.ensures.value told) ∙ sym c.missing_barriers-barrier.ensures
     ∙ barriers))
-    c.first_open_flaw.ensures
+    c.first_barrier_flaw.ensures
