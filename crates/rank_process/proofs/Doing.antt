@@ -1,19 +1,19 @@
 -- What a call has done, by how its parts ended.
 use Rattle.std.proofs.Common.{ℕ, ◌≡◌, ◌≤◌, ◌++◌, List, refl, sym, subst, inl, inr}
-use Rattle.coll_lang.specs.declared.fault.Refusal.{Refusal}
+use Rattle.given_verdicts.specs.Saying.{answer_line}
+use Rattle.given_verdicts.specs.declared.answer.GivenAnswer.{GivenAnswer}
 use Rattle.port_io.specs.Ends.{GivesFront, Inflow, Outflow}
-use Rattle.run_text.specs.Putting.{Ends, FailsWithin}
-use Rattle.run_text.specs.Refused.{refusal_line}
+use Rattle.run_text.specs.Putting.{Ends}
 use Rattle.rank_frames.specs.Frames.{Lacks, LacksRoom, frame, head, mark}
 use Rattle.rank_frames.specs.declared.fault.Stop.{Stop}
 use Rattle.rank_frames.specs.declared.fault.Stop.TheVariants as stops
 use Rattle.rank_frames.proofs.By.{bytes-part, head-part}
 use Rattle.rank_process.specs.lines.Rank.{Asks, Work}
-use Rattle.rank_process.specs.Refused.{FailsFirst, FailsToOpen, Refuses}
+use Rattle.rank_process.specs.Refused.{FailsFirst, FailsToOpen, Refuses, WritesAnswer}
 use Rattle.rank_process.specs.Runs.{Does, IsAsked, RefusesText, Runs, RunsAs}
 use Rattle.rank_process.specs.Status.{status_of}
 use Rattle.rank_process.specs.declared.status.Status.{Status}
-use Rattle.rank_process.specs.declared.status.Status.TheVariants.{Ended, Usage, WrongRank, Refused, ReadFault, WriteFault, NoMemory, Frame}
+use Rattle.rank_process.specs.declared.status.Status.TheVariants.{Ended, Usage, WrongRank, Answered, ReadFault, WriteFault, NoMemory, Frame}
 
 -- ---- the first frame
 
@@ -32,32 +32,29 @@ bytes-fail stops.NoMemory x y z rank count front faults same = tt
 bytes-fail stops.Write x y z rank count front faults none = absurd none
 bytes-fail (stops.Frame fault) x y z rank count front faults none = absurd none
 
--- ---- refusals
+-- ---- answers
 
-refused-text : (line l : ℕ) (name n : Refusal) (u v : Inflow) (a b : Outflow) → (l ≡ line) × (n ≡ name) → RefusesText line name u v
-    → Ends a b (mark ++ refusal_line line name) → RefusesText l n u v × Ends a b (mark ++ refusal_line l n)
-refused-text line l name n u v a b (same, alike) text ends = (
-  subst (λ x. RefusesText x n u v) (sym same) (subst (λ x. RefusesText line x u v) (sym alike) text),
-  subst (λ x. Ends a b (mark ++ refusal_line x n)) (sym same)
-      (subst (λ x. Ends a b (mark ++ refusal_line line x)) (sym alike) ends),
-)
+answered-text : (answer other : GivenAnswer) (u v : Inflow) (a b : Outflow) → other ≡ answer → RefusesText answer u v
+    → Ends a b (mark ++ answer_line answer) → RefusesText other u v × Ends a b (mark ++ answer_line other)
+answered-text answer other u v a b same text ends =
+    (subst (λ x. RefusesText x u v) (sym same) text, subst (λ x. Ends a b (mark ++ answer_line x)) (sym same) ends)
 
--- a refusal that is said, or isn't
-said : (line : ℕ) (name : Refusal) (result : Status) (before after : Inflow) (a b : Outflow) → RefusesText line name before after
-    → Refuses (Refused line name) result a b → Does result before after a b
-said line name (Refused l n) before after a b text (same, ends) = refused-text line l name n before after a b same text ends
-said line name WriteFault before after a b text fails = inl (record { line = line; name = name; refused = text; fails = fails })
-said line name NoMemory before after a b text none = inl none
-said line name Ended before after a b text none = absurd none
-said line name Usage before after a b text none = absurd none
-said line name WrongRank before after a b text none = absurd none
-said line name ReadFault before after a b text none = absurd none
-said line name (Frame fault) before after a b text none = absurd none
+-- an answer that is written, or isn't
+said : (answer : GivenAnswer) (result : Status) (before after : Inflow) (a b : Outflow) → RefusesText answer before after
+    → WritesAnswer answer result a b → Does result before after a b
+said answer (Answered other) before after a b text (same, ends) = answered-text answer other before after a b same text ends
+said answer WriteFault before after a b text fails = inl (record { answer = answer; refused = text; fails = fails })
+said answer NoMemory before after a b text none = inl none
+said answer Ended before after a b text none = absurd none
+said answer Usage before after a b text none = absurd none
+said answer WrongRank before after a b text none = absurd none
+said answer ReadFault before after a b text none = absurd none
+said answer (Frame fault) before after a b text none = absurd none
 
 -- ---- without a first frame
 pub first-does : (e result : Status) (before after : Inflow) (a b : Outflow) → FailsFirst e before after → Refuses e result a b
     → Does result before after a b
-first-does (Refused line name) result before after a b long refuses = said line name result before after a b (inr long) refuses
+first-does (Answered answer) result before after a b long refuses = said answer result before after a b (inr long) refuses
 first-does ReadFault result before after a b dry (same, still) = subst (λ s. Does s before after a b) (sym same) (inl (dry, still))
 first-does NoMemory result before after a b none (same, still) = subst (λ s. Does s before after a b) (sym same) (inl still)
 first-does Ended result before after a b none refuses = absurd none
@@ -70,8 +67,8 @@ first-does (Frame fault) result before after a b none refuses = absurd none
 pub open-does : (text : List ℕ) (r : ℕ) (e result : Status) (before after : Inflow) (a b : Outflow)
     → GivesFront before.left after.left (frame r text) → before.faults ≤ after.faults
     → FailsToOpen text r e → Refuses e result a b → Does result before after a b
-open-does text r (Refused line name) result before after a b front faults is refuses =
-    said line name result before after a b
+open-does text r (Answered answer) result before after a b front faults is refuses =
+    said answer result before after a b
     (inl (record { text = text; rank = r; behind = after; first = front; faults = faults; so = (refl, is) })) refuses
 open-does text r WrongRank result before after a b front faults is (same, still) =
     subst (λ s. Does s before after a b) (sym same)
@@ -101,7 +98,7 @@ run-does text w r status before then after a b front faults asks so = at status 
     at NoMemory is = inr (runs NoMemory is)
     at Usage none = absurd none
     at WrongRank none = absurd none
-    at (Refused line name) none = absurd none
+    at (Answered answer) none = absurd none
 
 pub run-asked : (w : Work) (r : ℕ) (status : Status) (u v : Inflow) (a b : Outflow) (words : ℕ) → words ≡ 0
     → RunsAs w r status u v a b → IsAsked status words
@@ -112,4 +109,4 @@ run-asked w r WriteFault u v a b words unasked is = unasked
 run-asked w r NoMemory u v a b words unasked is = unasked
 run-asked w r Usage u v a b words unasked none = absurd none
 run-asked w r WrongRank u v a b words unasked none = absurd none
-run-asked w r (Refused line name) u v a b words unasked none = absurd none
+run-asked w r (Answered answer) u v a b words unasked none = absurd none

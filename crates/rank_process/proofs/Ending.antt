@@ -40,7 +40,7 @@ use Rattle.rank_process.specs.Runs.{EndsRank, HasEndedAlone, IsIdleAlone, Refuse
 use Rattle.rank_process.specs.Status.{status_of}
 use Rattle.rank_process.specs.declared.opening.Opened.{Opened}
 use Rattle.rank_process.specs.declared.status.Status.{Status}
-use Rattle.rank_process.specs.declared.status.Status.TheVariants.{Ended, Usage, WrongRank, Refused, ReadFault, WriteFault, NoMemory, Frame}
+use Rattle.rank_process.specs.declared.status.Status.TheVariants.{Ended, Usage, WrongRank, Answered, ReadFault, WriteFault, NoMemory, Frame}
 use Rattle.rank_process.proofs.lines.Lists.{own-lines}
 use Rattle.rank_process.proofs.Ran.{lane-got, locals, made-is, nic-is, past-lane, stands, told}
 
@@ -212,7 +212,7 @@ module _ (w : Work) (r : ℕ) (x : Opened) (o : IsOpened w r x) (q : PlaceState)
   })
   closes-as Usage u v a b c kept by end closed = absurd closed
   closes-as WrongRank u v a b c kept by end closed = absurd closed
-  closes-as (Refused line name) u v a b c kept by end closed = absurd closed
+  closes-as (Answered answer) u v a b c kept by end closed = absurd closed
   closes-as ReadFault u v a b c kept by end closed = absurd closed
   closes-as NoMemory u v a b c kept by end closed = absurd closed
   closes-as (Frame fault) u v a b c kept by end closed = absurd closed

@@ -1,6 +1,7 @@
 -- What stands on standard error beside each status: a line, and nothing beside a rank that ended.
 use Rattle.std.specs.Prelude.{ℕ, ◌≡◌, ◌⊎◌, List, [], ◌∷◌, codes}
 use Rattle.coll_text.specs.Text.{line}
+use Rattle.given_verdicts.specs.Saying.{answer_line}
 use Rattle.message_codec.specs.declared.fault.Fault.{Fault}
 use Rattle.message_codec.specs.declared.fault.Fault.TheVariants as faults
 use Rattle.port_io.specs.Ends.{Outflow}
@@ -9,7 +10,7 @@ use Rattle.rank_frames.specs.declared.fault.FrameFault.{FrameFault}
 use Rattle.rank_frames.specs.declared.fault.FrameFault.TheVariants.{Mark, Source, TooLong}
 use Rattle.rank_frames.specs.declared.fault.FrameFault.TheVariants.{Message, OtherSource, OtherTarget, OtherJob, Lane, NotAwaited, TooMany}
 use Rattle.rank_process.specs.declared.status.Status.{Status}
-use Rattle.rank_process.specs.declared.status.Status.TheVariants.{Ended, Usage, WrongRank, Refused, ReadFault, WriteFault, NoMemory, Frame}
+use Rattle.rank_process.specs.declared.status.Status.TheVariants.{Ended, Usage, WrongRank, Answered, ReadFault, WriteFault, NoMemory, Frame}
 
 -- of bytes that are no message
 abbrev pub message_note : Fault → List ℕ
@@ -42,17 +43,17 @@ frame_note Lane = line (codes "a frame is refused: a message more than its lane 
 frame_note NotAwaited = line (codes "a frame is refused: an answer that nothing awaits" ∷ [])
 frame_note TooMany = line (codes "a frame is refused: more bytes than come to this rank" ∷ [])
 
-abbrev pub note_of : Status → List ℕ
-note_of Ended = []
-note_of Usage = line (codes "it takes no words: a rank is told by its first frame" ∷ [])
-note_of WrongRank = line (codes "the description has no such rank" ∷ [])
-note_of (Refused number name) = line (codes "the description is refused" ∷ [])
-note_of ReadFault = line (codes "standard input failed, or ended before the rank did" ∷ [])
-note_of WriteFault = line (codes "standard output can't be written" ∷ [])
-note_of NoMemory = line (codes "there is not enough memory" ∷ [])
-note_of (Frame fault) = frame_note fault
-
--- standard error took this note, or failed; where there is none it is as it was
+-- standard error took this line, or failed
 abbrev pub Says : List ℕ → Outflow → Outflow → Type 0
-Says [] old new = new ≡ old
-Says (byte ∷ bytes) old new = Ends old new (byte ∷ bytes) ⊎ FailsWithin old new (byte ∷ bytes)
+Says text old new = Ends old new text ⊎ FailsWithin old new text
+
+-- Beside an answer its own line stands, as on standard output, unless there is no memory for it.
+abbrev pub SaysBeside : Status → Outflow → Outflow → Type 0
+SaysBeside Ended old new = new ≡ old
+SaysBeside Usage old new = Says (line (codes "it takes no words: a rank is told by its first frame" ∷ [])) old new
+SaysBeside WrongRank old new = Says (line (codes "the description has no such rank" ∷ [])) old new
+SaysBeside (Answered answer) old new = Says (answer_line answer) old new ⊎ (new ≡ old)
+SaysBeside ReadFault old new = Says (line (codes "standard input failed, or ended before the rank did" ∷ [])) old new
+SaysBeside WriteFault old new = Says (line (codes "standard output can't be written" ∷ [])) old new
+SaysBeside NoMemory old new = Says (line (codes "there is not enough memory" ∷ [])) old new
+SaysBeside (Frame fault) old new = Says (frame_note fault) old new

@@ -15,7 +15,8 @@ use Rattle.rank_node.specs.Plans.{IsCompiledFor}
 use Rattle.rank_frames.specs.Due.{Dues}
 use Rattle.rank_frames.specs.Place.{PlaceState}
 use Rattle.rank_process.specs.lines.Places.{places_in}
-use Rattle.rank_process.specs.lines.Rank.{Work}
+use Rattle.rank_process.specs.lines.Rank.{Asks, Work}
+use Rattle.rank_process.specs.declared.asking.Asked.{Asked}
 use Rattle.rank_process.specs.declared.opening.Opened.{Opened}
 
 -- what comes to rank r in a whole run of a plan
@@ -31,6 +32,15 @@ pub record IsPlaceOf (p : Plan) (inputs : Inputs) (r : ℕ) (x : PlaceState) : T
   pub nothing : x.node.diary.locals ≡ []
   pub first : (k : Slots) → Agrees k x.node.kept → x.node.nic ≡ prepare p inputs k r
   pub due : IsDueTo p r x.due
+
+-- what is run by it
+abbrev pub work_of : Asked → Work
+work_of x = record { shape = x.shape; schedule = x.job.schedule; inputs = x.job.inputs }
+
+-- the text asks for this, and each buffer has a place among the results
+pub record IsAskedBy (text : List ℕ) (x : Asked) : Type 0 where
+  pub asks : Asks text (work_of x)
+  pub buffers : x.job.schedule.held.buffers ≡ length x.shape.buffers
 
 -- rank r of what a text asks for, and what it prints
 pub record IsOpened (w : Work) (r : ℕ) (x : Opened) : Type 0 where

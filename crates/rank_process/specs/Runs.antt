@@ -3,8 +3,8 @@ use Rattle.std.specs.Prelude.{ℕ, false, ◌+◌, ◌≡◌, ◌≤◌, ◌<◌
 use Rattle.ptl_types.specs.declared.headers.Lane.{Lane}
 use Rattle.ptl_types.specs.Messages.{Sent}
 use Rattle.ni_model.specs.Ready.{is_ready}
-use Rattle.coll_lang.specs.Language.{read}
-use Rattle.coll_lang.specs.declared.fault.Refusal.{Refusal}
+use Rattle.given_verdicts.specs.Saying.{answer_line}
+use Rattle.given_verdicts.specs.declared.answer.GivenAnswer.{GivenAnswer}
 use Rattle.plan_core.specs.Plan.{Plan, link}
 use Rattle.plan_core.specs.Values.{Inputs}
 use Rattle.plan_core.specs.calls.Areas.{links_to}
@@ -17,7 +17,6 @@ use Rattle.cuts.specs.view.Slots.{Slots}
 use Rattle.rank_node.specs.Copies.{bytes_received}
 use Rattle.run_text.specs.Orders.{order_line}
 use Rattle.run_text.specs.Putting.{Ends, FailsWithin, Takes}
-use Rattle.run_text.specs.Refused.{refusal_line}
 use Rattle.rank_frames.specs.Due.{due_on}
 use Rattle.rank_frames.specs.Frames.{IsPart, RunsDry, frame, frames_for, frames_of, mark}
 use Rattle.rank_frames.specs.Going.{IsFrameRefused}
@@ -25,9 +24,9 @@ use Rattle.rank_frames.specs.Place.{PlaceState}
 use Rattle.rank_frames.specs.declared.fault.FrameFault.{FrameFault}
 use Rattle.rank_process.specs.lines.Lines.{own_lines}
 use Rattle.rank_process.specs.lines.Rank.{Asks, IsHistory, Work, made_by_rank, state_after}
-use Rattle.rank_process.specs.Refused.{IsNoRank, IsTooLong, refused_as}
+use Rattle.rank_process.specs.Refused.{IsNoRank, IsTooLong, answer_on}
 use Rattle.rank_process.specs.declared.status.Status.{Status}
-use Rattle.rank_process.specs.declared.status.Status.TheVariants.{Ended, Usage, WrongRank, Refused, ReadFault, WriteFault, NoMemory, Frame}
+use Rattle.rank_process.specs.declared.status.Status.TheVariants.{Ended, Usage, WrongRank, Answered, ReadFault, WriteFault, NoMemory, Frame}
 
 -- a history of rank r of what is run
 pub record Told (w : Work) (r : ℕ) : Type 0 where
@@ -133,28 +132,25 @@ abbrev pub Runs : Status → Inflow → Inflow → Outflow → Outflow → Type 
 Runs status before after old new =
     Begins before (λ text r behind. (w : Work) × Asks text w × RunsAs w r status behind after old new)
 
--- The text of the first frame is refused; or its length alone was read, and no text is so long.
-abbrev pub RefusesText : ℕ → Refusal → Inflow → Inflow → Type 0
-RefusesText line name before after =
-    Begins before (λ text r behind. (after ≡ behind) × (refused_as (read text) ≡ Some (line, name)))
-    ⊎ IsTooLong before.left after.left line name
+-- This is the answer on the text of the first frame; or its length alone was read, and no text is so long.
+abbrev pub RefusesText : GivenAnswer → Inflow → Inflow → Type 0
+RefusesText answer before after =
+    Begins before (λ text r behind. (after ≡ behind) × (answer_on text ≡ Some answer)) ⊎ IsTooLong before.left after.left answer
 
--- a text is refused, and the sink failed where that was said
-pub record FailsToRefuse (before after : Inflow) (old new : Outflow) : Type 0 where
-  pub line : ℕ
-  pub name : Refusal
-  pub refused : RefusesText line name before after
-  pub fails : FailsWithin old new (mark ++ refusal_line line name)
+-- a text isn't run, and the sink failed where that was said
+pub record FailsToAnswer (before after : Inflow) (old new : Outflow) : Type 0 where
+  pub answer : GivenAnswer
+  pub refused : RefusesText answer before after
+  pub fails : FailsWithin old new (mark ++ answer_line answer)
 
 -- What a call has done that ends with this status: what the source gave, and what the sink took.
 abbrev pub Does : Status → Inflow → Inflow → Outflow → Outflow → Type 0
 Does Ended before after old new = Runs Ended before after old new
 Does Usage before after old new = (after ≡ before) × (new ≡ old)
 Does WrongRank before after old new = Begins before (λ text r behind. (after ≡ behind) × IsNoRank text r) × (new ≡ old)
-Does (Refused line name) before after old new =
-    RefusesText line name before after × Ends old new (mark ++ refusal_line line name)
+Does (Answered answer) before after old new = RefusesText answer before after × Ends old new (mark ++ answer_line answer)
 Does ReadFault before after old new = (RunsDry before after IsPart × (new ≡ old)) ⊎ Runs ReadFault before after old new
-Does WriteFault before after old new = FailsToRefuse before after old new ⊎ Runs WriteFault before after old new
+Does WriteFault before after old new = FailsToAnswer before after old new ⊎ Runs WriteFault before after old new
 Does NoMemory before after old new = (new ≡ old) ⊎ Runs NoMemory before after old new
 Does (Frame fault) before after old new = Runs (Frame fault) before after old new
 

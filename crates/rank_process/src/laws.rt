@@ -13,8 +13,11 @@ ghost use Rattle.plan_core.specs.Sound.{AreInputsOf, SoundPlan};
 ghost use Rattle.plan_core.specs.Values.{Inputs};
 ghost use Rattle.run_text.specs.Lines.{rest_line, result_text};
 ghost use Rattle.schedule_compiler.specs.shapes.Drawing.{plan_of};
-ghost use Rattle.rank_process.specs.laws.Ended.{AreCarried, HaveEnded, gathered};
-ghost use Rattle.rank_process.specs.lines.Rank.{IsDescribed, own_work};
+ghost use Rattle.given_verdicts.specs.declared.answer.FlawlessText.{FlawlessText};
+ghost use Rattle.rank_process.specs.laws.Ended.{AreCarried, HaveEnded, gathered, results_text};
+ghost use Rattle.rank_process.specs.lines.Rank.{IsDescribed, IsGiven, given_work, own_work};
+
+use coll_lang::reads_exactly;
 
 /// Where each rank of a sound plan has ended by what it sees of itself, and what came to it on each lane is a beginning of what was sent
 /// there, their histories are a cut at rest, and each cell holds its value. So ranks need no agreement on when to end.
@@ -39,3 +42,13 @@ pub fn ended_ranks_write_the_result()
         HaveEnded (plan_of d.shape) d.inputs slots world → AreCarried (plan_of d.shape) d.inputs slots world →
         gathered (own_work d) slots world ++ rest_line ≡ result_text d.shape d.inputs }
 {}
+
+/// Of the ranks of a plan that was given for a description, and in which no flaw is, that have ended so the lines, gathered so, are what
+/// the cells hold that the plan's lines name: the values that the plan and the inputs determine.
+pub fn ended_ranks_write_what_a_plan_holds()
+    ensures { (text : List ℕ) (t : FlawlessText) (slots : ℕ → Slots) (world : Histories) → IsGiven text t →
+        HaveEnded t.given.plan t.description.inputs slots world → AreCarried t.given.plan t.description.inputs slots world →
+        gathered (given_work t) slots world ++ rest_line ≡ results_text (given_work t) }
+{
+    reads_exactly();
+}

@@ -2,6 +2,7 @@
 //! its own lines.
 #![tactic(auto)]
 
+mod asking;
 mod first;
 mod lanes;
 pub mod laws;

@@ -1,13 +1,17 @@
 //! What is said on standard error.
 
-ghost use Rattle.std.specs.Prelude.{◌≡◌, ◌≤◌, length};
-ghost use Rattle.rank_process.specs.Notes.{Says, frame_note, message_note, note_of};
+ghost use Rattle.std.specs.Prelude.{◌≡◌, ◌≤◌, ◌⊎◌, length};
+ghost use Rattle.given_verdicts.specs.Saying.{answer_line};
+ghost use Rattle.rank_process.specs.Notes.{Says, SaysBeside, frame_note, message_note};
 
+use crate::printing::write_line;
 use crate::status::Status;
+use given_verdicts::{GivenAnswer, answer_line};
 use message_codec::Fault;
 use port_io::Sink;
 use rank_frames::FrameFault;
-use run_text::write_short;
+use run_text::{Pieces, write_short};
+use std::alloc::Global;
 
 /// The line of a message that is none.
 fn message_note(fault: Fault) -> &'static [u8]
@@ -52,29 +56,45 @@ fn frame_note(fault: FrameFault) -> &'static [u8]
     }
 }
 
-/// The line that stands beside a status; nothing beside a rank that ended.
-fn note_of(status: Status) -> &'static [u8]
-    ensures value { result.now ≡ note_of status }
-    ensures short { length result.now ≤ 65536 }
+/// Writes a note.
+fn say_note<N: Sink>(notes: &mut N, note: &[u8])
+    requires { length note.now ≤ 65536 }
+    ensures { Says note.now (N.outflow notes.old) (N.outflow notes.new) }
 {
-    match status {
-        Status::Ended => b"",
-        Status::Usage => b"it takes no words: a rank is told by its first frame\n",
-        Status::WrongRank => b"the description has no such rank\n",
-        Status::Refused { .. } => b"the description is refused\n",
-        Status::ReadFault => b"standard input failed, or ended before the rank did\n",
-        Status::WriteFault => b"standard output can't be written\n",
-        Status::NoMemory => b"there is not enough memory\n",
-        Status::Frame(fault) => frame_note(fault),
-    }
+    let _ = write_short(notes, note);
+}
+
+/// Writes the line of an answer, if there is memory for it.
+fn say_answer<N: Sink>(alloc: Global, notes: &mut N, answer: &GivenAnswer)
+    ensures { Says (answer_line answer.now) (N.outflow notes.old) (N.outflow notes.new) ⊎ (N.outflow notes.new ≡ N.outflow notes.old) }
+{
+    let Ok(line) = answer_line(alloc, answer) else {
+        return;
+    };
+    let Ok(mut out) = Pieces::open(alloc) else {
+        return;
+    };
+    let _ = write_line(&mut out, notes, &[], line.as_slice());
 }
 
 /// Says what a person is to know beside a status. What fails here changes nothing.
-pub(crate) fn say<N: Sink>(notes: &mut N, status: Status)
-    ensures { Says (note_of status) (N.outflow notes.old) (N.outflow notes.new) }
+pub(crate) fn say<N: Sink>(alloc: Global, notes: &mut N, status: &Status)
+    ensures { SaysBeside status.now (N.outflow notes.old) (N.outflow notes.new) }
 {
-    let note = note_of(status);
-    if !note.is_empty() {
-        let _ = write_short(notes, note);
+    match status {
+        Status::Ended => {}
+        Status::Usage => say_note(
+            notes,
+            b"it takes no words: a rank is told by its first frame\n",
+        ),
+        Status::WrongRank => say_note(notes, b"the description has no such rank\n"),
+        Status::Answered(answer) => say_answer(alloc, notes, answer),
+        Status::ReadFault => say_note(
+            notes,
+            b"standard input failed, or ended before the rank did\n",
+        ),
+        Status::WriteFault => say_note(notes, b"standard output can't be written\n"),
+        Status::NoMemory => say_note(notes, b"there is not enough memory\n"),
+        Status::Frame(fault) => say_note(notes, frame_note(*fault)),
     }
 }

@@ -1,4 +1,4 @@
-//! What a rank writes behind its frames.
+//! What a rank writes behind its frames, or in their place.
 
 ghost use Rattle.std.specs.Prelude.{◌≡◌, ◌++◌, []};
 ghost use Rattle.rank_frames.specs.Frames.{mark};
@@ -35,5 +35,20 @@ pub(crate) fn write_end<K: Sink>(
     out.put(sink, &end_mark())?;
     prints.put(out, sink, memory)?;
     order_line(out, sink, prints.rank(), steps)?;
+    out.end(sink)
+}
+
+/// Adds a head and a line, and finishes the sink.
+pub(crate) fn write_line<K: Sink>(
+    out: &mut Pieces,
+    sink: &mut K,
+    head: &[u8],
+    line: &[u8],
+) -> Result<(), Failed>
+    requires { out.old ≡ [] }
+    ensures { EndsWith (K.outflow sink.old) (K.outflow sink.new) (head.now ++ line.now) result }
+{
+    out.put(sink, head)?;
+    out.put(sink, line)?;
     out.end(sink)
 }

@@ -1,45 +1,36 @@
-//! Why a description is refused.
+//! Why a text isn't run.
 
-ghost use Rattle.std.specs.Prelude.{◌≡◌, ◌++◌, []};
-ghost use Rattle.run_text.specs.Putting.{EndsWith};
-ghost use Rattle.run_text.specs.Refused.{refusal_line};
-ghost use Rattle.rank_frames.specs.Frames.{mark};
-ghost use Rattle.rank_process.specs.Refused.{Refuses};
+ghost use Rattle.rank_process.specs.Refused.{Refuses, WritesAnswer};
 
-use crate::printing::end_mark;
+use crate::printing::{end_mark, write_line};
 use crate::status::Status;
-use coll_lang::Refusal;
-use port_io::{Failed, Sink};
-use run_text::{Pieces, refusal_line};
+use given_verdicts::{GivenAnswer, answer_line};
+use port_io::Sink;
+use run_text::Pieces;
 use std::alloc::Global;
 
-/// Adds the mark of the end and the line of a refusal, and finishes the sink.
-pub(crate) fn write_refusal<K: Sink>(
-    out: &mut Pieces,
-    sink: &mut K,
-    line: u32,
-    name: Refusal,
-) -> Result<(), Failed>
-    requires { out.old ≡ [] }
-    ensures { EndsWith (K.outflow sink.old) (K.outflow sink.new) (mark ++ refusal_line line name) result }
+/// Writes the answer on a text.
+fn write_answer<K: Sink>(alloc: Global, sink: &mut K, answer: GivenAnswer) -> Status
+    ensures { WritesAnswer answer result (K.outflow sink.old) (K.outflow sink.new) }
 {
-    out.put(sink, &end_mark())?;
-    refusal_line(out, sink, line, name)?;
-    out.end(sink)
-}
-
-/// Says why a description is refused, where it is; any other status is that of a rank that wrote nothing.
-pub(crate) fn refuse<K: Sink>(alloc: Global, sink: &mut K, status: Status) -> Status
-    ensures { Refuses status result (K.outflow sink.old) (K.outflow sink.new) }
-{
-    let Status::Refused { line, name } = status else {
-        return status;
+    let Ok(line) = answer_line(alloc, &answer) else {
+        return Status::NoMemory;
     };
     let Ok(mut out) = Pieces::open(alloc) else {
         return Status::NoMemory;
     };
-    match write_refusal(&mut out, sink, line, name) {
-        Ok(()) => status,
+    match write_line(&mut out, sink, &end_mark(), line.as_slice()) {
+        Ok(()) => Status::Answered(answer),
         Err(_) => Status::WriteFault,
+    }
+}
+
+/// Says why a text isn't run, where there is an answer on it; any other status is that of a rank that wrote nothing.
+pub(crate) fn refuse<K: Sink>(alloc: Global, sink: &mut K, status: Status) -> Status
+    ensures { Refuses status result (K.outflow sink.old) (K.outflow sink.new) }
+{
+    match status {
+        Status::Answered(answer) => write_answer(alloc, sink, answer),
+        other => other,
     }
 }

@@ -1,13 +1,13 @@
 //! How a rank ended.
 
 ghost use Rattle.std.specs.Prelude.{◌≡◌};
-ghost use Rattle.rank_process.specs.Status.{number_of, status_of};
+ghost use Rattle.rank_process.specs.Status.{answer_number, number_of, status_of};
 
-use coll_lang::Refusal;
+use given_verdicts::GivenAnswer;
 use rank_frames::{FrameFault, Stop};
 
 /// How a rank ended. Each has a number, with which the process ends.
-#[derive(Clone, Copy, Debug, PartialEq, Eq)]
+#[derive(Debug, Drop)]
 pub enum Status {
     /// It has started, nothing is ready, all that its lanes carry has come, and its lines were written.
     Ended,
@@ -15,14 +15,9 @@ pub enum Status {
     Usage,
     /// The description has no such rank. Nothing was written.
     WrongRank,
-    /// The description is refused in this line, counted from 1, or as a whole, which is line 0. The mark of the end and the line that
-    /// says why were written.
-    Refused {
-        /// The line.
-        line: u32,
-        /// Why.
-        name: Refusal,
-    },
+    /// Nothing ran, and this is why: the text is refused, or the plan in it has a flaw. The mark of the end and the answer's line were
+    /// written.
+    Answered(GivenAnswer),
     /// The source failed, or ended before the rank did.
     ReadFault,
     /// The sink failed.
@@ -33,6 +28,16 @@ pub enum Status {
     Frame(FrameFault),
 }
 
+/// The number of a text of which this is the answer.
+fn answer_number(answer: &GivenAnswer) -> u8
+    ensures { result ≡ answer_number answer.now }
+{
+    match answer {
+        GivenAnswer::Fails { .. } => 8,
+        GivenAnswer::Holds | GivenAnswer::Unknown { .. } | GivenAnswer::Refused { .. } => 3,
+    }
+}
+
 impl Status {
     /// The number with which the process ends.
     pub fn number(&self) -> u8
@@ -41,7 +46,7 @@ impl Status {
         match self {
             Status::Ended => 0,
             Status::Usage | Status::WrongRank => 2,
-            Status::Refused { .. } => 3,
+            Status::Answered(answer) => answer_number(answer),
             Status::ReadFault => 4,
             Status::WriteFault => 5,
             Status::NoMemory => 6,

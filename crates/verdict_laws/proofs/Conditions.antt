@@ -1,5 +1,5 @@
 -- What a plan meets in which nothing is at fault.
-use Rattle.std.proofs.Common.{ℕ, ◌≡◌, ◌*◌, ◌/◌, ◌%◌, ◌<◌, ◌^◌, List, length, refl, ◌∙◌, sym, subst, arith}
+use Rattle.std.proofs.Common.{ℕ, ◌≡◌, ◌*◌, ◌/◌, ◌%◌, ◌<◌, ◌^◌, List, length, count_by, refl, ◌∙◌, sym, subst, arith}
 use Rattle.std.proofs.lemmas.Nat.{div_below, mod_below}
 use Rattle.coll_shape.specs.Meaning.{AreInputs}
 use Rattle.coll_shape.specs.Outline.{Outline, buffer_at, list_bytes}
@@ -22,10 +22,14 @@ use Rattle.plan_tables.proofs.Passes.{get-row, length-table}
 use Rattle.schedule_compiler.specs.Keeping.{CanRun}
 use Rattle.schedule_compiler.specs.Schedules.{scheduled}
 use Rattle.cuts.specs.cells.Cells.{AreCellsInOrder, AreValuesAt}
+use Rattle.cuts.specs.histories.Cut.{IsCut}
+use Rattle.cuts.specs.histories.History.{is_start}
+use Rattle.cuts.specs.histories.Plans.{system_of}
 use Rattle.cuts.specs.histories.System.{Histories}
 use Rattle.cuts.specs.view.Slots.{Slots}
 use Rattle.given_verdicts.specs.Answers.{lengths_of}
-use Rattle.verdict_laws.specs.Flawless.{AreNamedBarriersKept, AreNamedResults, AreResultsIn, IsFlawless}
+use Rattle.verdict_laws.proofs.Starting.{entry_begun}
+use Rattle.verdict_laws.specs.Flawless.{AreEntriesBegun, AreNamedBarriersKept, AreNamedResults, AreResultsIn, IsFlawless}
 
 length_inputs : (o : Outline) → length (lengths_of o) ≡ o.inputs
 length_inputs o = length-table (λ b. list_bytes (buffer_at o b)) o.inputs (lengths_of o) refl
@@ -77,6 +81,13 @@ module _ (p : Plan) (o : Outline) (said : List ℕ) (ms : List Mark) (flawless :
   barriers_kept inputs slots w order s r q b c enters leaves reached =
       order b c (fit-known p o (due_of (Enter s r b)) b (fits (Enter s r b) enters))
       (fit-known p o (due_of (Leave s q c)) c (fits (Leave s q c) leaves)) (marked.closed s r q b c enters leaves) reached
+
+  pub entries_begun : (inputs : Inputs) → AreInputs o inputs → (slots : ℕ → Slots) (w : Histories) → IsCut (system_of p inputs slots) w
+      → AreCellsInOrder p inputs slots w → AreEntriesBegun p ms inputs slots w
+  entries_begun inputs given slots w cut order s r c enters reached =
+      let on = fits (Enter s r c) enters in
+      subst (λ d. 0 < count_by is_start (w d)) on.1
+      (entry_begun p inputs (sound_for inputs given) (fit inputs given) slots w cut order c on.0 (marked.begun s r c enters) reached)
 
   pub results_in : (inputs : Inputs) (memory : ℕ → List ℕ) → ((r : ℕ) → r < p.ranks → AreValuesAt p inputs r (memory r))
       → AreResultsIn p ms inputs memory

@@ -1,7 +1,10 @@
--- The cell of an input is reached after its rank's start.
+-- What is reached after its rank's start alone: the cells of inputs, and the cells where barriers are entered.
+use Rattle.std.specs.Prelude.{nat_lt}
+use Rattle.std.specs.List.{list_any}
+use Rattle.std.proofs.Common.{not, map}
 use Rattle.std.proofs.Common.{ℕ, zero, suc, true, false, Bool, cond, ◌||◌, ◌==◌, ◌≡◌, ◌+◌, ◌*◌, ◌<◌, ◌≤◌, Option, Some, None, length}
 use Rattle.std.proofs.Common.{List, [], ◌∷◌, ◌++◌, ◌∙◌, sym, subst, inl, inr, arith, count_by, eqb-true, get_or, min, refl, ap}
-use Rattle.std.proofs.lemmas.Bool.{and_parts, cases_Bool, or_cases}
+use Rattle.std.proofs.lemmas.Bool.{and_parts, cases_Bool, ltb-true, not-true, or_cases}
 use Rattle.std.proofs.lemmas.Nat.{mod-mul-add}
 use Rattle.ptl_types.specs.declared.handles.Count.{Count}
 use Rattle.ptl_types.specs.Handles.{top}
@@ -12,7 +15,7 @@ use Rattle.ni_model.specs.Tables.{Table, lookup}
 use Rattle.op_laws.proofs.Starts.{combined-starts}
 use Rattle.coll_shape.proofs.Rows.{before-end}
 use Rattle.plan_core.proofs.Links.{In-own, in_links-In}
-use Rattle.plan_core.proofs.Lists.{In-map_cases, count-cons}
+use Rattle.plan_core.proofs.Lists.{In-append_cases, In-map_cases, count-cons}
 use Rattle.plan_core.specs.Members.{In}
 use Rattle.plan_core.specs.declared.LinkKind.{LinkKind}
 use Rattle.plan_core.specs.declared.LinkKind.TheVariants.{Atomic, Bump, Put}
@@ -22,14 +25,18 @@ use Rattle.plan_core.specs.Values.{Inputs}
 use Rattle.plan_core.specs.calls.RankOps.{RankOp, rank_ops}
 use Rattle.plan_judge.specs.Guards.{AreGuarded, guarded_below, is_guard, is_guarded}
 use Rattle.plan_judge.proofs.Guarding.{guarded_at}
+use Rattle.mark_judge.specs.Bound.{bound_below, does_bind, is_bound}
+use Rattle.mark_judge.proofs.Binding.{bound_at}
 use Rattle.mark_judge.proofs.Tests.{any-In}
-use Rattle.cuts.proofs.histories.FromCut.{moves_at, prepared_of}
+use Rattle.cuts.proofs.histories.FromCut.{came_all, machine_cut, moves_at, prepared_of}
 use Rattle.cuts.proofs.histories.Origin.{IsOf, after_of}
 use Rattle.cuts.proofs.histories.RunTraffic.{has_start}
 use Rattle.cuts.proofs.histories.Runs.{nothing_raised, run_moves, unraised_work}
 use Rattle.cuts.proofs.histories.Simulate.{did, numbered, work_numbered}
-use Rattle.cuts.proofs.histories.Traffic.{to_came}
+use Rattle.cuts.proofs.histories.Traffic.{own_received, to_came}
 use Rattle.cuts.proofs.histories.Shape.{shape}
+use Rattle.cuts.proofs.machine.Central.{ours_nothing, ours_seen}
+use Rattle.cuts.proofs.machine.Reached.{all_in, bumped_to, bumped_to-In, came_to, came_to-In}
 use Rattle.cuts.proofs.view.StepFire.{lookup_counter}
 use Rattle.cuts.specs.cells.Cells.{AreCellsInOrder}
 use Rattle.cuts.specs.histories.Cut.{IsCut, is_stray}
@@ -48,10 +55,16 @@ use Rattle.cuts.proofs.view.Tables.{find-In}
 use Rattle.ptl_types.specs.declared.headers.Lane.TheVariants.{Answer, Request}
 
 -- ---- a guarded cell
-bump-is : (k : LinkKind) → is_bump k ≡ true → k ≡ Bump
+pub bump-is : (k : LinkKind) → is_bump k ≡ true → k ≡ Bump
 bump-is Bump e = refl
 bump-is Put e = cc
 bump-is Atomic e = cc
+
+-- a bump binds where its source is bound
+from_source : (kind : LinkKind) → is_bump kind ≡ true → (t : Bool) → (not (is_bump kind) || t) ≡ true → t ≡ true
+from_source Bump b t e = e
+from_source Put b t e = cc
+from_source Atomic b t e = cc
 
 -- links lead to it from the go cell of its rank
 guard_within : (p : Plan) (inputs : ℕ) → SoundPlan p inputs → (n c : ℕ) → c < n → is_guarded p c ≡ true → Leads p (cell p c).rank c
@@ -170,3 +183,62 @@ module _ (p : Plan) (inputs : Inputs) (sound : SoundPlan p (length inputs)) (fit
       subst (λ d. Leads p d (p.ranks + i)) on (guard_leads p (length inputs) sound (p.ranks + i) (guarded i few)) in
       let inside = sound.all_go in
       go_begun r hr (order r (p.ranks + i) (omega (arith, hr, inside)) at.0 path k)
+
+  -- ---- where barriers are entered
+  -- a cell to which a message comes
+  message_begun : (c l : ℕ) → c < length p.cells → In l (in_links p c) → is_bump (link p l).kind ≡ false
+      → CounterReached p inputs slots w c → 0 < count_by is_start (w (cell p c).rank)
+  message_begun c l hc i sends k =
+      let in_range = sound.ranks_known c hc in
+      let machine = machine_cut combined-starts p inputs sound fit slots w cut in
+      let all = all_in p inputs sound r c g in_range hc (machine.proper r in_range)
+      (ours_seen p r (moves_at p w r) nothing_seen (ours_nothing p r) (machine.moves r in_range)) (to_machine c hc k) l i in
+      elim (In-append_cases l (came_to p c g.came) (bumped_to p c g.fired) all) [
+        | inl j ↦ (let a = came_to-In p c g.came l j in
+            came (has_start (w r)) refl a.0
+            (subst (λ xs. In a.0 xs) (came_all combined-starts p inputs sound fit slots w cut r) a.1))
+        | inr j ↦ absurd (let e = sym sends ∙ (bumped_to-In p c g.fired l j).1 in let clash : ⊥ = cc in clash)
+      ]
+    where
+      r : ℕ
+      r = (cell p c).rank
+
+      g : Seen
+      g = all_seen p (moves_at p w) r
+
+      came : (b : Bool) → has_start (w r) ≡ b → (a : Came) → In a (cond b (map to_came (own_received Request (w r))) [])
+          → 0 < count_by is_start (w r)
+      came true e a j = let n = started_counts (w r) e in omega (arith, n)
+      came false e a j = absurd j
+
+  -- or bumps from such cells alone
+  bound_within : AreCellsInOrder p inputs slots w → (n c : ℕ) → c < n → c < length p.cells → is_bound p c ≡ true
+      → CounterReached p inputs slots w c → 0 < count_by is_start (w (cell p c).rank)
+  bound_within order zero c h hc b k = absurd (omega arith)
+  bound_within order (suc n) c h hc b k =
+      elim (or_cases (nat_lt c p.ranks) (list_any (does_bind p (bound_below p c)) (in_links p c)) b) [
+        | inl q ↦ (let lt = ltb-true c p.ranks q in
+            subst (λ d. 0 < count_by is_start (w d)) (sym (sound.go_needs c lt).2) (go_begun c lt k))
+        | inr q ↦ (let f = any-In (does_bind p (bound_below p c)) (in_links p c) q in
+            let l = f.0 in
+            let s = (link p l).source in
+            let kind = (link p l).kind in
+            let known = in_links-In p c l f.1 in
+            let sl = sound.links_sound l known.0 in
+            let up = sl.rising in
+            let at = known.1 in
+            let below : s < c = omega (arith, up, at) in
+            elim (cases_Bool (is_bump kind)) [
+              | inl bump ↦ (let same : (cell p s).rank ≡ (cell p c).rank =
+                  sl.bump_stays (bump-is kind bump) ∙ ap (λ d. (cell p d).rank) at in
+                  subst (λ d. 0 < count_by is_start (w d)) same
+                  (bound_within order n s (omega (arith, below, h)) (omega (arith, below, hc))
+                  (sym (bound_at p c s below) ∙ from_source kind bump (get_or (bound_below p c) s false) f.2)
+                  (order s c (omega (arith, below, hc)) hc (along c l f.1 here) k)))
+              | inr message ↦ message_begun c l hc f.1 message k
+            ])
+      ]
+
+  pub entry_begun : AreCellsInOrder p inputs slots w → (c : ℕ) → c < length p.cells → is_bound p c ≡ true
+      → CounterReached p inputs slots w c → 0 < count_by is_start (w (cell p c).rank)
+  entry_begun order c hc b k = bound_within order (suc c) c (omega arith) hc b k

@@ -1,4 +1,5 @@
 pub mod Apart
+mod Begun
 pub mod Cells
 pub mod Marked
 pub mod Named

@@ -1,5 +1,5 @@
 -- A given plan in which nothing is at fault, and what then holds of its ranks.
-use Rattle.std.specs.Prelude.{ℕ, ◌≡◌, ◌<◌, List, Some, None}
+use Rattle.std.specs.Prelude.{ℕ, ◌≡◌, ◌<◌, List, Some, None, count_by}
 use Rattle.ptl_types.specs.Elements.{part}
 use Rattle.coll_shape.specs.Outline.{Outline}
 use Rattle.given_lines.specs.declared.given.Mark.{Mark}
@@ -14,6 +14,7 @@ use Rattle.plan_core.specs.Members.{In}
 use Rattle.plan_core.specs.Plan.{Plan, cell}
 use Rattle.plan_core.specs.Values.{Inputs, value}
 use Rattle.plan_judge.specs.Causes.{judged}
+use Rattle.cuts.specs.histories.History.{is_start}
 use Rattle.cuts.specs.histories.Plans.{CounterReached}
 use Rattle.cuts.specs.histories.System.{Histories}
 use Rattle.cuts.specs.view.Slots.{Slots}
@@ -34,6 +35,11 @@ pub record AreNamedResults (p : Plan) (ms : List Mark) (h : HeldCells) : Type 0 
 abbrev pub AreNamedBarriersKept : Plan → List Mark → Inputs → (ℕ → Slots) → Histories → Type 0
 AreNamedBarriersKept p ms inputs slots w =
     (s r q b c : ℕ) → In (Enter s r b) ms → In (Leave s q c) ms → CounterReached p inputs slots w c → CounterReached p inputs slots w b
+
+-- where a rank has entered a barrier, as the lines name the cells, it has started
+abbrev pub AreEntriesBegun : Plan → List Mark → Inputs → (ℕ → Slots) → Histories → Type 0
+AreEntriesBegun p ms inputs slots w =
+    (s r c : ℕ) → In (Enter s r c) ms → CounterReached p inputs slots w c → 0 < count_by is_start (w r)
 
 -- in these memories of the ranks the cell of each line `result` holds its value
 abbrev pub AreResultsIn : Plan → List Mark → Inputs → (ℕ → List ℕ) → Type 0

@@ -1,3 +1,4 @@
 pub mod Flawless
+pub mod GivenJobs
 pub mod Right
 pub mod Verdicts

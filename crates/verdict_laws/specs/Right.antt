@@ -76,10 +76,12 @@ pub record IsFinalAt (o : Outline) (g : Given) (inputs : Inputs) (slots : ℕ �
   pub quiet : HasGotAll (ranks_of g inputs slots) w r
   pub released : g.plan.remote ≡ true → (state_at (ranks_of g inputs slots) w r).pending.waiting ≡ []
 
--- In a cut, whatever the order of starts, deliveries and firings: where one rank has left a barrier every member has entered it; where the
--- cell of an input has reached its needs, so that what reads it may fire, its rank has started; and a rank that is done is final.
+-- In a cut, whatever the order of starts, deliveries and firings: where one rank has left a barrier every member has entered it, and a rank
+-- that has entered one has started; where the cell of an input has reached its needs, so that what reads it may fire, its rank has started;
+-- and a rank that is done is final.
 pub record IsRightInCut (o : Outline) (g : Given) (inputs : Inputs) (slots : ℕ → Slots) (w : Histories) : Type 0 where
   pub barriers : (s q r : ℕ) → HasLeft g inputs slots w s q → IsMember o s r → HasEntered g inputs slots w s r
+  pub entries : (s r : ℕ) → HasEntered g inputs slots w s r → 0 < count_by is_start (w r)
   pub reads : (b r : ℕ) → b < o.inputs → r < o.ranks → CounterReached g.plan inputs slots w (input_cell o b r) → 0 < count_by is_start (w r)
   pub done : (r : ℕ) → r < o.ranks → IsDoneAsSaid g inputs slots w r → IsFinalAt o g inputs slots w r
 

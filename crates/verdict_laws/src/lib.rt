@@ -1,6 +1,6 @@
 //! What a verdict on a given plan tells its user. A plan in which nothing is at fault meets the conditions under which all ranks run to
 //! their end, its barriers are kept, and its results are the values of their cells; where these are what the description means, the plan
-//! is right in every cut and at the end of every interleaving.
+//! is right in every cut and at the end of every interleaving. And the job of such a plan.
 #![tactic(auto)]
 
 ghost use Rattle.std.specs.Prelude.{ℕ, List, Some, ◌≡◌, ◌<◌, ◌^◌, get_or, length};
@@ -26,11 +26,13 @@ ghost use Rattle.cuts.specs.histories.Plans.{IsComplete, system_of};
 ghost use Rattle.cuts.specs.histories.System.{Histories, state_at};
 ghost use Rattle.cuts.specs.interleavings.Interleaving.{IsReachedIn, IsStillButStrays};
 ghost use Rattle.cuts.specs.view.Slots.{Slots, done_ct};
-ghost use Rattle.verdict_laws.specs.Flawless.{AreNamedBarriersKept, AreNamedMeant, AreNamedResults, AreResultsIn, IsFlawless};
+ghost use Rattle.verdict_laws.specs.Flawless.{AreEntriesBegun, AreNamedBarriersKept, AreNamedMeant, AreNamedResults, AreResultsIn};
+ghost use Rattle.verdict_laws.specs.Flawless.{IsFlawless};
 ghost use Rattle.verdict_laws.specs.Right.{IsRightFor};
 ghost use Rattle.verdict_laws.specs.Verdicts.{IsRightForAll, IsRightGiven};
 
 pub mod drawn;
+pub mod jobs;
 
 use coll_lang::reads_exactly;
 use cuts::cells::{cells_hold_values, cells_in_order};
@@ -50,13 +52,16 @@ pub fn flawless_plans_can_run()
 {}
 
 /// Of a plan in which nothing is at fault, for all inputs of the description's shape: in every cut, whatever the order of steps, each
-/// barrier is kept. And at the end of every interleaving of starts, deliveries and firings, with any messages of other jobs among them,
-/// once every rank has started, no operation is ready and nothing but such messages is left: every rank is complete, its done counter
-/// stands where the text says, and the cell of each result holds its value.
+/// barrier is kept, and entered by no rank before its start. And at the end of every interleaving of starts, deliveries and firings, with
+/// any messages of other jobs among them, once every rank has started, no operation is ready and nothing but such messages is left: every
+/// rank is complete, its done counter stands where the text says, and the cell of each result holds its value.
 pub fn flawless_plans_end()
     ensures barriers { (p : Plan) (o : Outline) (said : List ℕ) (marks : List Mark) (inputs : Inputs) (slots : ℕ → Slots)
         (world : Histories) → IsFlawless p o said marks → AreInputs o inputs → IsCut (system_of p inputs slots) world →
         AreNamedBarriersKept p marks inputs slots world }
+    ensures entries { (p : Plan) (o : Outline) (said : List ℕ) (marks : List Mark) (inputs : Inputs) (slots : ℕ → Slots)
+        (world : Histories) → IsFlawless p o said marks → AreInputs o inputs → IsCut (system_of p inputs slots) world →
+        AreEntriesBegun p marks inputs slots world }
     ensures complete { (p : Plan) (o : Outline) (said : List ℕ) (marks : List Mark) (inputs : Inputs) (slots : ℕ → Slots)
         (steps strays : ℕ) (world : Histories) (held : Lanes) → IsFlawless p o said marks → AreInputs o inputs →
         IsReachedIn (system_of p inputs slots) steps strays world held → IsStillButStrays (system_of p inputs slots) world held →

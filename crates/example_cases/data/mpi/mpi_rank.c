@@ -1,11 +1,11 @@
 /* One rank of a job in each process of an MPI job.
  *
- *   mpirun -n RANKS mpi_rank [--late RANK MS] [--shuffle SEED] [--times MS] PORTALS_RANK DESCRIPTION
+ *   mpirun -n RANKS mpi_rank [--late RANK MS] [--shuffle SEED] [--times MS] PORTALS_RANK TEXT
  *
  * A rank is the program PORTALS_RANK, a child on two pipes, which every process can start; here its frames are carried, and
- * nothing is known of what is in them (docs/RANKS.md has their form). RANKS is the number on the description's second line,
- * and DESCRIPTION a path that process 0 can read. At the end process 0 writes the text that `portals_run once` writes, and
- * then the line of each rank's order.
+ * nothing is known of what is in them (docs/RANKS.md has their form). TEXT is the path of a description, perhaps with a plan
+ * for it behind it, which process 0 can read, and RANKS the number on its second line. At the end process 0 writes the text
+ * that `portals_run once` or `portals_plan once` writes, and then the line of each rank's order.
  *
  * What the ranks rely on: between two of them messages arrive in the order in which they were sent, unchanged and from whom MPI
  * says. All go by one tag and one communicator, and each is received as soon as it is probed, on one thread.
@@ -35,12 +35,12 @@
 #include <unistd.h>
 
 enum { MESSAGE, LINES };                                           /* tags */
-enum { DONE, OTHER, USAGE, REFUSED, OUTPUT = 5, NO_MEMORY };       /* statuses */
+enum { DONE, OTHER, USAGE, REFUSED, OUTPUT = 5, NO_MEMORY, FLAWED = 8 }; /* statuses */
 enum { HEAD = 8, PIECE = 65536, LONGEST_FRAME = 1 << 30, LONGEST_TEXT = 1 << 26 };
 enum { PATIENCE = 10 /* s */, LONGEST_HOLD = 20 /* ms */, LONGEST_NAP = 1000 /* us */ };
 static const uint32_t NOBODY = UINT32_MAX;
 
-static const char USAGE_LINE[] = "usage: mpi_rank [--late RANK MS] [--shuffle SEED] [--times MS] PORTALS_RANK DESCRIPTION";
+static const char USAGE_LINE[] = "usage: mpi_rank [--late RANK MS] [--shuffle SEED] [--times MS] PORTALS_RANK TEXT";
 
 extern char **environ;
 
@@ -178,14 +178,17 @@ static const char *words_of_child(void) {
     return line;
 }
 
-/* The child's status, DONE or REFUSED, when it has closed its output. Any other is a fault. */
+/* Whether a child that ends so has written why nothing runs. */
+static bool is_answer(int status) { return status == REFUSED || status == FLAWED; }
+
+/* The child's status, DONE or that of an answer, when it has closed its output. Any other is a fault. */
 static int end_child(void) {
     int status;
     for (double since = MPI_Wtime(); waitpid(child, &status, WNOHANG) != child; nap(LONGEST_NAP)) be_patient(since);
     child = 0;
     if (WIFSIGNALED(status)) give_up(OTHER, "%s was ended by signal %d", program, WTERMSIG(status));
     int own = WEXITSTATUS(status);
-    if (has_ended && own == REFUSED) return own;
+    if (has_ended && is_answer(own)) return own;
     if (own == USAGE) leave_it_to_the_first();
     const char *words = words_of_child();
     if (own) give_up(own, "%s ended with status %d%s%s", program, own, *words ? ": " : "", words);
@@ -392,7 +395,7 @@ static void rest(int idle) {
     else ppoll(pipes, 2, &time, NULL);
 }
 
-/* Carries frames until the child has closed its output; its status, DONE or REFUSED. */
+/* Carries frames until the child has closed its output; its status, DONE or that of an answer. */
 static int carry(void) {
     int idle = 0;
     for (bool is_closed = false; !is_closed;) {
@@ -513,8 +516,8 @@ static void write_text(struct bytes *all) {
     if (fflush(stdout) || ferror(stdout)) give_up(OUTPUT, "can't write: %s", strerror(errno));
 }
 
-/* A text that is refused is so at each rank. */
-static void write_refusal(void) {
+/* A text that is refused, or whose plan has a flaw, is so at each rank. */
+static void write_answer(void) {
     fwrite(output.at + output.from, 1, count_of(&output), stdout);
     if (fflush(stdout) || ferror(stdout)) give_up(OUTPUT, "can't write: %s", strerror(errno));
     fprintf(stderr, "mpi_rank: %s\n", words_of_child());
@@ -575,7 +578,7 @@ int main(int argc, char **argv) {
     free(text.at);
     int status = carry();
     meet();
-    if (status == REFUSED && !rank) write_refusal();
+    if (is_answer(status) && !rank) write_answer();
     if (status == DONE) write_text(gather());
     meet();
     MPI_Finalize();

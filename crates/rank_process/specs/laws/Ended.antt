@@ -11,6 +11,8 @@ use Rattle.cuts.specs.histories.History.{got}
 use Rattle.cuts.specs.histories.Plans.{system_of}
 use Rattle.cuts.specs.histories.System.{Histories, sent_by}
 use Rattle.cuts.specs.view.Slots.{Slots}
+use Rattle.run_text.specs.Lines.{text_of}
+use Rattle.verdict_laws.specs.GivenJobs.{given_lists}
 use Rattle.rank_process.specs.lines.Lines.{own_line}
 use Rattle.rank_process.specs.lines.Rank.{IsHistory, Work, state_after}
 
@@ -33,3 +35,7 @@ line_of w slots world b r = own_line w.shape w.schedule r (state_after w.schedul
 -- the lines that the ranks wrote: for each buffer that is printed, in order, that of each rank
 abbrev pub gathered : Work → (ℕ → Slots) → Histories → List ℕ
 gathered w slots world = flat_map (λ b. flat_map (line_of w slots world b) (from_to 0 w.schedule.plan.ranks)) w.shape.prints
+
+-- what the cells hold in the end that hold the results, written for the shape
+abbrev pub results_text : Work → List ℕ
+results_text w = text_of w.shape (given_lists w.schedule.plan w.schedule.held w.inputs)

@@ -1,11 +1,16 @@
 -- One rank of what a text asks for by itself: its interface, its history.
-use Rattle.std.specs.Prelude.{ℕ, false, ◌≡◌, ◌≤◌, ◌<◌, List, [], None, Ok, length}
+use Rattle.std.specs.Prelude.{ℕ, false, ◌≡◌, ◌≤◌, ◌<◌, ◌⊎◌, List, [], None, Ok, Err, length}
 use Rattle.ptl_types.specs.declared.headers.Lane.{Lane}
 use Rattle.ptl_types.specs.Messages.{Sent}
 use Rattle.ni_model.specs.State.{State}
 use Rattle.coll_lang.specs.Language.{read}
 use Rattle.coll_lang.specs.Program.{Program}
+use Rattle.coll_lang.specs.declared.fault.Refusal.{Refusal}
 use Rattle.coll_shape.specs.Outline.{Outline}
+use Rattle.given_verdicts.specs.Answers.{judged_text}
+use Rattle.given_verdicts.specs.declared.answer.FlawlessText.{FlawlessText}
+use Rattle.given_verdicts.specs.declared.answer.Judged.TheVariants.{Flawless}
+use Rattle.verdict_laws.specs.GivenJobs.{flawless_job}
 use Rattle.schedule_compiler.specs.shapes.Footprint.{refusal}
 use Rattle.schedule_compiler.specs.Schedules.{ScheduleOf, schedule_of}
 use Rattle.plan_core.specs.Plan.{Plan}
@@ -35,9 +40,21 @@ pub record IsDescribed (text : List ℕ) (d : Program) : Type 0 where
 abbrev pub own_work : Program → Work
 own_work d = record { shape = d.shape; schedule = schedule_of d.shape; inputs = d.inputs }
 
--- the text asks for this
+-- the text, which is none of a description, is that of a description and of a plan for it that has no flaw
+pub record IsGiven (text : List ℕ) (t : FlawlessText) : Type 0 where
+  pub refusal : ℕ × Refusal
+  pub unread : read text ≡ Err refusal
+  pub judged : judged_text text ≡ Flawless t
+
+-- that plan, with the description's inputs
+abbrev pub given_work : FlawlessText → Work
+given_work t =
+    let job = flawless_job t in
+    record { shape = t.description.shape; schedule = job.schedule; inputs = job.inputs }
+
+-- the text asks for a description's own plan, or for the one that is given
 abbrev pub Asks : List ℕ → Work → Type 0
-Asks text w = (d : Program) × IsDescribed text d × (w ≡ own_work d)
+Asks text w = ((d : Program) × IsDescribed text d × (w ≡ own_work d)) ⊎ ((t : FlawlessText) × IsGiven text t × (w ≡ given_work t))
 
 -- ---- a rank of a plan
 

@@ -14,6 +14,7 @@ use Rattle.mark_judge.specs.declared.flaw.Due.TheVariants as dues
 use Rattle.mark_judge.proofs.Tests.{In-get_or, get_or-In}
 use Rattle.marked_plans.specs.Marks.{marks_of}
 use Rattle.verdict_laws.proofs.drawn.Apart.{distinct_marks, same_mark}
+use Rattle.verdict_laws.proofs.drawn.Begun.{Begins, of_begun}
 use Rattle.verdict_laws.proofs.drawn.Cells.{holders_low, of_closed, of_due, of_fit}
 use Rattle.verdict_laws.proofs.drawn.Named.{IsOf, entry_there, exit_there, of_marks, result_there}
 use Rattle.plan_core.specs.calls.RankOps.{done_threshold}
@@ -55,9 +56,9 @@ line_of_due o a (dues.Leave s r) due =
 of_line : (o : Outline) (i : ℕ) → i < length (marks_of o) → IsOf o (mark_at (marks_of o) i)
 of_line o i low = of_marks o (mark_at (marks_of o) i) (In-get_or (marks_of o) i no_mark low)
 
-pub are_marked : (o : Outline) → IsWellFormed o → refusal o ≡ None
+pub are_marked : (o : Outline) → Begins o → IsWellFormed o → refusal o ≡ None
     → AreMarked (plan_of o) o (map (done_threshold (plan_of o)) (from_to 0 (plan_of o).ranks)) (marks_of o)
-are_marked o a none = record {
+are_marked o begins a none = record {
   done = λ r low. at_rank (done_threshold (plan_of o)) 0 (plan_of o).ranks r low
       ∙ ap (done_threshold (plan_of o)) (let z : 0 + r ≡ r = omega arith in z);
   due = λ i low. of_due o a (printed_low o a) (mark_at (marks_of o) i) (of_line o i low);
@@ -68,5 +69,8 @@ are_marked o a none = record {
       (of_line o i less) (of_line o j low) same) in
       omega (arith, before, is);
   all = λ d due. line_of_due o a d due;
+  begun = λ s r c enter.
+      let of = of_marks o (marks.Enter s r c) enter in
+      of_begun o a none begins s r c of (of_fit o a (printed_low o a) (marks.Enter s r c) of);
   closed = λ s r q b c enter leave. of_closed o a s r q b c (of_marks o (marks.Enter s r b) enter) (of_marks o (marks.Leave s q c) leave);
 }

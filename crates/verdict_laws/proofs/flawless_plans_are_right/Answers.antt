@@ -21,6 +21,8 @@ returns c = λ o g inputs flawless given meant.
       cuts = λ slots w cut. record {
         barriers = λ s q r left member.
             entered o g flawless inputs slots w (c.cells_in_order.ensures.order p inputs slots w sound_at fits cut) s q r left member;
+        entries = λ s r entered.
+            c.flawless_plans_end.ensures.entries p o g.done g.marks inputs slots w flawless given cut s r entered.0 entered.1 entered.2;
         reads = λ b r hb hr reached.
             input_begun p inputs sound_at fits slots w cut (c.cells_in_order.ensures.order p inputs slots w sound_at fits cut)
             (subst (λ n. AreGuarded p n) (sym given.many) (guarded p o g.done g.marks flawless)) b r
