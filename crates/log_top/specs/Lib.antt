@@ -1,0 +1,5 @@
+pub mod Reading
+pub mod Ending
+pub mod Telling
+pub mod Answered
+pub mod Turns

@@ -1,10 +1,14 @@
-//! The program that judges logs over any source and any sink: words in, a status out.
+//! The program that judges logs, over any source and any sink: words in, a status out.
 #![tactic(auto)]
 
+mod ending;
+mod filling;
+mod judging;
 mod reading;
-mod sessions;
+mod serving;
+mod telling;
 mod top;
-mod writing;
+mod verdicts;
 
 pub use run_text::Status;
 pub use top::log_main;
