@@ -12,7 +12,7 @@ use std::thread::Threads;
 const ROOM: u64 = 1 << 24;
 
 /// The words of a command line.
-fn words_of(alloc: Global, line: &[&str]) -> Result<Vec<String>, AllocError> {
+pub fn words_of(alloc: Global, line: &[&str]) -> Result<Vec<String>, AllocError> {
     let mut words = Vec::new(alloc);
     for word in line {
         words.push(String::from_str(alloc, word)?)?;
@@ -44,7 +44,7 @@ pub fn written_for(
 }
 
 /// What these words say of a description and the plan that is drawn of it.
-fn said_of_drawn(
+pub fn said_of_drawn(
     rt: &(impl Threads + Wait + Sync),
     alloc: Global,
     line: &[&str],

@@ -2,6 +2,7 @@
 
 use crate::comparing::compared;
 use crate::drawn::written_for;
+use crate::told::print_answer;
 use std::sync::Wait;
 use std::thread::Threads;
 use std::{fs, io};
@@ -25,7 +26,7 @@ fn print_form(
     println!(rt; "{given}: {found} {other}")
 }
 
-/// Prints the verdict on the orders of a file, after the plan.
+/// Prints the verdict on the orders of a file, after the plan, and what stands beside it.
 fn print_verdict(
     rt: &HostRuntime,
     threads: &(impl Threads + Wait + Sync),
@@ -37,11 +38,7 @@ fn print_verdict(
     let mut text = fs::read(rt, given.as_str())?;
     let lines = fs::read(rt, orders.as_str())?;
     text.extend_from_slice(lines.as_slice())?;
-    let Ok(sink) = written_for(threads, rt.alloc(), &["check"], text.as_slice()) else {
-        return println!(rt; "{stem}: no memory");
-    };
-    let said = String::from_utf8_lossy(rt.alloc(), sink.as_slice())?;
-    print!(rt; "{orders}: {said}")
+    print_answer(rt, threads, orders.as_str(), &["check"], text.as_slice())
 }
 
 /// Prints what is found of a plan's limits, of its operations in words and as a graph, and of orders.
@@ -54,6 +51,13 @@ pub fn print_forms(
     print_form(rt, threads, stem, &["explain"], "explain")?;
     print_form(rt, threads, stem, &["explain", "1"], "explain_1")?;
     print_form(rt, threads, stem, &["explain", "--dot"], "dot")?;
+    print_form(
+        rt,
+        threads,
+        stem,
+        &["cost", "1000", "100", "100", "80"],
+        "cost",
+    )?;
     print_verdict(rt, threads, stem, "orders")?;
     print_verdict(rt, threads, stem, "too_early")?;
     print_verdict(rt, threads, stem, "torn")

@@ -1,6 +1,6 @@
 //! The examples, run: what each description of data/ gives under `once` is what the file beside it says, the plan that is drawn of it
 //! holds for its inputs, and what each in JSON stands for is the description of the same name. What is told of the plan of forms/ is
-//! what the files beside it say. The logs of logs/ are judged.
+//! what the files beside it say, and plans take the time of closed forms. The logs of logs/ are judged.
 #![tactic(auto)]
 
 mod comparing;
@@ -8,6 +8,8 @@ mod drawn;
 mod folder;
 mod forms;
 mod logs;
+mod times;
+mod told;
 
 use comparing::{Found, lines_of_json, once_gives};
 use drawn::print_drawn;
@@ -15,6 +17,8 @@ use folder::names;
 use forms::print_forms;
 use logs::judge_logs;
 use std::{fs, io};
+use times::print_times;
+use told::print_told;
 
 /// The text of a file, and the file beside it that says what is wanted.
 #[derive(Drop)]
@@ -62,6 +66,8 @@ fn main(rt: HostRuntime) -> io::Result<()> {
         }
     }
     print_forms(&rt, &rt, "forms/broadcast")?;
+    print_told(&rt, &rt, "told/sum.given", "told/rows")?;
+    print_times(&rt, &rt)?;
     judge_logs(&rt, "logs")?;
     judge_logs(&rt, "logs/wrong")
 }

@@ -1,7 +1,7 @@
 -- What a check finds and writes, and what then holds for the bytes of the source.
 use Rattle.std.proofs.Common.{◌≡◌, ◌≢◌, ◌≤◌, ◌<◌, ◌+◌, ℕ, Bool, true, false, cond, List, [], ◌∷◌, length, take, Option, Some, None}
 use Rattle.std.proofs.Common.{Result, Ok, refl, sym, subst, ap, ◌∙◌, inl, inr, arith, eq-eqb}
-use Rattle.std.proofs.lemmas.Bool.{le-ltb, lt-ltb}
+use Rattle.std.proofs.lemmas.Bool.{le-ltb, lt-ltb, ne_eqb}
 use Rattle.std.specs.Prelude.{codes}
 use Rattle.std.specs.Str.{bytes_eq}
 use Rattle.ptl_types.specs.declared.steps.LocalStep.{LocalStep}
@@ -28,7 +28,7 @@ use Rattle.run_text.proofs.Told.{AreAlike, Told, short-text, told-any}
 use Rattle.plan_top.specs.Owed.{owed_given}
 use Rattle.given_top.specs.declared.checking.TheConstants.{LONGEST_PLAN_CHECK}
 use Rattle.given_top.specs.declared.runs.running.GivenRun.{GivenRun}
-use Rattle.given_top.specs.Checked.{CheckAnswered, Checks, CheckText, Finds, Found, IsVerdictOn, check_text, owed_check, owed_found}
+use Rattle.given_top.specs.Checked.{CheckAnswered, Checks, CheckText, Found, IsVerdictOn, check_text, owed_check, owed_found}
 use Rattle.given_top.specs.Checked.{on_orders, on_plan, owed_verdict, plan_end}
 use Rattle.given_top.specs.Checked.CheckText.{Ordered, Told as IsAnswered}
 use Rattle.given_top.proofs.ReadTexts.{given_owes, rose_at}
@@ -195,6 +195,16 @@ orders_read lines t text d orders sink sink' status read count checks =
     subst (λ (r : Result (Program × List (List LocalStep)) (ℕ × Refusal)). Checks (on_orders lines t r) sink sink' status) (sym read)
     (subst (λ (b : Bool). Checks (cond b (Ordered t orders) (IsAnswered (answers.Refused 0 (Description BadOrder)))) sink sink' status)
     (sym (eq-eqb _ _ count)) checks)
+
+-- or not
+pub orders_unlike : (lines : ℕ) (t : FlawlessText) (text : List ℕ) (d : Program) (orders : List (List LocalStep)) (sink sink' : Outflow)
+    (status : Status) → read_check text ≡ Ok (d, orders) → length orders ≢ t.given.plan.ranks
+    → Written (owed_given (answers.Refused 0 (Description BadOrder))) sink sink' status
+    → Checks (on_orders lines t (read_check text)) sink sink' status
+orders_unlike lines t text d orders sink sink' status read unlike written =
+    subst (λ (r : Result (Program × List (List LocalStep)) (ℕ × Refusal)). Checks (on_orders lines t r) sink sink' status) (sym read)
+    (subst (λ (b : Bool). Checks (cond b (Ordered t orders) (IsAnswered (answers.Refused 0 (Description BadOrder)))) sink sink' status)
+    (sym (ne_eqb _ _ unlike)) (told (answers.Refused 0 (Description BadOrder)) sink sink' status written))
 
 -- the line after a text's part is one of it, or the next
 pub line_least : (k : ℕ) (ls : List (List ℕ)) → k ≤ line_after k ls

@@ -13,7 +13,7 @@ use Rattle.given_verdicts.specs.Answers.{judged_text}
 use Rattle.given_verdicts.proofs.Answering.{long_judged}
 use Rattle.run_text.specs.declared.status.Status.{Status}
 use Rattle.run_text.specs.declared.status.Status.TheVariants.{Done, Usage, Refused, ReadFault, WriteFault, NoMemory}
-use Rattle.run_text.specs.Ending.{Due, IsTold, MayAnswer, Stands, Written, done, refused}
+use Rattle.run_text.specs.Ending.{IsTold, MayAnswer, Stands, Written, done, refused}
 use Rattle.run_text.proofs.Ended.{leaves}
 use Rattle.run_text.proofs.Told.{AreAlike, Told, short-text, told-any}
 use Rattle.job_runs.specs.declared.modes.Mode.{Mode}
@@ -28,10 +28,11 @@ use Rattle.given_top.specs.declared.words.Purpose.{Purpose}
 use Rattle.given_top.specs.declared.words.Purpose.TheVariants.{Run, Tell}
 use Rattle.given_top.specs.declared.words.Telling.{Telling}
 use Rattle.given_top.specs.declared.words.Telling.TheVariants.{Limits, Explain, ExplainRank, Graph}
-use Rattle.given_top.specs.Ran.{RanText, RunAnswered, job_of, owed_for, owed_run, owed_telling}
+use Rattle.verdict_laws.specs.GivenJobs.{flawless_job}
+use Rattle.given_top.specs.Ran.{RanText, RunAnswered, owed_for, owed_run, owed_telling}
 
 -- the judgement is that of the bytes, of which only so many were read
-same_judged : (xs ys : List ℕ) → AreAlike LONGEST_GIVEN xs ys → judged_text xs ≡ judged_text ys
+pub same_judged : (xs ys : List ℕ) → AreAlike LONGEST_GIVEN xs ys → judged_text xs ≡ judged_text ys
 same_judged xs ys (inl same) = ap judged_text same
 same_judged xs ys (inr long) = long_judged xs long.0 ∙ sym (long_judged ys long.1)
 
@@ -96,7 +97,7 @@ answered purpose answer sink sink' status run written is =
     })
 
 pub ran : (mode : Mode) (t : FlawlessText) (sink sink' : Outflow) (run : GivenRun)
-    → IsGivenRun mode t.description.shape (job_of t) sink sink' run → RanText (Run mode) (Flawless t) sink sink' run
+    → IsGivenRun mode t.description.shape (flawless_job t) sink sink' run → RanText (Run mode) (Flawless t) sink sink' run
 ran mode t sink sink' run is = record {
   written = is.written;
   world = is.world;

@@ -3,7 +3,6 @@ use Rattle.std.specs.Prelude.{ℕ, ◌+◌, ◌≡◌, List, Option, None, drop,
 use Rattle.port_io.specs.Counts.{Rose}
 use Rattle.port_io.specs.Ends.{Inflow, Outflow}
 use Rattle.coll_lang.specs.declared.fault.Refusal.TheVariants.{BadNumber}
-use Rattle.given_lines.specs.Given.{Given}
 use Rattle.plan_core.specs.Plan.{Plan}
 use Rattle.given_verdicts.specs.declared.answer.FlawlessText.{FlawlessText}
 use Rattle.given_verdicts.specs.declared.answer.Judged.{Judged}
@@ -12,8 +11,8 @@ use Rattle.given_verdicts.specs.declared.judging.TheConstants.{LONGEST_GIVEN}
 use Rattle.given_verdicts.specs.Answers.{judged_text}
 use Rattle.run_text.specs.declared.status.Status.TheVariants.{Done, NoMemory, ReadFault, Refused, WriteFault}
 use Rattle.run_text.specs.Ending.{Due, Leaves, MayAnswer, Stands, Written, done, refused}
-use Rattle.schedule_compiler.specs.Jobs.{JobOf}
 use Rattle.worlds.specs.World.{WorldState}
+use Rattle.verdict_laws.specs.GivenJobs.{flawless_job}
 use Rattle.plan_words.specs.Graph.{graph_text}
 use Rattle.plan_words.specs.Limits.{limits_text}
 use Rattle.plan_words.specs.Words.{explained, rank_text}
@@ -24,12 +23,7 @@ use Rattle.given_top.specs.declared.words.Purpose.{Purpose}
 use Rattle.given_top.specs.declared.words.Purpose.TheVariants.{Run, Tell}
 use Rattle.given_top.specs.declared.words.Telling.{Telling}
 use Rattle.given_top.specs.declared.words.Telling.TheVariants.{Limits, Explain, ExplainRank, Graph}
-use Rattle.given_top.specs.runs.GivenJobs.{given_job}
 use Rattle.given_top.specs.runs.GivenRuns.{LeavesGiven, RanNothing, owed_text}
-
--- the job of a text in which no flaw was found: its plan's, with the inputs of its description
-abbrev pub job_of : FlawlessText → JobOf
-job_of t = given_job t.description.shape t.given t.description.inputs
 
 -- ---- what is told of a plan whose text begins with line k
 
@@ -54,7 +48,7 @@ owed_run purpose (Flawless t) w = owed_for purpose t w
 
 -- the world that is left: of the text's plan, at rest, every rank complete, and run as the mode asks for it; or none, where nothing ran
 abbrev pub LeavesFor : Purpose → FlawlessText → Option WorldState → Type 0
-LeavesFor (Run mode) t w = LeavesGiven mode (job_of t) w
+LeavesFor (Run mode) t w = LeavesGiven mode (flawless_job t) w
 LeavesFor (Tell telling) t w = w ≡ None
 
 abbrev pub LeavesIn : Purpose → Judged → Option WorldState → Type 0

@@ -12,7 +12,7 @@ abbrev pub usage_line : List ℕ
 usage_line =
     line
     (codes "usage: portals_plan draw | verify | verify given | once | sim X | run W | trace W | steady W"
-    ∷ codes "| check | limits | explain [RANK] | explain --dot" ∷ [])
+    ∷ codes "| check | limits | explain [RANK] | explain --dot | cost L o g G [O]" ∷ [])
 
 abbrev pub owed_usage : Due
 owed_usage = record { status = Usage; text = usage_line }

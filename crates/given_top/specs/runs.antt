@@ -1,2 +1,1 @@
-pub mod GivenJobs
 pub mod GivenRuns

@@ -2,6 +2,7 @@
 #![tactic(auto)]
 
 mod checking;
+mod costing;
 mod running;
 pub mod runs;
 mod telling;

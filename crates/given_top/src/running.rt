@@ -1,66 +1,40 @@
 //! What is done with a plan that follows a description.
 
-ghost use Rattle.std.specs.Prelude.{◌≡◌, ◌<◌, ◌^◌, IfOk, length};
+ghost use Rattle.std.specs.Prelude.{◌<◌, ◌^◌, length};
 ghost use Rattle.given_verdicts.specs.Answers.{IsFlawless, judged_text};
 ghost use Rattle.given_verdicts.specs.declared.answer.Judged.TheVariants.{Flawless};
-ghost use Rattle.given_top.specs.Ran.{RanText, job_of};
+ghost use Rattle.given_top.specs.Explained.{BesideRun, BesideUse};
+ghost use Rattle.given_top.specs.Ran.{RanText};
+ghost use Rattle.plan_top.specs.Explained.{TellsOf};
 ghost use Rattle.given_top.specs.Words.{CanDo};
-ghost use Rattle.given_top.specs.runs.GivenJobs.{FitsShape};
 
-use crate::runs::{GivenRun, given_job, given_jobs, run_given};
+use crate::runs::{GivenRun, run_given};
 use crate::telling::tell;
 use crate::words::Purpose;
-use coll_shape::Shape;
 use given_verdicts::{FlawlessText, Judged, judge_text};
 use job_runs::Host;
-use plan_top::{Status, write_answer};
+use plan_top::{Status, write_noted};
 use port_io::Sink;
-use ptl_types::NoMemory;
 use rank_threads::Gate;
-use schedule_compiler::Job;
-use std::alloc::Global;
 use std::sync::Wait;
 use std::thread::Threads;
-
-/// The shape of a text in which no flaw was found, and the job of its plan.
-pub(crate) fn flawless_job(alloc: Global, found: FlawlessText) -> Result<(Shape, Job), NoMemory>
-    requires flawless { IsFlawless found }
-    requires at_most { length found.given.plan.links < 2 ^ 26 }
-    ensures shape { IfOk result (λ parts. parts.0 ≡ found.description.shape) }
-    ensures job { IfOk result (λ parts. parts.1 ≡ job_of found) }
-    ensures fits { IfOk result (λ parts. FitsShape found.description.shape parts.1.schedule) }
-{
-    let FlawlessText {
-        line: _,
-        description,
-        given,
-    } = found;
-    let (shape, inputs) = description.into_parts();
-    shape.recall_form();
-    let (plan, done, marks) = given.into_parts();
-    given_jobs();
-    let job = given_job(
-        alloc,
-        &shape,
-        plan,
-        done.as_slice(),
-        marks.as_slice(),
-        inputs,
-    )?;
-    Ok((shape, job))
-}
+use text_notes::notes::Printable;
+use verdict_laws::jobs::flawless_job;
 
 /// Does with the plan of a text in which no flaw was found what is asked for.
+#[tactic(auto, using(plan_top::proofs::Telling::result_tells))]
 fn use_flawless<R: Threads + Wait + Sync, G: Gate, K: Sink>(
     host: &Host<R, G>,
     purpose: Purpose,
     found: FlawlessText,
     sink: &mut K,
+    told: &mut Printable,
 ) -> GivenRun
     requires possible { CanDo purpose }
     requires flawless { IsFlawless found }
     requires at_most { length found.given.plan.links < 2 ^ 26 }
-    ensures { RanText purpose (Flawless found) (K.outflow sink.old) (K.outflow sink.new) result }
+    ensures ran { RanText purpose (Flawless found) (K.outflow sink.old) (K.outflow sink.new) result }
+    ensures told { TellsOf (BesideUse purpose found) result.status told.new }
 {
     let head = found.line;
     let Ok((shape, job)) = flawless_job(host.alloc, found) else {
@@ -69,26 +43,29 @@ fn use_flawless<R: Threads + Wait + Sync, G: Gate, K: Sink>(
     match purpose {
         Purpose::Run(mode) => run_given(host, mode, &shape, &job, sink),
         Purpose::Tell(telling) => {
-            GivenRun::without(tell(host.alloc, telling, head, job.schedule(), sink))
+            GivenRun::without(tell(host.alloc, telling, head, job.schedule(), sink, told))
         }
     }
 }
 
-/// Judges the plan of a text, and does what is asked for with it if it is sound, whatever its results are.
+/// Judges the plan of a text, and does what is asked for with it if it is sound, whatever its results are. What a person
+/// is told where it isn't is kept.
 pub(crate) fn use_text<R: Threads + Wait + Sync, G: Gate, K: Sink>(
     host: &Host<R, G>,
     purpose: Purpose,
     text: &[u8],
     sink: &mut K,
+    told: &mut Printable,
 ) -> GivenRun
     requires { CanDo purpose }
-    ensures { RanText purpose (judged_text text.now) (K.outflow sink.old) (K.outflow sink.new) result }
+    ensures ran { RanText purpose (judged_text text.now) (K.outflow sink.old) (K.outflow sink.new) result }
+    ensures told { TellsOf (BesideRun purpose text.now (judged_text text.now)) result.status told.new }
 {
     match judge_text(host.alloc, text) {
         Ok(Judged::Answered(answer)) => {
-            GivenRun::without(write_answer(host.alloc, &answer, sink))
+            GivenRun::without(write_noted(host.alloc, text, &answer, sink, told))
         }
-        Ok(Judged::Flawless(found)) => use_flawless(host, purpose, found, sink),
+        Ok(Judged::Flawless(found)) => use_flawless(host, purpose, found, sink, told),
         Err(_) => GivenRun::without(Status::NoMemory),
     }
 }

@@ -1,16 +1,19 @@
 //! What is told of a plan without running it.
 
-ghost use Rattle.std.specs.Prelude.{◌<◌};
+ghost use Rattle.std.specs.Prelude.{◌<◌, ◌≡◌};
 ghost use Rattle.run_text.specs.Ending.{Written, done};
 ghost use Rattle.plan_words.specs.Graph.{graph_text};
 ghost use Rattle.plan_words.specs.Limits.{limits_text};
 ghost use Rattle.plan_words.specs.Words.{rank_text};
 ghost use Rattle.plan_words.specs.Takes.{all_takes};
+ghost use Rattle.given_top.specs.Explained.{BesideTelling, no_rank};
 ghost use Rattle.given_top.specs.Ran.{owed_telling};
+ghost use Rattle.plan_top.specs.Explained.{TellsOf};
 ghost use Rattle.given_top.specs.declared.words.Telling.TheVariants.{Explain, ExplainRank};
 
 use crate::words::Telling;
 use coll_lang::Refusal;
+use plan_core::Plan;
 use plan_tables::sound_plans;
 use plan_top::Status;
 use plan_words::{
@@ -21,6 +24,7 @@ use ptl_types::Rank;
 use run_text::{Pieces, refuse};
 use schedule_compiler::Schedule;
 use std::alloc::Global;
+use text_notes::notes::Printable;
 
 /// Writes what each rank takes of an interface.
 fn tell_limits<K: Sink>(alloc: Global, schedule: &Schedule, sink: &mut K) -> Status
@@ -82,19 +86,35 @@ fn tell_rank<K: Sink>(
     }
 }
 
+/// What a person is told where a plan doesn't have this rank.
+fn no_rank(r: Rank, plan: &Plan) -> Printable
+    ensures { result ≡ no_rank r plan.now }
+{
+    let mut text = Printable::new();
+    text.show(b"the plan has no rank ");
+    text.show_number(u64::from(r));
+    text.show(b"; each is below ");
+    text.show_number(u64::from(plan.ranks()));
+    text
+}
+
 /// Writes what each triggered operation of a rank is, if the plan has the rank.
+#[tactic(auto, using(plan_top::proofs::Telling::result_tells, crate::proofs::Beside::rank_tells))]
 fn tell_known<K: Sink>(
     alloc: Global,
     head: u32,
     schedule: &Schedule,
     r: Rank,
     sink: &mut K,
+    told: &mut Printable,
 ) -> Status
-    ensures { Written (owed_telling (ExplainRank r) head schedule.now.plan) (K.outflow sink.old) (K.outflow sink.new) result }
+    ensures written { Written (owed_telling (ExplainRank r) head schedule.now.plan) (K.outflow sink.old) (K.outflow sink.new) result }
+    ensures told { TellsOf (BesideTelling (ExplainRank r) schedule.now.plan) result told.new }
 {
     if r < schedule.ranks() {
         tell_rank(alloc, head, schedule, r, sink)
     } else {
+        *told = no_rank(r, schedule.plan());
         refuse(alloc, sink, 0, Refusal::BadNumber)
     }
 }
@@ -113,20 +133,24 @@ fn tell_graph<K: Sink>(alloc: Global, schedule: &Schedule, sink: &mut K) -> Stat
     }
 }
 
-/// Writes what is asked for of the plan of a schedule, whose text begins with this line.
+/// Writes what is asked for of the plan of a schedule, whose text begins with this line, and keeps what a person is told where it is
+/// refused.
+#[tactic(auto, using(plan_top::proofs::Telling::result_tells, crate::proofs::Beside::rank_tells))]
 pub(crate) fn tell<K: Sink>(
     alloc: Global,
     telling: Telling,
     head: u32,
     schedule: &Schedule,
     sink: &mut K,
+    told: &mut Printable,
 ) -> Status
-    ensures { Written (owed_telling telling head schedule.now.plan) (K.outflow sink.old) (K.outflow sink.new) result }
+    ensures written { Written (owed_telling telling head schedule.now.plan) (K.outflow sink.old) (K.outflow sink.new) result }
+    ensures told { TellsOf (BesideTelling telling schedule.now.plan) result told.new }
 {
     match telling {
         Telling::Limits => tell_limits(alloc, schedule, sink),
         Telling::Explain => tell_all(alloc, head, schedule, sink),
-        Telling::ExplainRank { rank } => tell_known(alloc, head, schedule, rank, sink),
+        Telling::ExplainRank { rank } => tell_known(alloc, head, schedule, rank, sink, told),
         Telling::Graph => tell_graph(alloc, schedule, sink),
     }
 }

@@ -1,12 +1,14 @@
 //! The words of the command line: all forms of the program stand here, in its usage line, and in `saying`.
 
-ghost use Rattle.std.specs.Prelude.{◌≡◌, IfSome, map, string_bytes};
-ghost use Rattle.given_top.specs.Words.{CanServe, form_of, is_check, plan_request, ranked, telling_of};
+ghost use Rattle.std.specs.Prelude.{◌≡◌, ◌≤◌, IfSome, map, string_bytes};
+ghost use Rattle.given_top.specs.Words.{CanServe, cost_form, cost_of, form_of, is_check, log_gp, plan_request, ranked, telling_of};
+ghost use Rattle.job_runs.specs.Modes.{mode_of};
 ghost use Rattle.run_text.specs.Ending.{Written};
 ghost use Rattle.given_top.specs.Usage.{owed_usage};
 
 use coll_text::number_between;
 use job_runs::{Mode, mode_in};
+use plan_costs::LogGp;
 use plan_top::{PlanRequest, Status};
 use port_io::Sink;
 use run_text::write_short;
@@ -14,7 +16,7 @@ use run_text::write_short;
 /// The line of all forms.
 const USAGE: &[u8] =
     b"usage: portals_plan draw | verify | verify given | once | sim X | run W | trace W | steady W | check \
-| limits | explain [RANK] | explain --dot\n";
+| limits | explain [RANK] | explain --dot | cost L o g G [O]\n";
 
 /// What is told of a plan without running it.
 #[derive(Clone, Copy, Debug, PartialEq, Eq)]
@@ -50,6 +52,9 @@ pub enum Form {
     Use(Purpose),
     /// `check`: to read a description, a plan and orders of its ranks' local steps, and write the verdict on these.
     Check,
+    /// `cost L o g G` and `cost L o g G O`: to read a description and a plan after it, and tell what the plan takes in time by these
+    /// numbers.
+    Cost(LogGp),
 }
 
 /// What is asked for that is drawn or judged.
@@ -99,6 +104,65 @@ fn is_check(words: &[String]) -> bool
     }
 }
 
+/// The greatest number of LogGP that is read.
+const MOST: u32 = 4_294_967_295;
+
+/// The numbers of LogGP that these words are.
+fn log_gp(
+    latency: &[u8],
+    overhead: &[u8],
+    gap: &[u8],
+    byte_gap: &[u8],
+    byte_work: Option<u32>,
+) -> Option<LogGp>
+    ensures value { result ≡ log_gp latency.now overhead.now gap.now byte_gap.now byte_work }
+    ensures some { IfSome result (λ numbers. 1 ≤ numbers.overhead) }
+{
+    let latency = number_between(0, MOST, latency)?;
+    let overhead = number_between(1, MOST, overhead)?;
+    let gap = number_between(0, MOST, gap)?;
+    let byte_gap = number_between(0, MOST, byte_gap)?;
+    LogGp::of(latency, overhead, gap, byte_gap, byte_work?)
+}
+
+/// The numbers by which a plan's times are asked for.
+fn cost_of(words: &[String]) -> Option<LogGp>
+    ensures value { result ≡ cost_of (map string_bytes words.now) }
+    ensures some { IfSome result (λ numbers. 1 ≤ numbers.overhead) }
+{
+    match words {
+        [verb, l, o, g, b] if verb.as_str() == "cost" => log_gp(
+            l.as_bytes(),
+            o.as_bytes(),
+            g.as_bytes(),
+            b.as_bytes(),
+            Some(0),
+        ),
+        [verb, l, o, g, b, w] if verb.as_str() == "cost" => log_gp(
+            l.as_bytes(),
+            o.as_bytes(),
+            g.as_bytes(),
+            b.as_bytes(),
+            number_between(0, MOST, w.as_bytes()),
+        ),
+        _ => None,
+    }
+}
+
+/// What is asked for that is told of times, or run.
+fn cost_form(words: &[String]) -> Option<Form>
+    ensures value { result ≡ cost_form (cost_of (map string_bytes words.now)) (mode_of (map string_bytes words.now)) }
+    ensures possible { IfSome result CanServe }
+{
+    match cost_of(words) {
+        Some(numbers) => Some(Form::Cost(numbers)),
+        None => match mode_in(words) {
+            Some(mode) => Some(Form::Use(Purpose::Run(mode))),
+            None => None,
+        },
+    }
+}
+
 /// What the words ask for. None for all other words.
 pub(crate) fn form_of(words: &[String]) -> Option<Form>
     ensures value { result ≡ form_of (map string_bytes words.now) }
@@ -111,10 +175,7 @@ pub(crate) fn form_of(words: &[String]) -> Option<Form>
             None => if is_check(words) {
                 Some(Form::Check)
             } else {
-                match mode_in(words) {
-                    Some(mode) => Some(Form::Use(Purpose::Run(mode))),
-                    None => None,
-                }
+                cost_form(words)
             },
         },
     }

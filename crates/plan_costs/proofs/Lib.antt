@@ -8,3 +8,6 @@ pub mod Ends
 pub mod Opening
 pub mod Steps
 pub mod RankTimes
+pub mod Going
+pub mod Spending
+pub mod Walking

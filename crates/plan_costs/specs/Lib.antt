@@ -4,3 +4,5 @@ pub mod Events
 pub mod State
 pub mod Answers
 pub mod Ranks
+pub mod Path
+pub mod Lasts

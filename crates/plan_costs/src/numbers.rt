@@ -10,7 +10,7 @@ use plan_core::{LinkKind, Plan};
 use ptl_types::Rank;
 
 /// What a message costs, in picoseconds; `byte_gap` and `byte_work` are picoseconds a byte.
-#[derive(Clone, Copy, Debug)]
+#[derive(Clone, Copy, Debug, PartialEq, Eq)]
 pub struct LogGp {
     /// L: from one network interface to the other.
     pub latency: u64,

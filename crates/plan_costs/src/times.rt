@@ -1,6 +1,6 @@
 //! The times of a plan.
 
-ghost use Rattle.std.specs.Prelude.{◌≡◌, ◌<◌, get_or, length};
+ghost use Rattle.std.specs.Prelude.{◌≡◌, ◌<◌, ◌^◌, get_or, length};
 
 use std::marker::Model;
 
@@ -54,5 +54,13 @@ impl Times {
         ensures { result ≡ get_or self.now.received l 0 }
     {
         self.received[l as usize]
+    }
+
+    /// What holds of a cell's time, whatever is done with it.
+    pub(crate) fn recall_cell(&self, c: u32)
+        requires { c < length self.now.cells }
+        ensures { get_or self.now.cells c 0 < 2 ^ 64 }
+    {
+        let _ = self.cell(c);
     }
 }

@@ -28,10 +28,11 @@ use Rattle.plan_top.specs.declared.words.PlanRequest.TheVariants.{Draw, Verify, 
 use Rattle.plan_top.specs.Owed.{Answers, IsAnswer, IsOwedFor, IsRight, PlanAnswered, due_described}
 use Rattle.plan_top.specs.Owed.{due_plan, longest, owed_drawn, owed_given}
 use Rattle.plan_top.specs.Owed.{status_of}
+use Rattle.plan_top.specs.Explained.{Beside, TellsOf}
 
 -- ---- texts that are too long
 
-too_long : (text : List ℕ) → LONGEST_TEXT < length text → read text ≡ Err (0, TooLong)
+pub too_long : (text : List ℕ) → LONGEST_TEXT < length text → read text ≡ Err (0, TooLong)
 unfolding read
 too_long text long = rw (lt-ltb LONGEST_TEXT (length text) long) refl
 
@@ -171,9 +172,10 @@ answered_read laws request text source source' sink sink' NoMemory told a other 
   rest = tt;
 }
 
-pub answered_failed : (request : PlanRequest) (source source' : Inflow) (sink : Outflow) → Rose source.faults source'.faults
-    → (bytes : List ℕ) × IsTold source.left bytes × PlanAnswered request bytes source source' sink sink ReadFault
-answered_failed request source source' sink rose =
+pub answered_failed : (request : PlanRequest) (source source' : Inflow) (sink : Outflow) (told : List ℕ)
+    → Rose source.faults source'.faults → (bytes : List ℕ) × IsTold source.left bytes
+    × PlanAnswered request bytes source source' sink sink ReadFault × TellsOf (Beside request bytes sink sink) ReadFault told
+answered_failed request source source' sink told rose =
     let any = told-any source.left in (
       any.0,
       any.1,
@@ -184,11 +186,13 @@ answered_failed request source source' sink rose =
         write_fault = λ is. absurd (cc);
         rest = tt;
       },
+      tt,
     )
 
-pub answered_no_memory : (request : PlanRequest) (source source' : Inflow) (sink : Outflow)
+pub answered_no_memory : (request : PlanRequest) (source source' : Inflow) (sink : Outflow) (told : List ℕ)
     → (bytes : List ℕ) × IsTold source.left bytes × PlanAnswered request bytes source source' sink sink NoMemory
-answered_no_memory request source source' sink =
+    × TellsOf (Beside request bytes sink sink) NoMemory told
+answered_no_memory request source source' sink told =
     let any = told-any source.left in (
       any.0,
       any.1,
@@ -199,4 +203,5 @@ answered_no_memory request source source' sink =
         write_fault = λ is. absurd (cc);
         rest = tt;
       },
+      tt,
     )

@@ -1,3 +1,4 @@
 pub mod Answering
 pub mod Plans
 pub mod Steps
+pub mod Telling

@@ -1,3 +1,5 @@
+pub mod Excess
 pub mod Explained
 pub mod Owed
 pub mod Texts
+pub mod notes

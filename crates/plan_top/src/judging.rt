@@ -3,10 +3,13 @@
 ghost use Rattle.std.specs.Prelude.{◌≡◌, ◌≢◌, []};
 ghost use Rattle.given_verdicts.specs.Answers.{answer_of};
 ghost use Rattle.plan_top.specs.Owed.{Answers, owed_given, status_of};
-ghost use Rattle.plan_top.specs.declared.words.PlanRequest.TheVariants.{Verify};
+ghost use Rattle.plan_top.specs.Explained.{Beside, TellsOf};
+ghost use Rattle.plan_top.specs.declared.words.PlanRequest.TheVariants.{Verify, VerifyGiven};
+ghost use Rattle.plan_top.specs.notes.Notes.{Notes};
 ghost use Rattle.run_text.specs.Ending.{Written};
 ghost use Rattle.run_text.specs.Putting.{EndsWith};
 
+use crate::notes::note_of;
 use given_verdicts::general::general_answer;
 use given_verdicts::{GivenAnswer, answer_line, answer_of};
 use port_io::{Failed, Sink};
@@ -49,20 +52,38 @@ pub fn write_answer<K: Sink>(alloc: Global, answer: &GivenAnswer, sink: &mut K) 
     }
 }
 
+/// Writes the line of the answer on a text, as `write_answer` does, and keeps what a person is told beside it.
+pub fn write_noted<K: Sink>(
+    alloc: Global,
+    text: &[u8],
+    answer: &GivenAnswer,
+    sink: &mut K,
+    told: &mut Printable,
+) -> Status
+    ensures written { Written (owed_given answer.now) (K.outflow sink.old) (K.outflow sink.new) result }
+    ensures told { result ≡ Status.Refused → Notes text.now answer.now told.new }
+{
+    match note_of(alloc, text, answer) {
+        Ok(note) => {
+            *told = note;
+            write_answer(alloc, answer, sink)
+        }
+        Err(_) => Status::NoMemory,
+    }
+}
+
 /// Judges a plan that follows a description, for the inputs that the description gives.
 pub(crate) fn judge_given<K: Sink>(
     alloc: Global,
     text: &[u8],
     sink: &mut K,
-    told: &mut Option<Printable>,
+    told: &mut Printable,
 ) -> Status
-    ensures { Written (owed_given (answer_of text.now)) (K.outflow sink.old) (K.outflow sink.new) result }
+    ensures written { Written (owed_given (answer_of text.now)) (K.outflow sink.old) (K.outflow sink.new) result }
+    ensures told { TellsOf (Beside VerifyGiven text.now (K.outflow sink.old) (K.outflow sink.new)) result told.new }
 {
     match answer_of(alloc, text) {
-        Ok(answer) => {
-            *told = None;
-            write_answer(alloc, &answer, sink)
-        }
+        Ok(answer) => write_noted(alloc, text, &answer, sink, told),
         Err(_) => Status::NoMemory,
     }
 }
@@ -72,16 +93,14 @@ pub(crate) fn judge_for_all<K: Sink>(
     alloc: Global,
     text: &[u8],
     sink: &mut K,
-    told: &mut Option<Printable>,
+    told: &mut Printable,
 ) -> Status
     ensures answers { Answers Verify text.now (K.outflow sink.old) (K.outflow sink.new) result }
     ensures no_read { result ≢ Status.ReadFault }
+    ensures told { TellsOf (Beside Verify text.now (K.outflow sink.old) (K.outflow sink.new)) result told.new }
 {
     match general_answer(alloc, text) {
-        Ok(answer) => {
-            *told = None;
-            write_answer(alloc, &answer, sink)
-        }
+        Ok(answer) => write_noted(alloc, text, &answer, sink, told),
         Err(_) => Status::NoMemory,
     }
 }

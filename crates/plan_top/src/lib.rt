@@ -2,13 +2,15 @@
 #![tactic(auto)]
 
 mod drawing;
+mod excess;
 mod judging;
+mod notes;
 mod saying;
 mod top;
 mod words;
 mod writing;
 
-pub use judging::write_answer;
+pub use judging::{write_answer, write_noted};
 pub use run_text::Status;
 pub use saying::say_beside;
 pub use top::plan_main;

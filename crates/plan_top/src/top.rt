@@ -2,7 +2,7 @@
 
 ghost use Rattle.std.specs.Prelude.{List, ℕ, ◌≢◌};
 ghost use Rattle.run_text.specs.Ending.{IsTold};
-ghost use Rattle.plan_top.specs.Explained.{Explained};
+ghost use Rattle.plan_top.specs.Explained.{Beside, Explained, TellsOf};
 ghost use Rattle.plan_top.specs.Owed.{Answers, PlanAnswered};
 
 use crate::drawing::draw_text;
@@ -21,10 +21,11 @@ fn answer_text<K: Sink>(
     request: PlanRequest,
     text: &[u8],
     sink: &mut K,
-    told: &mut Option<Printable>,
+    told: &mut Printable,
 ) -> Status
     ensures answers { Answers request text.now (K.outflow sink.old) (K.outflow sink.new) result }
     ensures no_read { result ≢ Status.ReadFault }
+    ensures told { TellsOf (Beside request text.now (K.outflow sink.old) (K.outflow sink.new)) result told.new }
 {
     match request {
         PlanRequest::Draw => draw_text(alloc, text, sink, told),
@@ -39,11 +40,12 @@ fn read_and_answer<S: Source, K: Sink>(
     request: PlanRequest,
     source: &mut S,
     sink: &mut K,
-    told: &mut Option<Printable>,
+    told: &mut Printable,
 ) -> Status
     ensures { (bytes : List ℕ) × IsTold (S.inflow source.old).left bytes
         × PlanAnswered request bytes (S.inflow source.old) (S.inflow source.new)
-        (K.outflow sink.old) (K.outflow sink.new) result }
+        (K.outflow sink.old) (K.outflow sink.new) result
+        × TellsOf (Beside request bytes (K.outflow sink.old) (K.outflow sink.new)) result told.new }
 {
     given_verdicts_are_right();
     general_verdicts_are_right();
@@ -64,8 +66,9 @@ fn read_and_answer<S: Source, K: Sink>(
 /// Where `holds` is answered, the plan is right: in every order of starts, deliveries and firings all ranks end complete, with what the
 /// description means as results (`IsRightForAll`, `IsRightGiven`).
 ///
-/// What a person is to know stands in `notes`: beside a result nothing, beside what is refused or fails the line of a note, where there is
-/// one, and beside a fault or want of memory a line. What fails there changes nothing.
+/// What a person is to know stands in `notes`: beside a result nothing; beside a plan that fails, is refused or of which it couldn't be
+/// decided whether it is right, and beside a description that is refused, a line that says where and why; beside a fault or want of memory
+/// which it was. What fails there changes nothing.
 pub fn plan_main<S: Source, K: Sink, N: Sink>(
     alloc: Global,
     request: PlanRequest,
@@ -73,12 +76,13 @@ pub fn plan_main<S: Source, K: Sink, N: Sink>(
     sink: &mut K,
     notes: &mut N,
 ) -> Status
-    ensures answers { (bytes : List ℕ) × IsTold (S.inflow source.old).left bytes
+    ensures { (bytes : List ℕ) × IsTold (S.inflow source.old).left bytes
         × PlanAnswered request bytes (S.inflow source.old) (S.inflow source.new)
-        (K.outflow sink.old) (K.outflow sink.new) result }
-    ensures explained { Explained result (N.outflow notes.old) (N.outflow notes.new) }
+        (K.outflow sink.old) (K.outflow sink.new) result
+        × Explained (Beside request bytes (K.outflow sink.old) (K.outflow sink.new)) result
+        (N.outflow notes.old) (N.outflow notes.new) }
 {
-    let mut told = None;
+    let mut told = Printable::new();
     let status = read_and_answer(alloc, request, source, sink, &mut told);
     say_beside(notes, status, told);
     status

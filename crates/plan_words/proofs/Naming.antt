@@ -8,7 +8,6 @@ use Rattle.ptl_types.specs.declared.steps.LocalStep.TheVariants.{Fire}
 use Rattle.plan_core.specs.declared.LinkKind.{LinkKind}
 use Rattle.plan_core.specs.declared.LinkKind.TheVariants.{Put, Atomic, Bump}
 use Rattle.plan_core.specs.Plan.{is_bump}
-use Rattle.plan_core.specs.calls.RankOps.{RankOp}
 use Rattle.plan_core.specs.calls.RankOps.RankOp.{ForLink, ForDone}
 use Rattle.run_text.specs.declared.words.Word.{Word}
 use Rattle.run_text.specs.Orders.{step_word}

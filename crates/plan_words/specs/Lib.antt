@@ -2,3 +2,4 @@ pub mod Limits
 pub mod Words
 pub mod Graph
 pub mod Takes
+pub mod Costs

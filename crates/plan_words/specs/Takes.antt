@@ -1,5 +1,5 @@
 -- What a rank of a plan takes of an interface (Portals 4.3, network interface limits), and how many messages it exchanges.
-use Rattle.std.specs.Prelude.{ℕ, ◌==◌, ◌+◌, List, if◌then◌else◌, length, map, sum_by}
+use Rattle.std.specs.Prelude.{ℕ, ◌==◌, List, if◌then◌else◌, map, sum_by}
 use Rattle.ptl_types.specs.declared.headers.Lane.TheVariants.{Request}
 use Rattle.number_lists.specs.Numbers.{from_to}
 use Rattle.plan_core.specs.Plan.{Plan, link}

@@ -1,12 +1,14 @@
-//! What a plan takes of its ranks' interfaces, and what each triggered operation of it is, in words and as a graph.
+//! What a plan takes of its ranks' interfaces and in time, and what each triggered operation of it is, in words and as a graph.
 #![tactic(auto)]
 
+mod costing;
 mod explaining;
 mod graph;
 mod limits;
 mod ops;
 mod takes;
 
+pub use costing::{PlanCosts, write_costs};
 pub use explaining::{write_explained, write_rank_explained};
 pub use graph::write_graph;
 pub use limits::write_limits;

@@ -2,18 +2,23 @@
 use Rattle.std.specs.Prelude.{ℕ, ◌≡◌, List, [], ◌++◌, Option, Some, None}
 use Rattle.port_io.specs.Ends.{Outflow}
 use Rattle.coll_shape.specs.Outline.{Outline}
+use Rattle.cuts.specs.cells.Cells.{AreValues}
 use Rattle.job_runs.specs.declared.modes.Mode.{Mode}
 use Rattle.job_runs.specs.declared.modes.Mode.TheVariants.{Once, Sim, Run, Trace, Steady}
 use Rattle.job_runs.specs.Orders.{orders_in}
 use Rattle.job_runs.specs.Runs.{IsInOrder, IsJobRun, IsOfSteady, IsOfWorkers, IsReachedWorld}
-use Rattle.run_text.specs.declared.status.Status.{Status}
 use Rattle.run_text.specs.declared.status.Status.TheVariants.{Done, NoMemory, WriteFault}
 use Rattle.run_text.specs.Ending.{Written, done}
 use Rattle.run_text.specs.Lines.{text_of}
 use Rattle.schedule_compiler.specs.Jobs.{JobOf}
-use Rattle.worlds.specs.World.{WorldState}
+use Rattle.worlds.specs.World.{WorldState, memory_in}
 use Rattle.given_top.specs.declared.runs.running.GivenRun.{GivenRun}
-use Rattle.given_top.specs.runs.GivenJobs.{given_lists}
+use Rattle.verdict_laws.specs.GivenJobs.{FitsShape, given_lists}
+
+-- A world of such a schedule in whose memories each cell holds its value.
+pub record HoldsGiven (o : Outline) (w : WorldState) : Type 0 where
+  pub fits : FitsShape o w.schedule
+  pub values : AreValues w.schedule.plan w.inputs (memory_in w)
 
 -- the lists of the results, which the plan and the inputs determine
 abbrev pub results_text : Outline → JobOf → List ℕ

@@ -15,7 +15,8 @@ pub struct GivenResults<'a> {
 }
 
 impl<'a> ResultLists for GivenResults<'a> {
-    ghost use Rattle.given_top.specs.runs.GivenJobs.{HoldsGiven, given_lists};
+    ghost use Rattle.given_top.specs.runs.GivenRuns.{HoldsGiven};
+    ghost use Rattle.verdict_laws.specs.GivenJobs.{given_lists};
 
     ghost outline = { λ results. results.shape.now };
 

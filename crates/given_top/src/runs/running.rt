@@ -4,8 +4,8 @@ ghost use Rattle.std.specs.Prelude.{◌≡◌, ◌<◌, IfOk, None, Some, []};
 ghost use Rattle.job_runs.specs.Modes.{HasWorkers};
 ghost use Rattle.run_text.specs.Ending.{Written, done, status_of};
 ghost use Rattle.run_text.specs.Putting.{EndsWith};
-ghost use Rattle.given_top.specs.runs.GivenJobs.{FitsShape, HoldsGiven};
-ghost use Rattle.given_top.specs.runs.GivenRuns.{IsGivenRun, LeavesGiven, given_text};
+ghost use Rattle.verdict_laws.specs.GivenJobs.{FitsShape};
+ghost use Rattle.given_top.specs.runs.GivenRuns.{HoldsGiven, IsGivenRun, LeavesGiven, given_text};
 
 use crate::runs::results::GivenResults;
 use coll_shape::Shape;

@@ -4,13 +4,18 @@ use Rattle.given_verdicts.specs.declared.answer.Judged.TheVariants.{Answered, Fl
 use Rattle.given_verdicts.specs.Answers.{judged_text}
 use Rattle.verdict_laws.proofs.Holding.{IsOfFlawless, IsTold, text_told}
 use Rattle.verdict_laws.proofs.Links.{few_links}
-use Rattle.given_top.specs.Checked.{check_text, plan_end}
+use Rattle.given_top.specs.Checked.{check_text}
+use Rattle.given_top.proofs.Beside.{long_tells, part_tells, short_tells}
 use Rattle.given_top.proofs.Checks.{judged, no_memory, told, too_long}
 use Rattle.given_top.proofs.checking.answer_check.Goals as goal
 
 pub returns-then-text-gt-LONGEST_PLAN_CHECK : goal.returns-then-text-gt-LONGEST_PLAN_CHECK
 returns-then-text-gt-LONGEST_PLAN_CHECK g c =
-    too_long c.args.text.now _ _ _ c.if-text-gt-LONGEST_PLAN_CHECK.true c.answer_refused.ensures
+    let long = c.if-text-gt-LONGEST_PLAN_CHECK.true in
+    record {
+      checks = too_long c.args.text.now _ _ _ long c.answer_refused.ensures;
+      told = long_tells c.args.text.now _ _ _ _ long c.words_note.ensures;
+    }
 
 -- so few links are read
 pub answer_flawless-requires-clause-at_most : goal.answer_flawless-requires-clause-at_most
@@ -28,8 +33,14 @@ returns-in-Ok-Answered g c =
     let is =
     ap (λ (n : ℕ). judged_text (take n text)) (sym c.parts-end.ensures.plan)
     ∙ (sym c.in-Ok-Answered.ensures.exact ∙ c.in-Ok-Answered.field-0-is) in
-    judged text (Answered c.in-Ok-Answered.answer) _ _ _ c.if-text-gt-LONGEST_PLAN_CHECK.false is
-    (told c.in-Ok-Answered.answer _ _ _ c.write_answer.ensures)
+    let short = c.if-text-gt-LONGEST_PLAN_CHECK.false in
+    let j = Answered c.in-Ok-Answered.answer in
+    record {
+      checks = judged text j _ _ _ short is (told c.in-Ok-Answered.answer _ _ _ c.write_noted.ensures.written);
+      told = short_tells text j _ _ _ _ short is
+          (part_tells text c.parts-end.result.1 c.in-Ok-Answered.answer (g.K.Sink.outflow c.args.sink.now)
+          (g.K.Sink.outflow c.write_noted.new.sink) _ _ c.parts-end.ensures.plan c.write_noted.ensures.told);
+    }
 
 pub returns-in-Ok-Flawless : goal.returns-in-Ok-Flawless
 returns-in-Ok-Flawless g c =
@@ -37,7 +48,12 @@ returns-in-Ok-Flawless g c =
     let is =
     ap (λ (n : ℕ). judged_text (take n text)) (sym c.parts-end.ensures.plan)
     ∙ (sym c.in-Ok-Flawless.ensures.exact ∙ c.in-Ok-Flawless.field-0-is) in
-    judged text (Flawless c.in-Ok-Flawless.found) _ _ _ c.if-text-gt-LONGEST_PLAN_CHECK.false is c.answer_flawless.ensures
+    let short = c.if-text-gt-LONGEST_PLAN_CHECK.false in
+    let j = Flawless c.in-Ok-Flawless.found in
+    record {
+      checks = judged text j _ _ _ short is c.answer_flawless.ensures.checks;
+      told = short_tells text j _ _ _ _ short is c.answer_flawless.ensures.told;
+    }
 
 pub returns-in-Err : goal.returns-in-Err
-returns-in-Err g c = no_memory (check_text c.args.text.now) _
+returns-in-Err g c = record { checks = no_memory (check_text c.args.text.now) _; told = tt }

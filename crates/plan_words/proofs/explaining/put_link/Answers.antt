@@ -1,8 +1,7 @@
-use Rattle.std.proofs.Common.{◌≡◌, ap, sym, ◌∙◌, false}
+use Rattle.std.proofs.Common.{◌≡◌, ap, sym, ◌∙◌}
 use Rattle.plan_core.specs.declared.Link.{Link}
 use Rattle.plan_core.specs.declared.LinkKind.TheVariants.{Bump}
-use Rattle.plan_core.specs.Plan.{is_bump, link}
-use Rattle.plan_words.proofs.Naming.{no_bump}
+use Rattle.plan_core.specs.Plan.{link}
 use Rattle.plan_words.proofs.explaining.put_link.Goals as goal
 
 pub returns-in-Bump : goal.returns-in-Bump

@@ -1,4 +1,4 @@
-use Rattle.std.proofs.Common.{ℕ, List, ◌≡◌, ap₂, length, get_or, subst, sym}
+use Rattle.std.proofs.Common.{ℕ, List, ◌≡◌, ap₂, get_or, subst, sym}
 use Rattle.std.specs.List.{flat_map}
 use Rattle.number_lists.specs.Numbers.{from_to}
 use Rattle.plan_core.specs.calls.RankOps.{RankOp, rank_ops}

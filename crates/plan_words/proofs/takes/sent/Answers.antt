@@ -1,5 +1,5 @@
 -- One rank more in each turn.
-use Rattle.std.proofs.Common.{ℕ, ◌+◌, ◌*◌, ◌≡◌, ◌≤◌, ap, ap₂, ◌∙◌, sym, sum_by, arith}
+use Rattle.std.proofs.Common.{◌+◌, ◌≡◌, ap, ap₂, ◌∙◌, sym, sum_by, arith}
 use Rattle.number_lists.specs.Numbers.{from_to}
 use Rattle.plan_words.specs.Takes.{to_other}
 use Rattle.plan_words.proofs.Sums.{sum-more}

@@ -1,6 +1,6 @@
 -- A row of the table.
 use Rattle.std.proofs.Common.{◌==◌, ◌∙◌, ap, arith, get_or, length, []}
-use Rattle.plan_core.specs.Plan.{cell, link, own}
+use Rattle.plan_core.specs.Plan.{cell, own}
 use Rattle.plan_tables.proofs.Indexed.{at_most-listed}
 use Rattle.plan_tables.proofs.Passes.{get-row, length-table}
 use Rattle.plan_words.proofs.ops.OpTables.cells.Goals as goal

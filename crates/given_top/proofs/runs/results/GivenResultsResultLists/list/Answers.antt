@@ -1,7 +1,7 @@
 -- The cell that is named for the buffer has its list.
 use Rattle.std.proofs.Common.{◌<◌, ◌∙◌, subst, sym}
 use Rattle.worlds.specs.World.{memory_in}
-use Rattle.given_top.proofs.runs.Holding.{list-held}
+use Rattle.verdict_laws.proofs.jobs.Holding.{list-held}
 use Rattle.given_top.proofs.runs.results.GivenResultsResultLists.list.Goals as goal
 
 pub returns : goal.returns

@@ -1,0 +1,13 @@
+use Rattle.given_top.proofs.checking.verdict_note.Goals as goal
+
+pub returns-in-Fails : goal.returns-in-Fails
+returns-in-Fails c =
+    rw c.in-Fails.is
+    (record {
+      note = c.explain_fails.result;
+      line = tt;
+      about = c.explain_fails.ensures.about;
+      path = c.explain_fails.ensures.path;
+      found = c.explain_fails.ensures.stands;
+      shown = c.moved.ensures;
+    })
