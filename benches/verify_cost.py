@@ -164,7 +164,7 @@ def barriers():
     return chain(True)
 
 
-def barriers_far():
+def barriers_far(times=1, count=440_000):
     """The same, with links from far away cells in place of a chain."""
     ranks, steps = 256, 64
     g = begun(ranks, 1, "barrier\n" * steps)
@@ -173,12 +173,13 @@ def barriers_far():
     for row in enter:
         for c in row:
             g.link(c, middle, "put")
-    seed, count = 1, 440_000
+    seed = 1
     cells = [middle]
     for n in range(count):
-        seed = seed * 6364136223846793005 + 1442695040888963407 & (1 << 64) - 1
         c = g.cell(0)
-        g.link(cells[(seed >> 33) % len(cells)], c, "put")
+        for _ in range(times):
+            seed = seed * 6364136223846793005 + 1442695040888963407 & (1 << 64) - 1
+            g.link(cells[(seed >> 33) % len(cells)], c, "put")
         cells.append(c)
     for step in range(steps):
         for r in range(ranks):
@@ -187,6 +188,11 @@ def barriers_far():
             g.marks.append(f"leave {step} {r} {c}")
             g.marks.append(f"enter {step} {r} {enter[step][r]}")
     return g.text()
+
+
+def barriers_twice():
+    """The same, with links from two cells each."""
+    return barriers_far(2, 225_000)
 
 
 def bytes_put():
@@ -256,7 +262,7 @@ def ordered_folds():
 
 
 KINDS = [digits, blank, spaces, digits_in_a_plan, blank_after_a_plan, words_in_a_plan, enters, cells, links, links_that_overlap, barriers,
-         barriers_far, bytes_put, bytes_combined, bytes_carried, falling, folds, ordered_folds]
+         barriers_far, barriers_twice, bytes_put, bytes_combined, bytes_carried, falling, folds, ordered_folds]
 
 
 def measured(words, text):

@@ -1,19 +1,16 @@
--- Words of bits: which entries lie in a cell, and which lead to it.
+-- Words of bits: which entries lie in a cell, and which are into a step.
 use Rattle.std.proofs.Common.{ℕ, Bool, true, false, cond, ◌&&◌, ◌||◌, ◌≡◌, ◌+◌, ◌-◌, ◌*◌, ◌%◌, ◌^◌, ◌<◌, ◌≤◌, ◌==◌, nat_lt, List}
-use Rattle.std.proofs.Common.{[], ◌∷◌, ◌++◌, ap, ap₂, ◌∙◌, sym, length, get_or, set, ltb, max, inl, inr, refl, arith}
+use Rattle.std.proofs.Common.{[], ◌∷◌, ◌++◌, ap, ap₂, ◌∙◌, sym, length, get_or, set, ltb, max, inl, inr, refl, arith, not, length-append}
 use Rattle.std.specs.Int.{bit_at, w128}
 use Rattle.std.specs.Int.RustNames.{bit_or}
-use Rattle.std.specs.List.{list_any}
-use Rattle.std.proofs.lemmas.Bool.{cases_eq, cases_lt, eq-eqb, le-ltb, lt-ltb, ltb-false, ltb-true, ne_eqb, or_left, or_right}
+use Rattle.std.proofs.lemmas.Bool.{and_left, and_parts, cases_Bool, cases_eq, cases_lt, eq-eqb, eqb-true, le-ltb, lt-ltb, ltb-false}
+use Rattle.std.proofs.lemmas.Bool.{ltb-true, ne_eqb, or_left, or_right}
 use Rattle.std.proofs.lemmas.List.{get_or-set_other, get_or-set_same, get_or_append_left, get_or_push}
-use Rattle.std.proofs.lemmas.Nat.Bits.{bit_at-lt, bit_at_or, bit_at_set_other, bit_at_set_same}
+use Rattle.std.proofs.lemmas.Nat.Bits.{bit_at-lt, bit_at-zero, bit_at_or, bit_at_set_other, bit_at_set_same}
 use Rattle.mark_judge.specs.declared.entry_bits.Bits.{Bits}
 use Rattle.mark_judge.specs.declared.entries.Entry.{Entry}
-use Rattle.mark_judge.specs.Leading.{leads}
-use Rattle.mark_judge.specs.Tables.{AreBegun, entry_at, has_bit, no_bits}
-use Rattle.mark_judge.proofs.Chains.{Rising, from_below, leads_step}
-use Rattle.mark_judge.proofs.Tests.{and-false, and-true, any_same, or-false, or_assoc}
-use Rattle.plan_core.specs.Plan.{Plan, in_links, link}
+use Rattle.mark_judge.specs.Tables.{AreBegun, AreMasks, does_lack, entry_at, has_bit, lacks_one, no_bits}
+use Rattle.mark_judge.proofs.Tests.{and-false, and-true, none_below, or-false, or_assoc}
 
 -- ---- bits of a number
 most_one : (x y : ℕ) → x < 2 → y < 2 → (max x y == 1) ≡ ((x == 1) || (y == 1))
@@ -110,18 +107,15 @@ abbrev pub AreBegunTo : List Entry → ℕ → ℕ → List Bits → Type 0
 AreBegunTo es cells k words =
     (c j : ℕ) → c < cells → has_bit (get_or words c no_bits) j ≡ (ltb j k && ((entry_at es j).cell == c))
 
-begun_test : (es : List Entry) (c j k : ℕ)
-    → ((ltb j k && ((entry_at es j).cell == c)) || ((j == k) && ((entry_at es k).cell == c)))
-    ≡ (ltb j (k + 1) && ((entry_at es j).cell == c))
-begun_test es c j k =
+test_more : (f : ℕ → Bool) (j k : ℕ) → ((ltb j k && f j) || ((j == k) && f k)) ≡ (ltb j (k + 1) && f j)
+test_more f j k =
     elim (cases_eq j k) [
-      | inl e ↦ ap₂ (λ a b. (a && ((entry_at es j).cell == c)) || (b && ((entry_at es k).cell == c)))
-          (le-ltb j k (omega (arith, e))) (eq-eqb j k e)
-          ∙ ap (λ i. (entry_at es i).cell == c) (sym e)
-          ∙ sym (ap (λ a. a && ((entry_at es j).cell == c)) (lt-ltb j (k + 1) (omega (arith, e))))
-      | inr ne ↦ ap (λ b. (ltb j k && ((entry_at es j).cell == c)) || (b && ((entry_at es k).cell == c))) (ne_eqb j k ne)
-          ∙ or-false (ltb j k && ((entry_at es j).cell == c))
-          ∙ ap (λ a. a && ((entry_at es j).cell == c)) (same_order ne)
+      | inl e ↦ ap₂ (λ a b. (a && f j) || (b && f k)) (le-ltb j k (omega (arith, e))) (eq-eqb j k e)
+          ∙ ap f (sym e)
+          ∙ sym (ap (λ a. a && f j) (lt-ltb j (k + 1) (omega (arith, e))))
+      | inr ne ↦ ap (λ b. (ltb j k && f j) || (b && f k)) (ne_eqb j k ne)
+          ∙ or-false (ltb j k && f j)
+          ∙ ap (λ a. a && f j) (same_order ne)
     ]
   where
     same_order : (j ≡ k → ⊥) → ltb j k ≡ ltb j (k + 1)
@@ -138,7 +132,7 @@ pub begun_more : (es : List Entry) (cells k : ℕ) (old new : List Bits) → len
 begun_more es cells k old new many before noted c j h =
     noted c j (omega (arith, many, h))
     ∙ ap (λ t. t || ((j == k) && ((entry_at es k).cell == c))) (before c j h)
-    ∙ begun_test es c j k
+    ∙ test_more (λ i. (entry_at es i).cell == c) j k
 
 -- all are
 pub begun_all : (es : List Entry) (cells k : ℕ) (words : List Bits) → length es ≤ k → AreBegunTo es cells k words → AreBegun es cells words
@@ -151,32 +145,77 @@ pub gathered_more : (own : Bool) (before one : Bool) (word : Bool) (all : Bool) 
     → (word || one) ≡ (own || all)
 gathered_more own before one word all e f = ap (λ t. t || one) e ∙ or_assoc own before one ∙ ap (λ t. own || t) (sym f)
 
--- the words of the cells below c tell which entries lead there
-abbrev pub AreReachedTo : Plan → List Entry → ℕ → List Bits → Type 0
-AreReachedTo p es c words = (d k : ℕ) → d < c → k < length es → has_bit (get_or words d no_bits) k ≡ leads p (entry_at es k).cell d
-
-pub next_reached : (p : Plan) → Rising p → (es : List Entry) (c : ℕ) (words : List Bits) (links : List ℕ) (own word : Bits)
-    → links ≡ in_links p c
-    → AreReachedTo p es c words → (k : ℕ) → k < length es → has_bit own k ≡ ((entry_at es k).cell == c)
-    → has_bit word k ≡ (has_bit own k || list_any (λ l. has_bit (get_or words (link p l).source no_bits) k) links)
-    → has_bit word k ≡ leads p (entry_at es k).cell c
-next_reached p up es c words links own word are before k h begun gathered =
-    gathered
-    ∙ ap₂ (λ a b. a || b) begun
-    (ap (λ ls. list_any (λ l. has_bit (get_or words (link p l).source no_bits) k) ls) are
-    ∙ any_same (λ l. has_bit (get_or words (link p l).source no_bits) k) (λ l. leads p (entry_at es k).cell (link p l).source)
-    (in_links p c)
-    (λ l i. before (link p l).source k (from_below p up c l i) h))
-    ∙ sym (leads_step p up (entry_at es k).cell c)
-
-pub reached_more : (p : Plan) (es : List Entry) (c : ℕ) (word : Bits) (words : List Bits) → length words ≡ c → AreReachedTo p es c words
-    → ((k : ℕ) → k < length es → has_bit word k ≡ leads p (entry_at es k).cell c) → AreReachedTo p es (c + 1) (words ++ word ∷ [])
-reached_more p es c word words many before here d k h low =
-    elim (cases_eq d c) [
-      | inl e ↦ ap (λ i. has_bit (get_or (words ++ word ∷ []) i no_bits) k) e
-          ∙ ap (λ w. has_bit w k) (get_or_push words word no_bits c many)
-          ∙ here k low
-          ∙ ap (leads p (entry_at es k).cell) (sym e)
-      | inr ne ↦ ap (λ w. has_bit w k) (get_or_append_left words (word ∷ []) no_bits d (omega (arith, many, h, ne)))
-          ∙ before d k (omega (arith, h, ne)) low
+-- ---- no entry
+no_bit : (j : ℕ) → has_bit no_bits j ≡ false
+no_bit j =
+    elim (cases_Bool (nat_lt j 128)) [
+      | inl t ↦ ap (λ b. cond b (bit_at 0 j == 1) (bit_at 0 (j - 128) == 1)) t ∙ ap (λ n. n == 1) (bit_at-zero j)
+      | inr f ↦ ap (λ b. cond b (bit_at 0 j == 1) (bit_at 0 (j - 128) == 1)) f ∙ ap (λ n. n == 1) (bit_at-zero (j - 128))
     ]
+
+-- the cells below c have none
+abbrev pub AreClearTo : ℕ → List Bits → Type 0
+AreClearTo c words = (d j : ℕ) → d < c → has_bit (get_or words d no_bits) j ≡ false
+
+pub clear_more : (words : List Bits) (c : ℕ) → c < length words → AreClearTo c words → AreClearTo (c + 1) (set words c no_bits)
+clear_more words c low clear d j h =
+    elim (cases_eq d c) [
+      | inl e ↦ ap (λ i. has_bit (get_or (set words c no_bits) i no_bits) j) e
+          ∙ ap (λ w. has_bit w j) (get_or-set_same words c no_bits no_bits low)
+          ∙ no_bit j
+      | inr ne ↦ ap (λ w. has_bit w j) (get_or-set_other words c d no_bits no_bits ne) ∙ clear d j (omega (arith, h, ne))
+    ]
+
+-- ---- masks of steps
+-- the entries before place k are noted
+abbrev pub IsMaskTo : List Entry → ℕ → ℕ → Bits → Type 0
+IsMaskTo es step k mask = (j : ℕ) → has_bit mask j ≡ (ltb j k && ((entry_at es j).step == step))
+
+pub mask_none : (es : List Entry) (step : ℕ) → IsMaskTo es step 0 no_bits
+mask_none es step j = no_bit j ∙ sym (ap (λ t. t && ((entry_at es j).step == step)) (le-ltb j 0 (omega arith)))
+
+pub mask_more : (es : List Entry) (step k : ℕ) (old new : Bits) (so : Bool) → IsMaskTo es step k old
+    → so ≡ ((entry_at es k).step == step) → ((j : ℕ) → has_bit new j ≡ (has_bit old j || ((j == k) && so)))
+    → IsMaskTo es step (k + 1) new
+mask_more es step k old new so before is noted j =
+    noted j
+    ∙ ap₂ (λ a b. a || ((j == k) && b)) (before j) is
+    ∙ test_more (λ i. (entry_at es i).step == step) j k
+
+pub mask_all : (es : List Entry) (step k : ℕ) (mask : Bits) → length es ≤ k → IsMaskTo es step k mask → (j : ℕ) → j < length es
+    → has_bit mask j ≡ ((entry_at es j).step == step)
+mask_all es step k mask all noted j low =
+    noted j ∙ ap (λ a. a && ((entry_at es j).step == step)) (lt-ltb j k (omega (arith, all, low)))
+
+pub masks_more : (es : List Entry) (s : ℕ) (masks : List Bits) (mask : Bits) → length masks ≡ s → AreMasks es masks
+    → ((k : ℕ) → k < length es → has_bit mask k ≡ ((entry_at es k).step == s)) → AreMasks es (masks ++ mask ∷ [])
+masks_more es s masks mask many before here t k h low =
+    elim (cases_eq t s) [
+      | inl e ↦ ap (λ i. has_bit (get_or (masks ++ mask ∷ []) i no_bits) k) e
+          ∙ ap (λ w. has_bit w k) (get_or_push masks mask no_bits s many)
+          ∙ here k low
+          ∙ ap (λ i. (entry_at es k).step == i) (sym e)
+      | inr ne ↦ (let long = length-append masks (mask ∷ []) in
+          let less : t < length masks = omega (arith, many, h, ne, long) in
+          ap (λ w. has_bit w k) (get_or_append_left masks (mask ∷ []) no_bits t less) ∙ before t k less low)
+    ]
+
+-- all entries of a mask are among these
+pub all_among : (a m both : Bits) → ((both.low == a.low) && (both.high == a.high)) ≡ true
+    → ((j : ℕ) → has_bit both j ≡ (has_bit a j || has_bit m j)) → (j : ℕ) → has_bit m j ≡ true → has_bit a j ≡ true
+all_among a m both same joined j h =
+    let q = and_parts (both.low == a.low) (both.high == a.high) same in
+    ap₂ (λ x y. cond (nat_lt j 128) (bit_at x j == 1) (bit_at y (j - 128) == 1)) (sym (eqb-true both.low a.low q.0))
+    (sym (eqb-true both.high a.high q.1))
+    ∙ joined j
+    ∙ or_right (has_bit a j) (has_bit m j) h
+
+-- so none of the step is lacking
+pub none_lacked : (es : List Entry) (masks : List Bits) (bits : Bits) (step : ℕ) → AreMasks es masks → step < length masks
+    → ((k : ℕ) → has_bit (get_or masks step no_bits) k ≡ true → has_bit bits k ≡ true) → lacks_one bits es step ≡ false
+none_lacked es masks bits step are within all =
+    none_below (does_lack bits es step) (length es)
+    (λ k h. elim (cases_Bool ((entry_at es k).step == step)) [
+      | inl t ↦ ap₂ (λ a b. a && not b) t (all k (are step k within h ∙ t))
+      | inr f ↦ and_left ((entry_at es k).step == step) (not (has_bit bits k)) f
+    ])

@@ -23,7 +23,7 @@ from_below p up c l i =
     omega (arith, e, u)
 
 -- no link comes to cell 0
-none_at_zero : (p : Plan) → Rising p → (f : ℕ → Bool) (c : ℕ) → c ≤ 0 → list_any f (in_links p c) ≡ false
+pub none_at_zero : (p : Plan) → Rising p → (f : ℕ → Bool) (c : ℕ) → c ≤ 0 → list_any f (in_links p c) ≡ false
 none_at_zero p up f c h = any_none f (in_links p c) (λ l i. let u = from_below p up c l i in absurd (omega (arith, u, h)))
 
 -- as many links as the cell's number are enough

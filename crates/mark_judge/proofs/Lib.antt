@@ -3,6 +3,7 @@ pub mod Finds
 pub mod Chains
 pub mod Naming
 pub mod Bits
+pub mod Rooted
 pub mod Opening
 pub mod Binding
 pub mod Good

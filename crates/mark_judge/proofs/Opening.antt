@@ -17,14 +17,14 @@ use Rattle.mark_judge.proofs.Tests.{any_none, any_places, or-false, or_assoc}
 use Rattle.plan_core.specs.Plan.{Plan}
 
 -- ---- a line by the words of its cell
-pub unmet_is : (p : Plan) (es : List Entry) (words : List Bits) (m : Mark) → AreReached p es words → cell_of m < length p.cells
-    → is_unmet words es m ≡ list_any (does_miss p m) es
-unmet_is p es words (Result b r c) reached h = sym (any_none (does_miss p (Result b r c)) es (λ e i. refl))
-unmet_is p es words (Enter s r c) reached h = sym (any_none (does_miss p (Enter s r c)) es (λ e i. refl))
-unmet_is p es words (Leave s r c) reached h =
-    any_places (does_miss p (Leave s r c)) no_entry (does_lack (get_or words c no_bits) es s) 0 es
+pub unmet_is : (p : Plan) (es : List Entry) (roots : List ℕ) (words : List Bits) (m : Mark) → AreReached p es roots words
+    → cell_of m < length p.cells → is_unmet roots words es m ≡ list_any (does_miss p m) es
+unmet_is p es roots words (Result b r c) reached h = sym (any_none (does_miss p (Result b r c)) es (λ e i. refl))
+unmet_is p es roots words (Enter s r c) reached h = sym (any_none (does_miss p (Enter s r c)) es (λ e i. refl))
+unmet_is p es roots words (Leave s r c) reached h =
+    any_places (does_miss p (Leave s r c)) no_entry (does_lack (get_or words (get_or roots c 0) no_bits) es s) 0 es
     (λ i j lt e. let q : j ≡ i = omega (arith, e) in
-    ap (does_lack (get_or words c no_bits) es s) q
+    ap (does_lack (get_or words (get_or roots c 0) no_bits) es s) q
     ∙ ap (λ t. ((entry_at es i).step == s) && not t) (reached c i h lt))
 
 -- ---- a line among all that is noted
@@ -41,9 +41,9 @@ open_is p ms (Leave s r c) = among ms
     among (Leave t q d ∷ xs) = among xs
 
 -- ---- a line is noted
-abbrev pub AreUnmetTo : List Bool → List Bits → List Entry → List Mark → ℕ → List Bool → Type 0
-AreUnmetTo old words es ms n new =
-    ((j : ℕ) → j < n → get_or new j false ≡ (get_or old j false || is_unmet words es (mark_at ms j)))
+abbrev pub AreUnmetTo : List Bool → List ℕ → List Bits → List Entry → List Mark → ℕ → List Bool → Type 0
+AreUnmetTo old roots words es ms n new =
+    ((j : ℕ) → j < n → get_or new j false ≡ (get_or old j false || is_unmet roots words es (mark_at ms j)))
     × ((j : ℕ) → n ≤ j → get_or new j false ≡ get_or old j false)
 
 noted_here : (xs : List Bool) (i : ℕ) (so : Bool) → i < length xs
@@ -63,17 +63,23 @@ pub length_noted : (xs : List Bool) (i : ℕ) (so : Bool) → length (cond so (s
 length_noted xs i true = length-set xs i true
 length_noted xs i false = refl
 
-pub unmet_more : (old : List Bool) (words : List Bits) (es : List Entry) (ms : List Mark) (i : ℕ) (now new : List Bool)
+or_new : (o u : Bool) → (o || (not o && u)) ≡ (o || u)
+or_new true u = refl
+or_new false u = refl
+
+pub unmet_more : (old : List Bool) (roots : List ℕ) (words : List Bits) (es : List Entry) (ms : List Mark) (i : ℕ) (now new : List Bool)
     → (m : Mark) (so : Bool)
-    → i < length now → m ≡ mark_at ms i → so ≡ is_unmet words es m → new ≡ cond so (set now i true) now
-    → AreUnmetTo old words es ms i now → AreUnmetTo old words es ms (i + 1) new
-unmet_more old words es ms i now new m so h is told noted before = (
+    → i < length now → m ≡ mark_at ms i → so ≡ (not (get_or now i false) && is_unmet roots words es m) → new ≡ cond so (set now i true) now
+    → AreUnmetTo old roots words es ms i now → AreUnmetTo old roots words es ms (i + 1) new
+unmet_more old roots words es ms i now new m so h is told noted before = (
   (λ j lt. elim (cases_eq j i) [
     | inl e ↦ ap (λ n. get_or new n false) e
         ∙ ap (λ (xs : List Bool). get_or xs i false) noted
         ∙ noted_here now i so h
-        ∙ ap₂ (λ a b. a || b) (before.1 i (omega arith)) (told ∙ ap (is_unmet words es) is)
-        ∙ ap (λ n. get_or old n false || is_unmet words es (mark_at ms n)) (sym e)
+        ∙ ap (λ t. get_or now i false || t) told
+        ∙ or_new (get_or now i false) (is_unmet roots words es m)
+        ∙ ap₂ (λ a b. a || b) (before.1 i (omega arith)) (ap (is_unmet roots words es) is)
+        ∙ ap (λ n. get_or old n false || is_unmet roots words es (mark_at ms n)) (sym e)
     | inr ne ↦ ap (λ (xs : List Bool). get_or xs j false) noted
         ∙ noted_other now i j so ne
         ∙ before.0 j (omega (arith, lt, ne))
@@ -84,9 +90,9 @@ unmet_more old words es ms i now new m so h is told noted before = (
 )
 
 -- ---- so many entries more
-pub some_more : {X : Type 0} (f : X → Bool) (all left some rest : List X) (n : ℕ) (old new : Bool) → some ≡ take n left → rest ≡ drop n left
-    → new ≡ (old || list_any f some) → (old || list_any f left) ≡ list_any f all → (new || list_any f rest) ≡ list_any f all
-some_more f all left some rest n old new a b e before =
+pub some_more : {X : Type 0} (f : X → Bool) (left some rest : List X) (n : ℕ) (old new whole : Bool) → some ≡ take n left
+    → rest ≡ drop n left → new ≡ (old || list_any f some) → (old || list_any f left) ≡ whole → (new || list_any f rest) ≡ whole
+some_more f left some rest n old new whole a b e before =
     ap (λ t. t || list_any f rest) e
     ∙ or_assoc old (list_any f some) (list_any f rest)
     ∙ ap (λ t. old || t)

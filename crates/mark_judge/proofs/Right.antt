@@ -25,6 +25,7 @@ use Rattle.mark_judge.specs.Judged.{missing, missing_at, missing_barriers}
 use Rattle.mark_judge.specs.Judged.{missing_member, missing_results, open_flaw}
 use Rattle.mark_judge.specs.Leading.{leads}
 use Rattle.mark_judge.specs.Marked.{AreMarked, DoesFit, IsDue, IsMember}
+use Rattle.mark_judge.proofs.Binding.{bound-is, is-bound}
 use Rattle.mark_judge.proofs.Chains.{Leads-leads, Rising, leads-Leads}
 use Rattle.mark_judge.proofs.Finds.{In-none, none-In}
 use Rattle.mark_judge.proofs.Good.{barrier_there, due-is, fit-is, fit-known, is-due, is-fit, member-is}
@@ -247,7 +248,7 @@ judged_right p o done ms up e =
       fit = λ i h. good_fit p o (mark_at ms i) (line_good p o ms i (k.lines i h));
       once = λ i j lt h q. false≢true (sym (line_new p o ms j (k.lines j h)) ∙ earlier ms i j lt h q);
       all = λ d h. named-is ms d (has_line o ms k.results k.barriers d h);
-      begun = λ s r c h. begun_at p ms k.begun s r c h;
+      begun = λ s r c h. bound-is p c (begun_at p ms k.begun s r c h);
       closed = λ s r q b c h i. leads-Leads p b c (closed_at p ms k.closed s r q b c h i);
     }
 
@@ -264,7 +265,7 @@ right_judged p o done ms up a =
       results = no_result o ms all;
       barriers = no_barrier o ms all;
       begun = λ i h. fails (is_early p (mark_at ms i)) (EarlyEntry i)
-          (early_none p ms a.begun (mark_at ms i) (In-get_or ms i no_mark h));
+          (early_none p ms (λ s r c h. is-bound p up c (a.begun s r c h)) (mark_at ms i) (In-get_or ms i no_mark h));
       closed = λ i h. fails (is_open p ms (mark_at ms i)) (BarrierOpen i)
           (open_none p ms (λ s r q b c e l. Leads-leads p up b c (a.closed s r q b c e l)) (mark_at ms i) (In-get_or ms i no_mark h));
     })

@@ -1,5 +1,5 @@
 -- What the lines after the links of a plan say where none is at fault.
-use Rattle.std.specs.Prelude.{ℕ, true, ◌≡◌, ◌<◌, List, length, get_or}
+use Rattle.std.specs.Prelude.{ℕ, ◌≡◌, ◌<◌, List, length, get_or}
 use Rattle.coll_shape.specs.Outline.{Outline, buffer_at, group_at, list_bytes, step_at}
 use Rattle.coll_shape.specs.declared.types.CollStep.TheVariants.{Barrier}
 use Rattle.cuts.specs.machine.Machine.{Leads}
@@ -7,7 +7,7 @@ use Rattle.given_lines.specs.declared.given.Mark.{Mark}
 use Rattle.given_lines.specs.declared.given.Mark.TheVariants as marks
 use Rattle.mark_judge.specs.declared.flaw.Due.{Due}
 use Rattle.mark_judge.specs.declared.flaw.Due.TheVariants.{Result, Enter, Leave}
-use Rattle.mark_judge.specs.Bound.{is_bound}
+use Rattle.mark_judge.specs.Bound.{IsBound}
 use Rattle.mark_judge.specs.Due.{cell_of, due_of, mark_at}
 use Rattle.plan_core.specs.calls.RankOps.{done_threshold}
 use Rattle.plan_core.specs.Members.{In}
@@ -42,5 +42,5 @@ pub record AreMarked (p : Plan) (o : Outline) (said : List ℕ) (ms : List Mark)
   pub fit : (i : ℕ) → i < length ms → DoesFit p o (due_of (mark_at ms i)) (cell_of (mark_at ms i))
   pub once : (i j : ℕ) → i < j → j < length ms → due_of (mark_at ms i) ≡ due_of (mark_at ms j) → ⊥
   pub all : (d : Due) → IsDue o d → (i : ℕ) × (i < length ms) × (due_of (mark_at ms i) ≡ d)
-  pub begun : (s r c : ℕ) → In (marks.Enter s r c) ms → is_bound p c ≡ true
+  pub begun : (s r c : ℕ) → In (marks.Enter s r c) ms → IsBound p c
   pub closed : (s r q b c : ℕ) → In (marks.Enter s r b) ms → In (marks.Leave s q c) ms → Leads p b c

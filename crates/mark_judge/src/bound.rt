@@ -4,11 +4,12 @@ ghost use Rattle.std.specs.Prelude.{ℕ, ◌≡◌, ◌<◌, ◌+◌, ◌-◌, �
 ghost use Rattle.std.specs.List.{list_any};
 ghost use Rattle.number_lists.specs.Numbers.{from_to};
 ghost use Rattle.mark_judge.specs.declared.flaw.MarkFlaw.TheVariants.{EarlyEntry};
-ghost use Rattle.mark_judge.specs.Bound.{bound_below, does_bind, next_bound};
+ghost use Rattle.mark_judge.specs.Bound.{is_bound};
 ghost use Rattle.mark_judge.specs.Due.{cell_of, mark_at};
 ghost use Rattle.mark_judge.specs.Judged.{early_flaw};
-ghost use Rattle.mark_judge.specs.Tables.{is_unbound};
+ghost use Rattle.mark_judge.specs.Tables.{AreBound, does_bind, is_unbound};
 ghost use Rattle.plan_core.specs.Plan.{all_cells, in_links};
+ghost use Rattle.plan_core.specs.Sound.{SoundLink};
 ghost use Rattle.plan_judge.specs.Causes.{first_found};
 
 use crate::asked::mark_at;
@@ -48,17 +49,20 @@ fn one_binds(plan: &Plan, before: &[bool], links: &[u32]) -> bool
 
 /// Whether a cell can't be reached before its rank's start, from those before it. These links come to it.
 fn next_bound(plan: &Plan, before: &[bool], c: u32, links: &[u32]) -> bool
-    requires { links.now ≡ in_links plan.now c }
-    ensures { result ≡ next_bound plan.now before.now c }
+    requires rising { (l : ℕ) → l < length plan.now.links → SoundLink plan.now l }
+    requires before { AreBound plan.now c before.now }
+    requires links { links.now ≡ in_links plan.now c }
+    ensures { result ≡ is_bound plan.now c }
 {
     c < plan.ranks() || one_binds(plan, before, links)
 }
 
-/// Of each cell whether it can't be reached before its own rank's start, in one pass.
+/// Of each cell whether it can't be reached before its own rank's start, in one pass over the links, which rise.
 fn bound_cells(alloc: Global, plan: &Plan, into: &ByRank) -> Result<Vec<bool>, AllocError>
     requires at_most { length plan.now.cells + length plan.now.links < 2 ^ 32 - 1 }
+    requires links { (l : ℕ) → l < length plan.now.links → SoundLink plan.now l }
     requires table { into.now ≡ map (in_links plan.now) (all_cells plan.now) }
-    ensures { IfOk result (λ bound. bound.items ≡ bound_below plan.now (length plan.now.cells)) }
+    ensures { IfOk result (λ bound. AreBound plan.now (length plan.now.cells) bound.items) }
 {
     let mut bound = Vec::new(alloc);
     for c in 0..cell_count(plan) {
@@ -104,6 +108,7 @@ pub(crate) fn first_early_flaw(
     marks: &[Mark],
 ) -> Result<Option<MarkFlaw>, NoMemory>
     requires at_most { length plan.now.cells + length plan.now.links < 2 ^ 32 - 1 }
+    requires links { (l : ℕ) → l < length plan.now.links → SoundLink plan.now l }
     requires table { into.now ≡ map (in_links plan.now) (all_cells plan.now) }
     requires few_marks { length marks.now < 2 ^ 32 }
     requires known { (i : ℕ) → i < length marks.now → cell_of (mark_at marks.now i) < length plan.now.cells }

@@ -37,7 +37,7 @@ pub(crate) fn entries_of(alloc: Global, marks: &[Mark]) -> Result<Vec<Entry>, Al
 }
 
 /// The entry at a place.
-fn entry_at(entries: &[Entry], k: usize) -> Entry
+pub(crate) fn entry_at(entries: &[Entry], k: usize) -> Entry
     requires { k < length entries.now }
     ensures { result ≡ entry_at entries.now k }
 {
@@ -67,11 +67,24 @@ pub(crate) fn lacks_one(bits: Bits, entries: &[Entry], step: u32) -> bool
 }
 
 /// For each of so many cells no entry.
-fn no_bits(alloc: Global, cells: usize) -> Result<Vec<Bits>, AllocError>
+///
+/// # Errors
+///
+/// There was no memory for them.
+pub(crate) fn no_bits(alloc: Global, cells: usize) -> Result<Vec<Bits>, AllocError>
     ensures many { IfOk result (λ words. length words.items ≡ cells) }
-    ensures none { IfOk result (λ words. (c j : ℕ) → has_bit (get_or words.items c no_bits) j ≡ false) }
 {
     vec![in alloc; NO_BITS; cells]
+}
+
+/// Takes the entries of all cells away.
+fn clear(words: &mut Vec<Bits>)
+    ensures many { length words.new.items ≡ length words.old.items }
+    ensures none { (c j : ℕ) → c < length words.old.items → has_bit (get_or words.new.items c no_bits) j ≡ false }
+{
+    for c in 0..words.len() {
+        words[c] = NO_BITS;
+    }
 }
 
 /// Adds the entry of this number to those of a cell, if there is one.
@@ -86,23 +99,14 @@ fn begin_at(words: &mut Vec<Bits>, cell: u32, k: u32)
     }
 }
 
-/// For each of so many cells the entries that lie there.
-///
-/// # Errors
-///
-/// There was no memory for them.
-pub(crate) fn words_begun(
-    alloc: Global,
-    cells: usize,
-    entries: &[Entry],
-) -> Result<Vec<Bits>, AllocError>
+/// Puts into each cell the entries that lie there, and no other.
+pub(crate) fn begin(words: &mut Vec<Bits>, entries: &[Entry])
     requires { length entries.now ≤ 256 }
-    ensures many { IfOk result (λ words. length words.items ≡ cells) }
-    ensures begun { IfOk result (λ words. AreBegun entries.now cells words.items) }
+    ensures many { length words.new.items ≡ length words.old.items }
+    ensures begun { AreBegun entries.now (length words.old.items) words.new.items }
 {
-    let mut words = no_bits(alloc, cells)?;
+    clear(words);
     for k in 0..entries.len() {
-        begin_at(&mut words, entry_at(entries, k).cell, k as u32);
+        begin_at(words, entry_at(entries, k).cell, k as u32);
     }
-    Ok(words)
 }

@@ -1,6 +1,6 @@
 //! A bit for each of up to 256 entries.
 
-ghost use Rattle.std.specs.Prelude.{ℕ, ◌≡◌, ◌<◌, ◌==◌, ◌||◌};
+ghost use Rattle.std.specs.Prelude.{ℕ, ◌≡◌, ◌<◌, ◌==◌, ◌||◌, ◌&&◌, true};
 ghost use Rattle.mark_judge.specs.Tables.{has_bit};
 
 /// Which of up to 256 entries are meant: a bit for each.
@@ -53,4 +53,18 @@ pub(crate) fn joined(a: Bits, b: Bits) -> Bits
         low: a.low | b.low,
         high: a.high | b.high,
     }
+}
+
+/// Whether two words are the same.
+fn is_same(a: Bits, b: Bits) -> bool
+    ensures { result ≡ ((a.low == b.low) && (a.high == b.high)) }
+{
+    a.low == b.low && a.high == b.high
+}
+
+/// Whether all entries of a mask are among these.
+pub(crate) fn has_all(bits: Bits, mask: Bits) -> bool
+    ensures { result ≡ true → (j : ℕ) → has_bit mask j ≡ true → has_bit bits j ≡ true }
+{
+    is_same(joined(bits, mask), bits)
 }

@@ -51,7 +51,7 @@ fn marks_flaw(
 /// leads. None: `no_mark_flaw` says what then holds.
 ///
 /// It takes a number of steps in the order of the plan's cells and links, once for each 256 lines `enter`, of which a description asks
-/// for 16,384 at most.
+/// for 16,384 at most; past the first time over a cell to which one link comes, and where no rank enters, one look.
 ///
 /// # Errors
 ///

@@ -1,87 +1,97 @@
-//! Which of up to 256 cells lead to each cell.
+//! Which of up to 256 entries lead to each cell.
 
-ghost use Rattle.std.specs.Prelude.{ℕ, ◌≡◌, ◌<◌, ◌≤◌, ◌+◌, ◌-◌, ◌^◌, ◌||◌, All, IfOk, get_or, length, map};
+ghost use Rattle.std.specs.Prelude.{ℕ, ◌≡◌, ◌<◌, ◌+◌, ◌-◌, ◌^◌, ◌||◌, All, get_or, length, map};
 ghost use Rattle.std.specs.List.{list_any};
-ghost use Rattle.mark_judge.specs.Leading.{leads};
-ghost use Rattle.mark_judge.specs.Tables.{AreBegun, AreReached, entry_at, has_bit, no_bits};
-ghost use Rattle.plan_core.specs.Plan.{all_cells, in_links, link};
+ghost use Rattle.mark_judge.specs.Tables.{AreBegun, AreKept, AreReached, AreRoots, AreSources, has_bit, no_bits};
+ghost use Rattle.plan_core.specs.Plan.{all_cells, in_links};
 ghost use Rattle.plan_core.specs.Sound.{SoundLink};
 
-use crate::entries::{Entry, words_begun};
+use crate::entries::Entry;
 use crate::entry_bits::{Bits, joined};
 use plan_core::Plan;
+use plan_core::reading::cell_count;
 use plan_judge::links_to;
 use plan_tables::ByRank;
-use std::alloc::{AllocError, Global};
-
-/// The cell from which a link comes.
-fn source_of(plan: &Plan, l: u32) -> u32
-    requires { l < length plan.now.links }
-    ensures { result ≡ (link plan.now l).source }
-{
-    plan.links()[l as usize].source
-}
 
 /// The entries of a cell itself and of the cells from which these links come.
-fn gathered(words: &[Bits], plan: &Plan, links: &[u32], own: Bits) -> Bits
-    requires known { All (λ l. l < length plan.now.links) links.now }
-    requires sources { All (λ l. (link plan.now l).source < length words.now) links.now }
+fn gathered(words: &[Bits], sources: &[u32], links: &[u32], own: Bits) -> Bits
+    requires known { All (λ l. l < length sources.now) links.now }
+    requires sources { All (λ l. get_or sources.now l 0 < length words.now) links.now }
     ensures { (k : ℕ) → has_bit result k ≡
-        (has_bit own k || list_any (λ l. has_bit (get_or words.now (link plan.now l).source no_bits) k) links.now) }
+        (has_bit own k || list_any (λ l. has_bit (get_or words.now (get_or sources.now l 0) no_bits) k) links.now) }
 {
     let mut word = own;
     for l in links {
-        word = joined(word, words[source_of(plan, *l) as usize]);
+        word = joined(word, words[sources[*l as usize] as usize]);
     }
     word
 }
 
-/// The entries that lead to a cell: those that lie there, and those of the cells before it from which links come.
-fn next_word(
-    begun: &[Bits],
-    before: &[Bits],
-    plan: &Plan,
-    into: &ByRank,
-    entries: &[Entry],
-    c: u32,
-) -> Bits
-    requires cell { c < length plan.now.cells }
-    requires table { into.now ≡ map (in_links plan.now) (all_cells plan.now) }
-    requires links { (l : ℕ) → l < length plan.now.links → SoundLink plan.now l }
-    requires cells { length begun.now ≡ length plan.now.cells }
-    requires begun { AreBegun entries.now (length plan.now.cells) begun.now }
-    requires place { length before.now ≡ c }
-    requires before { (d k : ℕ) → d < c → k < length entries.now → has_bit (get_or before.now d no_bits) k ≡ leads plan.now
-        (entry_at entries.now k).cell d }
-    ensures { (k : ℕ) → k < length entries.now → has_bit result k ≡ leads plan.now (entry_at entries.now k).cell c }
+/// Adds to the entries of a cell those of the cells from which these links come.
+fn reach_cell(words: &mut Vec<Bits>, sources: &[u32], links: &[u32], c: u32)
+    requires cell { c < length words.old.items }
+    requires known { All (λ l. l < length sources.now) links.now }
+    requires sources { All (λ l. get_or sources.now l 0 < length words.old.items) links.now }
+    ensures many { length words.new.items ≡ length words.old.items }
+    ensures others { (d : ℕ) → (d ≡ c → ⊥) → get_or words.new.items d no_bits ≡ get_or words.old.items d no_bits }
+    ensures here { (k : ℕ) → has_bit (get_or words.new.items c no_bits) k ≡ (has_bit (get_or words.old.items c no_bits) k
+        || list_any (λ l. has_bit (get_or words.old.items (get_or sources.now l 0) no_bits) k) links.now) }
 {
-    gathered(before, plan, links_to(plan, into, c), begun[c as usize])
+    let word = gathered(words.as_slice(), sources, links, words[c as usize]);
+    words[c as usize] = word;
 }
 
-/// For each cell the entries that lead there. One pass over the links, which rise.
-///
-/// # Errors
-///
-/// There was no memory for them.
-pub(crate) fn words_reached(
-    alloc: Global,
+/// The same with the links that come to a cell, where it is a root.
+fn reach_root(
+    words: &mut Vec<Bits>,
     plan: &Plan,
     into: &ByRank,
+    roots: &[u32],
+    sources: &[u32],
+    c: u32,
+)
+    requires cell { c < length plan.now.cells }
+    requires links { (l : ℕ) → l < length plan.now.links → SoundLink plan.now l }
+    requires table { into.now ≡ map (in_links plan.now) (all_cells plan.now) }
+    requires words { length words.old.items ≡ length plan.now.cells }
+    requires cells { length roots.now ≡ length plan.now.cells }
+    requires roots { AreRoots plan.now (length plan.now.cells) roots.now }
+    requires known { length sources.now ≡ length plan.now.links }
+    requires sources { AreSources plan.now roots.now (length plan.now.links) sources.now }
+    ensures many { length words.new.items ≡ length words.old.items }
+    ensures others { (d : ℕ) → (d ≡ c → ⊥) → get_or words.new.items d no_bits ≡ get_or words.old.items d no_bits }
+    ensures here { get_or roots.now c 0 ≡ c → (k : ℕ) → has_bit (get_or words.new.items c no_bits) k ≡
+        (has_bit (get_or words.old.items c no_bits) k
+        || list_any (λ l. has_bit (get_or words.old.items (get_or sources.now l 0) no_bits) k) (in_links plan.now c)) }
+{
+    if roots[c as usize] == c {
+        reach_cell(words, sources, links_to(plan, into, c), c);
+    }
+}
+
+/// Adds to the entries of each root those that lead there. One pass over the links, which rise.
+pub(crate) fn reach(
+    words: &mut Vec<Bits>,
+    plan: &Plan,
+    into: &ByRank,
+    roots: &[u32],
+    sources: &[u32],
     entries: &[Entry],
-) -> Result<Vec<Bits>, AllocError>
-    requires few { length entries.now ≤ 256 }
+)
     requires at_most { length plan.now.cells + length plan.now.links < 2 ^ 32 - 1 }
     requires links { (l : ℕ) → l < length plan.now.links → SoundLink plan.now l }
     requires table { into.now ≡ map (in_links plan.now) (all_cells plan.now) }
-    ensures many { IfOk result (λ words. length words.items ≡ length plan.now.cells) }
-    ensures reached { IfOk result (λ words. AreReached plan.now entries.now words.items) }
+    requires words { length words.old.items ≡ length plan.now.cells }
+    requires begun { AreBegun entries.now (length plan.now.cells) words.old.items }
+    requires cells { length roots.now ≡ length plan.now.cells }
+    requires roots { AreRoots plan.now (length plan.now.cells) roots.now }
+    requires kept { AreKept entries.now (length plan.now.cells) roots.now }
+    requires known { length sources.now ≡ length plan.now.links }
+    requires sources { AreSources plan.now roots.now (length plan.now.links) sources.now }
+    ensures many { length words.new.items ≡ length words.old.items }
+    ensures reached { AreReached plan.now entries.now roots.now words.new.items }
 {
-    let cells = plan.cells().len();
-    let begun = words_begun(alloc, cells, entries)?;
-    let mut words = Vec::with_capacity(alloc, cells)?;
-    for c in 0..cells as u32 {
-        let word = next_word(begun.as_slice(), words.as_slice(), plan, into, entries, c);
-        words.push(word)?;
+    for c in 0..cell_count(plan) {
+        reach_root(words, plan, into, roots, sources, c);
     }
-    Ok(words)
 }

@@ -1,10 +1,8 @@
 -- What is reached after its rank's start alone: the cells of inputs, and the cells where barriers are entered.
-use Rattle.std.specs.Prelude.{nat_lt}
-use Rattle.std.specs.List.{list_any}
-use Rattle.std.proofs.Common.{not, map}
+use Rattle.std.proofs.Common.{map}
 use Rattle.std.proofs.Common.{ℕ, zero, suc, true, false, Bool, cond, ◌||◌, ◌==◌, ◌≡◌, ◌+◌, ◌*◌, ◌<◌, ◌≤◌, Option, Some, None, length}
 use Rattle.std.proofs.Common.{List, [], ◌∷◌, ◌++◌, ◌∙◌, sym, subst, inl, inr, arith, count_by, eqb-true, get_or, min, refl, ap}
-use Rattle.std.proofs.lemmas.Bool.{and_parts, cases_Bool, ltb-true, not-true, or_cases}
+use Rattle.std.proofs.lemmas.Bool.{and_parts, cases_Bool, or_cases}
 use Rattle.std.proofs.lemmas.Nat.{mod-mul-add}
 use Rattle.ptl_types.specs.declared.handles.Count.{Count}
 use Rattle.ptl_types.specs.Handles.{top}
@@ -25,8 +23,8 @@ use Rattle.plan_core.specs.Values.{Inputs}
 use Rattle.plan_core.specs.calls.RankOps.{RankOp, rank_ops}
 use Rattle.plan_judge.specs.Guards.{AreGuarded, guarded_below, is_guard, is_guarded}
 use Rattle.plan_judge.proofs.Guarding.{guarded_at}
-use Rattle.mark_judge.specs.Bound.{bound_below, does_bind, is_bound}
-use Rattle.mark_judge.proofs.Binding.{bound_at}
+use Rattle.mark_judge.specs.Bound.{IsBound}
+use Rattle.mark_judge.specs.Bound.IsBound.{bump as by_bump, go as as_go, message as by_message}
 use Rattle.mark_judge.proofs.Tests.{any-In}
 use Rattle.cuts.proofs.histories.FromCut.{came_all, machine_cut, moves_at, prepared_of}
 use Rattle.cuts.proofs.histories.Origin.{IsOf, after_of}
@@ -59,12 +57,6 @@ pub bump-is : (k : LinkKind) → is_bump k ≡ true → k ≡ Bump
 bump-is Bump e = refl
 bump-is Put e = cc
 bump-is Atomic e = cc
-
--- a bump binds where its source is bound
-from_source : (kind : LinkKind) → is_bump kind ≡ true → (t : Bool) → (not (is_bump kind) || t) ≡ true → t ≡ true
-from_source Bump b t e = e
-from_source Put b t e = cc
-from_source Atomic b t e = cc
 
 -- links lead to it from the go cell of its rank
 guard_within : (p : Plan) (inputs : ℕ) → SoundPlan p inputs → (n c : ℕ) → c < n → is_guarded p c ≡ true → Leads p (cell p c).rank c
@@ -212,33 +204,16 @@ module _ (p : Plan) (inputs : Inputs) (sound : SoundPlan p (length inputs)) (fit
       came false e a j = absurd j
 
   -- or bumps from such cells alone
-  bound_within : AreCellsInOrder p inputs slots w → (n c : ℕ) → c < n → c < length p.cells → is_bound p c ≡ true
+  pub entry_begun : AreCellsInOrder p inputs slots w → (c : ℕ) → c < length p.cells → IsBound p c
       → CounterReached p inputs slots w c → 0 < count_by is_start (w (cell p c).rank)
-  bound_within order zero c h hc b k = absurd (omega arith)
-  bound_within order (suc n) c h hc b k =
-      elim (or_cases (nat_lt c p.ranks) (list_any (does_bind p (bound_below p c)) (in_links p c)) b) [
-        | inl q ↦ (let lt = ltb-true c p.ranks q in
-            subst (λ d. 0 < count_by is_start (w d)) (sym (sound.go_needs c lt).2) (go_begun c lt k))
-        | inr q ↦ (let f = any-In (does_bind p (bound_below p c)) (in_links p c) q in
-            let l = f.0 in
-            let s = (link p l).source in
-            let kind = (link p l).kind in
-            let known = in_links-In p c l f.1 in
-            let sl = sound.links_sound l known.0 in
-            let up = sl.rising in
-            let at = known.1 in
-            let below : s < c = omega (arith, up, at) in
-            elim (cases_Bool (is_bump kind)) [
-              | inl bump ↦ (let same : (cell p s).rank ≡ (cell p c).rank =
-                  sl.bump_stays (bump-is kind bump) ∙ ap (λ d. (cell p d).rank) at in
-                  subst (λ d. 0 < count_by is_start (w d)) same
-                  (bound_within order n s (omega (arith, below, h)) (omega (arith, below, hc))
-                  (sym (bound_at p c s below) ∙ from_source kind bump (get_or (bound_below p c) s false) f.2)
-                  (order s c (omega (arith, below, hc)) hc (along c l f.1 here) k)))
-              | inr message ↦ message_begun c l hc f.1 message k
-            ])
-      ]
-
-  pub entry_begun : AreCellsInOrder p inputs slots w → (c : ℕ) → c < length p.cells → is_bound p c ≡ true
-      → CounterReached p inputs slots w c → 0 < count_by is_start (w (cell p c).rank)
-  entry_begun order c hc b k = bound_within order (suc c) c (omega arith) hc b k
+  entry_begun order c hc (as_go r h) k = subst (λ d. 0 < count_by is_start (w d)) (sym (sound.go_needs r h).2) (go_begun r h k)
+  entry_begun order c hc (by_message d l i sends) k = message_begun d l hc i sends k
+  entry_begun order c hc (by_bump d l i counts b) k =
+      let s = (link p l).source in
+      let known = in_links-In p d l i in
+      let sl = sound.links_sound l known.0 in
+      let up = sl.rising in
+      let at = known.1 in
+      let low : s < length p.cells = omega (arith, up, at, hc) in
+      let same : (cell p s).rank ≡ (cell p d).rank = sl.bump_stays (bump-is (link p l).kind counts) ∙ ap (λ e. (cell p e).rank) at in
+      subst (λ e. 0 < count_by is_start (w e)) same (entry_begun order s low b (order s d low hc (along d l i here) k))

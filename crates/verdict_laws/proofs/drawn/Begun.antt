@@ -1,9 +1,7 @@
 -- The cells at which barriers are entered are reached after their rank's start alone.
-use Rattle.std.proofs.Common.{ℕ, Bool, true, false, not, ◌||◌, ◌≡◌, ◌<◌, get_or, refl, sym, ap, subst, ◌∙◌, inl, inr, arith}
+use Rattle.std.proofs.Common.{ℕ, ◌≡◌, ◌<◌, sym, ap, subst, ◌∙◌, inl, inr}
 use Rattle.std.proofs.Common.{None}
-use Rattle.std.specs.Prelude.{nat_lt}
-use Rattle.std.specs.List.{list_any}
-use Rattle.std.proofs.lemmas.Bool.{cases_Bool, lt-ltb, not_from_false, or_left, or_right}
+use Rattle.std.proofs.lemmas.Bool.{cases_Bool}
 use Rattle.coll_shape.specs.Outline.{Outline}
 use Rattle.coll_shape.specs.WellFormed.{IsWellFormed}
 use Rattle.cuts.specs.machine.Machine.{Leads}
@@ -11,12 +9,10 @@ use Rattle.cuts.specs.machine.Machine.Leads.{along, here}
 use Rattle.given_lines.specs.declared.given.Mark.TheVariants as marks
 use Rattle.job_laws.specs.steps.Order.{IsAt}
 use Rattle.job_laws.specs.steps.Order as steps
-use Rattle.mark_judge.specs.Bound.{bound_below, does_bind, is_bound}
+use Rattle.mark_judge.specs.Bound.{IsBound}
+use Rattle.mark_judge.specs.Bound.IsBound.{bump, go, message}
 use Rattle.mark_judge.specs.Marked.{IsOn}
-use Rattle.mark_judge.proofs.Binding.{bound_at}
-use Rattle.mark_judge.proofs.Tests.{In-any}
-use Rattle.plan_core.specs.Members.{In}
-use Rattle.plan_core.specs.Plan.{Plan, cell, in_links, is_bump, link}
+use Rattle.plan_core.specs.Plan.{Plan, cell, is_bump, link}
 use Rattle.plan_core.specs.Sound.{SoundPlan}
 use Rattle.plan_core.proofs.Links.{in_links-In}
 use Rattle.schedule_compiler.specs.shapes.Drawing.{plan_of}
@@ -25,32 +21,19 @@ use Rattle.schedule_compiler.proofs.shapes.Final.{sound}
 use Rattle.verdict_laws.proofs.Starting.{bump-is}
 use Rattle.verdict_laws.proofs.drawn.Named.{IsOf}
 
--- a link that binds its target
-bound_by : (p : Plan) (c l : ℕ) → In l (in_links p c) → does_bind p (bound_below p c) l ≡ true → is_bound p c ≡ true
-bound_by p c l i e =
-    or_right (nat_lt c p.ranks) (list_any (does_bind p (bound_below p c)) (in_links p c))
-    (In-any (does_bind p (bound_below p c)) l (in_links p c) i e)
-
 -- a cell to which links lead from its rank's go cell
-leads_bound : (p : Plan) (inputs : ℕ) → SoundPlan p inputs → (r c : ℕ) → r < p.ranks → (cell p c).rank ≡ r → Leads p r c
-    → is_bound p c ≡ true
-leads_bound p inputs good r c h on here =
-    or_left (nat_lt r p.ranks) (list_any (does_bind p (bound_below p r)) (in_links p r)) (lt-ltb r p.ranks h)
+leads_bound : (p : Plan) (inputs : ℕ) → SoundPlan p inputs → (r c : ℕ) → r < p.ranks → (cell p c).rank ≡ r → Leads p r c → IsBound p c
+leads_bound p inputs good r c h on here = go r h
 leads_bound p inputs good r c h on (along d l i path) =
     let k = in_links-In p d l i in
     let s = good.links_sound l k.0 in
-    let up = s.rising in
     let e = k.1 in
     let source = (link p l).source in
-    let below : source < d = omega (arith, up, e) in
-    let kind = (link p l).kind in
-    elim (cases_Bool (is_bump kind)) [
-      | inl bump ↦ (let at : (cell p source).rank ≡ r = s.bump_stays (bump-is kind bump) ∙ ap (λ v. (cell p v).rank) e ∙ on in
-          bound_by p d l i
-          (or_right (not (is_bump kind)) (get_or (bound_below p d) source false)
-          (bound_at p d source below ∙ leads_bound p inputs good r source h at path)))
-      | inr message ↦ bound_by p d l i
-          (or_left (not (is_bump kind)) (get_or (bound_below p d) source false) (not_from_false (is_bump kind) message))
+    elim (cases_Bool (is_bump (link p l).kind)) [
+      | inl counts ↦ (let at : (cell p source).rank ≡ r =
+          s.bump_stays (bump-is (link p l).kind counts) ∙ ap (λ v. (cell p v).rank) e ∙ on in
+          bump d l i counts (leads_bound p inputs good r source h at path))
+      | inr sends ↦ message d l i sends
     ]
 
 -- a chain of links leads from each member's go cell to its entry of each step
@@ -58,7 +41,7 @@ abbrev pub Begins : Outline → Type 0
 Begins o = (k i r : ℕ) → IsAt o k i r → Leads (plan_of o) r (steps.entry_cell o k i)
 
 pub of_begun : (o : Outline) → IsWellFormed o → refusal o ≡ None → Begins o → (s r c : ℕ) → IsOf o (marks.Enter s r c)
-    → IsOn (plan_of o) r c → is_bound (plan_of o) c ≡ true
+    → IsOn (plan_of o) r c → IsBound (plan_of o) c
 of_begun o a none begins s r c of on =
     let good = sound o a none in
     let at = of.1 in

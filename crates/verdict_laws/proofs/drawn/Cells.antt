@@ -1,10 +1,10 @@
 -- The cells that the lines name: each fits what its line is for, and links lead from where a barrier is entered to where it is left.
-use Rattle.std.proofs.Common.{◌≡◌, ℕ, zero, suc, ◌+◌, ◌-◌, ◌*◌, ◌<◌, ◌≤◌, ◌⊎◌, inl, inr, List, [], ◌∷◌, ◌++◌, length, get_or}
-use Rattle.std.proofs.Common.{map, Some, None, refl}
+use Rattle.std.proofs.Common.{◌≡◌, ℕ, zero, suc, ◌+◌, ◌-◌, ◌<◌, ◌≤◌, ◌⊎◌, inl, inr, length}
+use Rattle.std.proofs.Common.{map, refl}
 use Rattle.std.proofs.Common.{sym, ap, subst, ◌∙◌, arith, eq-or-lt_of_le, le_of_suc-le-suc}
 use Rattle.number_lists.specs.Members.{In}
 use Rattle.coll_shape.specs.Collectives.{buffer_after, source_of, named}
-use Rattle.coll_shape.specs.Outline.{Outline, buffer_at, group_at, list_bytes, read_buffer, step_at}
+use Rattle.coll_shape.specs.Outline.{Outline, buffer_at, group_at, read_buffer, step_at}
 use Rattle.coll_shape.specs.WellFormed.{IsWellFormed, StepFits, and_one, made_upto}
 use Rattle.coll_shape.specs.declared.types.Buffer.{Buffer}
 use Rattle.coll_shape.specs.declared.types.CollStep.TheVariants.{Barrier}
@@ -15,13 +15,11 @@ use Rattle.given_lines.specs.declared.given.Mark.TheVariants as marks
 use Rattle.mark_judge.specs.Due.{cell_of, due_of}
 use Rattle.mark_judge.specs.Marked.{DoesFit, IsDue, IsOn}
 use Rattle.mark_judge.proofs.Tests.{In-get_or}
-use Rattle.marked_plans.specs.Marks.{first_cell}
 use Rattle.verdict_laws.proofs.drawn.Named.{IsOf, IsPlace, entry_cell, exit_cell, member_at}
-use Rattle.number_lists.specs.Numbers.{from_to}
 use Rattle.plan_core.specs.declared.Cell.{Cell}
 use Rattle.plan_core.specs.Plan.{Plan, cell}
 use Rattle.plan_core.proofs.Links.{from_to-In}
-use Rattle.plan_steps.specs.Collectives.Barrier.{barrier_cells, round_cell, round_rows}
+use Rattle.plan_steps.specs.Collectives.Barrier.{barrier_cells, round_rows}
 use Rattle.plan_steps.specs.Drawing.{site}
 use Rattle.plan_steps.specs.Rounds.{rounds}
 use Rattle.plan_steps.specs.Sounding.{EachAt, with_cells}
@@ -29,7 +27,7 @@ use Rattle.plan_steps.specs.StepContext.{StepContext, bare_entry, count, in_row,
 use Rattle.plan_steps.proofs.Drawn.{each_front}
 use Rattle.plan_steps.proofs.Entries.{behind, of_places}
 use Rattle.plan_steps.proofs.barrier.Laws.{round-at}
-use Rattle.schedule_compiler.specs.shapes.Drawing.{drawing_of, drawn_upto, plan_of}
+use Rattle.schedule_compiler.specs.shapes.Drawing.{drawn_upto, plan_of}
 use Rattle.schedule_compiler.proofs.shapes.ByCollective.{Kind, held_here, kind_of}
 use Rattle.schedule_compiler.proofs.shapes.ByCollective.Kind.{Plain, Makes}
 use Rattle.schedule_compiler.proofs.shapes.Final.{barrier-cells, barrier-rounds, held-holder, result-cell}

@@ -1,9 +1,9 @@
 -- The lines of a shape's own plan are those that are asked for.
-use Rattle.std.proofs.Common.{◌≡◌, ℕ, zero, suc, ◌+◌, ◌<◌, List, [], ◌∷◌, length, get_or, map, None, refl, sym, ap, subst, ◌∙◌, arith}
+use Rattle.std.proofs.Common.{◌≡◌, ℕ, zero, suc, ◌+◌, ◌<◌, length, get_or, map, None, refl, ap, subst, ◌∙◌, arith}
 use Rattle.coll_lang.proofs.Facts.{apart}
 use Rattle.number_lists.specs.Members.{In}
 use Rattle.number_lists.specs.Numbers.{from_to}
-use Rattle.coll_shape.specs.Outline.{Outline, buffer_at, group_at}
+use Rattle.coll_shape.specs.Outline.{Outline, group_at}
 use Rattle.coll_shape.specs.WellFormed.{IsWellFormed}
 use Rattle.given_lines.specs.declared.given.Mark.{Mark}
 use Rattle.given_lines.specs.declared.given.Mark.TheVariants as marks
@@ -18,7 +18,7 @@ use Rattle.verdict_laws.proofs.drawn.Begun.{Begins, of_begun}
 use Rattle.verdict_laws.proofs.drawn.Cells.{holders_low, of_closed, of_due, of_fit}
 use Rattle.verdict_laws.proofs.drawn.Named.{IsOf, entry_there, exit_there, of_marks, result_there}
 use Rattle.plan_core.specs.calls.RankOps.{done_threshold}
-use Rattle.schedule_compiler.specs.shapes.Drawing.{drawing_of, plan_of}
+use Rattle.schedule_compiler.specs.shapes.Drawing.{plan_of}
 use Rattle.schedule_compiler.specs.shapes.Footprint.{refusal}
 use Rattle.schedule_compiler.proofs.shapes.Final.{fine-shape}
 

@@ -1,13 +1,12 @@
 -- The lists of a world's results.
-use Rattle.std.proofs.Common.{ℕ, ◌≡◌, ◌<◌, ◌^◌, List, [], Option, Some, None, length, map, refl, sym, ap, subst, ◌∙◌}
+use Rattle.std.proofs.Common.{ℕ, ◌≡◌, ◌<◌, List, [], Option, Some, None, length, map, refl, sym, ap, subst, ◌∙◌}
 use Rattle.coll_shape.specs.Folding.{at}
-use Rattle.coll_shape.specs.Meaning.{Lists, lists_of}
+use Rattle.coll_shape.specs.Meaning.{lists_of}
 use Rattle.coll_shape.specs.Outline.{Outline}
 use Rattle.coll_shape.specs.WellFormed.{IsWellFormed}
 use Rattle.cuts.specs.cells.Cells.{AreValuesAt, cell_part}
 use Rattle.given_lines.specs.declared.given.Mark.{Mark}
 use Rattle.given_lines.specs.declared.given.Mark.TheVariants.{Result}
-use Rattle.given_lines.specs.Given.{Given}
 use Rattle.mark_judge.specs.Due.{no_mark}
 use Rattle.mark_judge.specs.Marked.{DoesFit, IsDue}
 use Rattle.mark_judge.specs.Due.{cell_of, due_of}
@@ -21,7 +20,7 @@ use Rattle.plan_core.specs.Plan.{Plan}
 use Rattle.plan_core.specs.Values.{Inputs}
 use Rattle.plan_tables.proofs.Passes.{get-row}
 use Rattle.schedule_compiler.specs.Keeping.{AreHeld}
-use Rattle.verdict_laws.specs.GivenJobs.{AreWithin, given_lists, held_list, named_cells, no_cells, results_of}
+use Rattle.verdict_laws.specs.GivenJobs.{AreWithin, given_lists, held_list, no_cells, results_of}
 use Rattle.verdict_laws.proofs.jobs.Naming.{named-ranks, of_lines}
 
 -- ---- what the lines name

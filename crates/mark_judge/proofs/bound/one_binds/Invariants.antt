@@ -1,6 +1,6 @@
 use Rattle.std.proofs.Common.{◌≡◌, false, take}
 use Rattle.std.specs.List.{list_any}
-use Rattle.mark_judge.specs.Bound.{does_bind}
+use Rattle.mark_judge.specs.Tables.{does_bind}
 use Rattle.mark_judge.proofs.bound.one_binds.Given as goal
 
 abbrev pub invariant-loop-l : goal.invariant-loop-l

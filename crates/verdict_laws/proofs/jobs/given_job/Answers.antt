@@ -1,7 +1,6 @@
-use Rattle.std.proofs.Common.{ℕ, ◌≡◌, ◌<◌, ◌∙◌, List, ap, length, subst, sym}
+use Rattle.std.proofs.Common.{ℕ, ◌<◌, ◌∙◌, List, ap, length, subst, sym}
 use Rattle.coll_shape.specs.declared.types.Buffer.{Buffer}
 use Rattle.plan_core.specs.Draw.{HeldCells}
-use Rattle.plan_core.specs.Sound.{AreInputsOf}
 use Rattle.schedule_compiler.specs.Jobs.{AreInputsFor}
 use Rattle.schedule_compiler.specs.Keeping.{CanRun}
 use Rattle.schedule_compiler.specs.Schedules.{ScheduleOf, scheduled}
