@@ -1,2 +1,4 @@
 pub mod Meant
 pub mod Lists
+pub mod Moved
+pub mod Telling

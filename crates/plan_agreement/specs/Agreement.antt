@@ -1,5 +1,5 @@
 -- What is found of a plan whose results are named, for all inputs of a shape.
-use Rattle.std.specs.Prelude.{ℕ, ◌<◌, ◌≡◌, List, Option, Some, None, [], length, get_or, take, All}
+use Rattle.std.specs.Prelude.{ℕ, ◌+◌, ◌*◌, ◌/◌, ◌%◌, ◌<◌, ◌≤◌, ◌≡◌, List, Option, Some, None, [], length, get_or, take, All}
 use Rattle.coll_shape.specs.Folding.{at}
 use Rattle.coll_shape.specs.Meaning.{AreInputs, Lists, lists_of, meaning_of}
 use Rattle.coll_shape.specs.Outline.{Outline}
@@ -11,6 +11,9 @@ use Rattle.plan_core.specs.Sound.{AreInputsOf, SoundPlan}
 use Rattle.plan_core.specs.Draw.{held_cell}
 use Rattle.plan_core.specs.Values.{value}
 use Rattle.schedule_compiler.specs.shapes.Drawing.{drawing_of}
+use Rattle.plan_slices.specs.declared.cut.Cut.{Cut}
+use Rattle.plan_slices.specs.Slices.{block, cut_at}
+use Rattle.plan_agreement.specs.Evaluated.{Evaluated}
 use Rattle.plan_agreement.specs.declared.agreement.Agreement.{Agreement}
 use Rattle.plan_agreement.specs.declared.agreement.Agreement.TheVariants.{Same, Differs, Unknown}
 use Rattle.plan_agreement.specs.declared.comparing.Unlike.{Unlike}
@@ -106,35 +109,50 @@ abbrev pub held_places : List (List ℕ) → Option ℕ → List ℕ
 held_places own None = []
 held_places own (Some c) = get_or own c []
 
--- a result's cell has the places of the cell in the shape's own plan that holds its buffer
-pub record IsAlikeAt (p : Plan) (o : Outline) (given own : List (List ℕ)) (b r c : ℕ) : Type 0 where
+-- how the cell is cut that holds a buffer; where no cell does, as the other one
+abbrev pub held_cut : List Cut → Cut → Option ℕ → Cut
+held_cut cuts k None = k
+held_cut cuts k (Some c) = cut_at cuts c
+
+-- a result's cell is cut as the cell in the shape's own plan that holds its buffer, and its slices have the places of that one's
+pub record IsAlikeAt (p : Plan) (o : Outline) (given own : Evaluated) (b r c : ℕ) : Type 0 where
   pub cell : c < length p.cells
   pub buffer : b < length o.buffers
   pub rank : r < o.ranks
-  pub places : get_or given c [] ≡ held_places own (held_cell (drawing_of o).held b r)
+  pub cut : cut_at given.cuts c ≡ held_cut own.cuts (cut_at given.cuts c) (held_cell (drawing_of o).held b r)
+  pub places : get_or given.places c [] ≡ held_places own.places (held_cell (drawing_of o).held b r)
 
-abbrev pub IsAlike : Plan → Outline → List (List ℕ) → List (List ℕ) → Mark → Type 0
+abbrev pub IsAlike : Plan → Outline → Evaluated → Evaluated → Mark → Type 0
 IsAlike p o given own (Result b r c) = IsAlikeAt p o given own b r c
 IsAlike p o given own (Enter s r c) = Unit {0}
 IsAlike p o given own (Leave s r c) = Unit {0}
 
-abbrev pub AreAlikeTo : Plan → Outline → List (List ℕ) → List (List ℕ) → List Mark → ℕ → Type 0
+abbrev pub AreAlikeTo : Plan → Outline → Evaluated → Evaluated → List Mark → ℕ → Type 0
 AreAlikeTo p o given own ms n = (i : ℕ) → i < n → IsAlike p o given own (mark_at ms i)
 
--- its first k places are those of that cell
-pub record IsPartAlikeAt (p : Plan) (o : Outline) (given own : List (List ℕ)) (b r c k : ℕ) : Type 0 where
+-- what so many first bytes of each slice are of a cell's bytes: whole blocks, and what is left of the first piece after them
+abbrev pub unsliced : Cut → ℕ → ℕ
+unsliced k n = n / k.width * block k + n % k.width
+
+-- its slices have so many first places of that cell's
+pub record IsPartAlikeAt (p : Plan) (o : Outline) (given own : Evaluated) (b r c k : ℕ) : Type 0 where
   pub cell : c < length p.cells
   pub buffer : b < length o.buffers
   pub rank : r < o.ranks
-  pub places : take k (get_or given c []) ≡ take k (held_places own (held_cell (drawing_of o).held b r))
+  pub cut : cut_at given.cuts c ≡ held_cut own.cuts (cut_at given.cuts c) (held_cell (drawing_of o).held b r)
+  pub shared : ℕ
+  pub within : shared ≤ length (get_or given.places c [])
+  pub due : shared ≤ length (held_places own.places (held_cell (drawing_of o).held b r))
+  pub places : take shared (get_or given.places c []) ≡ take shared (held_places own.places (held_cell (drawing_of o).held b r))
+  pub bytes : k ≡ unsliced (cut_at given.cuts c) shared
 
-abbrev pub IsPartAlike : Plan → Outline → List (List ℕ) → List (List ℕ) → Mark → ℕ → Type 0
+abbrev pub IsPartAlike : Plan → Outline → Evaluated → Evaluated → Mark → ℕ → Type 0
 IsPartAlike p o given own (Result b r c) k = 0 < k → IsPartAlikeAt p o given own b r c k
 IsPartAlike p o given own (Enter s r c) k = Unit {0}
 IsPartAlike p o given own (Leave s r c) k = Unit {0}
 
 -- the first result that isn't alike, and how many of its bytes are
-pub record IsFirstUnlike (p : Plan) (o : Outline) (given own : List (List ℕ)) (ms : List Mark) (u : Unlike) : Type 0 where
+pub record IsFirstUnlike (p : Plan) (o : Outline) (given own : Evaluated) (ms : List Mark) (u : Unlike) : Type 0 where
   pub mark : u.mark < length ms
   pub result : IsResult (mark_at ms u.mark)
   pub before : AreAlikeTo p o given own ms u.mark

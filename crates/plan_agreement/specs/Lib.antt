@@ -1,2 +1,4 @@
 pub mod Agreement
+pub mod Evaluated
 pub mod Witness
+pub mod Bare

@@ -7,19 +7,20 @@ ghost use Rattle.schedule_compiler.specs.shapes.Footprint.{refusal};
 ghost use Rattle.plan_agreement.specs.Agreement.{Agrees, AreMeantTo, AreNumbersTried, IsMeantIfThere, IsOpenAt, IsPlanFor};
 ghost use Rattle.plan_agreement.specs.Witness.{number_units};
 
-use crate::comparing::{Unlike, first_result, first_unlike};
+use crate::comparing::{Unlike, due_of, first_result, first_unlike};
+use crate::cut_places::{are_inputs_alike, cut_places};
 use crate::exact::differs;
 use crate::numbers::by_numbers;
 use crate::sources::{NO_LIST, other_list};
-use crate::witness::witness;
+use crate::witness::{list_count, witness};
 use coll_shape::{Inputs, Shape};
 use given_lines::Mark;
 use plan_core::Plan;
-use plan_terms::cell_places;
+use plan_slices::{Cut, CutPlans, cut_plans};
 use plan_terms::terms::{TermFault, Terms};
 use ptl_types::NoMemory;
 use schedule_compiler::shapes::{CompileFault, DrawnShape, drawn_shape};
-use std::alloc::Global;
+use std::alloc::{AllocError, Global};
 
 /// Inputs of numbered bytes are tried, with each of the four bytes of the numbers.
 const UNITS: [u64; 4] = [1, 256, 65_536, 16_777_216];
@@ -108,6 +109,53 @@ fn opened(alloc: Global, ranks: u32, count: u32, longest: u64) -> Result<Terms, 
     Terms::open(alloc, ranks, cells as u32, longest as u32)
 }
 
+/// Cells of the shape's own plan that are to be cut as cells of a plan: those of the inputs, and of the results that are named.
+fn pairs(
+    alloc: Global,
+    plan: &Plan,
+    shape: &Shape,
+    drawn: &DrawnShape,
+    marks: &[Mark],
+) -> Result<Vec<(u32, u32)>, AllocError>
+    requires held { drawn.now.held ≡ (drawing_of shape.now).held }
+{
+    shape.recall_form();
+    let mut pairs = Vec::new(alloc);
+    for i in 0..list_count(shape) {
+        let cell = shape.ranks().saturating_add(i);
+        pairs.push((cell, cell))?;
+    }
+    for mark in marks {
+        if let Mark::Result { buffer, rank, cell } = *mark {
+            if let Some(due) = due_of(plan, shape, &drawn.held, buffer, rank, cell) {
+                pairs.push((due, cell))?;
+            }
+        }
+    }
+    Ok(pairs)
+}
+
+/// How the cells of the shape's own plan are cut, and those of a plan.
+fn joint_cuts(
+    alloc: Global,
+    plan: &Plan,
+    shape: &Shape,
+    drawn: &DrawnShape,
+    marks: &[Mark],
+) -> Result<(Vec<Cut>, Vec<Cut>), AllocError>
+    requires held { drawn.now.held ≡ (drawing_of shape.now).held }
+{
+    let pairs = pairs(alloc, plan, shape, drawn, marks)?;
+    cut_plans(
+        alloc,
+        CutPlans {
+            first: &drawn.plan,
+            second: plan,
+            pairs: pairs.as_slice(),
+        },
+    )
+}
+
 /// The first mark whose cell isn't computed as the shape's own plan computes it.
 fn unlike(
     alloc: Global,
@@ -127,9 +175,14 @@ fn unlike(
     shape.recall_form();
     let ranks = shape.ranks();
     let count = shape.input_count();
+    let lists = list_count(shape);
+    let (own_cuts, given_cuts) = joint_cuts(alloc, plan, shape, drawn, marks)?;
     let mut terms = opened(alloc, ranks, count, longest(shape))?;
-    let own = cell_places(&mut terms, alloc, &drawn.plan, count)?;
-    let given = cell_places(&mut terms, alloc, plan, count)?;
+    let own = cut_places(&mut terms, alloc, &drawn.plan, own_cuts, count)?;
+    let given = cut_places(&mut terms, alloc, plan, given_cuts, count)?;
+    if !are_inputs_alike(&given, &own, ranks, lists) {
+        return Err(TermFault::Unfit);
+    }
     terms.are_solved();
     Ok(first_unlike(plan, shape, &given, &own, &drawn.held, marks))
 }
@@ -196,7 +249,7 @@ fn against(
 /// again. Where it isn't, inputs are looked for that show that the result isn't what is meant; so are they for the first result where the
 /// shape's own plan is refused or there is too much to compare.
 ///
-/// It takes about twelve bytes of memory for each byte of both plans' cells, and more for what is combined.
+/// It takes about twelve bytes of memory for each byte of a slice of both plans' cells, and more for what is combined.
 ///
 /// # Errors
 ///

@@ -1,15 +1,16 @@
 //! Results compared by what their bytes are computed from.
 
-ghost use Rattle.std.specs.Prelude.{◌≡◌, ◌<◌, true, false, MatchOption, length, take};
+ghost use Rattle.std.specs.Prelude.{◌≡◌, ◌<◌, ◌≤◌, true, false, IfSome, MatchOption, length, take};
 ghost use Rattle.plan_core.specs.Draw.{held_cell};
 ghost use Rattle.schedule_compiler.specs.shapes.Drawing.{drawing_of};
 ghost use Rattle.plan_agreement.specs.Agreement.{AreAlikeTo, AreNoResultsTo, IsAlike, IsFirstResult, IsFirstUnlike};
-ghost use Rattle.plan_agreement.specs.Agreement.{IsPartAlike, IsResult, held_places};
+ghost use Rattle.plan_agreement.specs.Agreement.{IsPartAlike, IsResult, held_cut, held_places, unsliced};
 
+use crate::cut_places::CutPlaces;
 use coll_shape::Shape;
 use given_lines::Mark;
 use plan_core::{BufferCells, Plan};
-use plan_terms::CellPlaces;
+use plan_slices::Cut;
 use ptl_types::Rank;
 
 /// A result whose cell isn't computed as the cell is that holds its buffer.
@@ -35,7 +36,7 @@ pub(crate) fn due_cell(shape: &Shape, held: &BufferCells, buffer: u32, rank: Ran
 /// Its places; none, where no cell does.
 fn due_places<'a>(
     shape: &Shape,
-    own: &'a CellPlaces,
+    own: &'a CutPlaces,
     held: &BufferCells,
     buffer: u32,
     rank: Rank,
@@ -43,11 +44,31 @@ fn due_places<'a>(
     requires held { held.now ≡ (drawing_of shape.now).held }
     requires buffer { buffer < length shape.now.buffers }
     requires rank { rank < shape.now.ranks }
-    ensures { result.now ≡ held_places own.now (held_cell (drawing_of shape.now).held buffer rank) }
+    ensures { result.now ≡ held_places own.now.places (held_cell (drawing_of shape.now).held buffer rank) }
 {
     match due_cell(shape, held, buffer, rank) {
         Some(cell) => own.cell(cell),
         None => &[],
+    }
+}
+
+/// Whether a cell that is cut so is cut as the one that holds a buffer at a rank, if one does.
+fn is_cut_alike(
+    shape: &Shape,
+    own: &CutPlaces,
+    held: &BufferCells,
+    buffer: u32,
+    rank: Rank,
+    cut: Cut,
+) -> bool
+    requires held { held.now ≡ (drawing_of shape.now).held }
+    requires buffer { buffer < length shape.now.buffers }
+    requires rank { rank < shape.now.ranks }
+    ensures { result ≡ true → cut ≡ held_cut own.now.cuts cut (held_cell (drawing_of shape.now).held buffer rank) }
+{
+    match due_cell(shape, held, buffer, rank) {
+        Some(cell) => cut.is(own.cut(cell)),
+        None => true,
     }
 }
 
@@ -62,12 +83,30 @@ pub(crate) fn is_known(plan: &Plan, shape: &Shape, buffer: u32, rank: Rank, cell
         && (cell as usize) < plan.cells().len()
 }
 
+/// The cell of the shape's own plan that holds a buffer at a rank, if one does, and there are such a buffer, such a rank and such a cell.
+pub(crate) fn due_of(
+    plan: &Plan,
+    shape: &Shape,
+    held: &BufferCells,
+    buffer: u32,
+    rank: Rank,
+    cell: u32,
+) -> Option<u32>
+    requires held { held.now ≡ (drawing_of shape.now).held }
+{
+    if is_known(plan, shape, buffer, rank, cell) {
+        due_cell(shape, held, buffer, rank)
+    } else {
+        None
+    }
+}
+
 /// Whether the cell of a mark, where it is a result's, is computed as the cell that holds its buffer is.
 pub(crate) fn is_alike(
     plan: &Plan,
     shape: &Shape,
-    given: &CellPlaces,
-    own: &CellPlaces,
+    given: &CutPlaces,
+    own: &CutPlaces,
     held: &BufferCells,
     mark: Mark,
 ) -> bool
@@ -80,7 +119,8 @@ pub(crate) fn is_alike(
             if !is_known(plan, shape, buffer, rank, cell) {
                 return false;
             }
-            given.cell(cell) == due_places(shape, own, held, buffer, rank)
+            is_cut_alike(shape, own, held, buffer, rank, given.cut(cell))
+                && given.cell(cell) == due_places(shape, own, held, buffer, rank)
         }
         _ => true,
     }
@@ -88,7 +128,9 @@ pub(crate) fn is_alike(
 
 /// How many places two lists have before the first that isn't the same.
 fn same_places(a: &[u32], b: &[u32]) -> usize
-    ensures { take result a.now ≡ take result b.now }
+    ensures same { take result a.now ≡ take result b.now }
+    ensures first { result ≤ length a.now }
+    ensures second { result ≤ length b.now }
 {
     let both = a.len().min(b.len());
     for i in 0..both {
@@ -99,12 +141,24 @@ fn same_places(a: &[u32], b: &[u32]) -> usize
     both
 }
 
+/// What so many first bytes of each slice are of a cell's bytes, if that number fits.
+fn unsliced(cut: Cut, bytes: u64) -> Option<u64>
+    ensures { IfSome result (λ n. n ≡ unsliced cut bytes) }
+{
+    if cut.width == 0 {
+        return None;
+    }
+    let block = cut.block()?;
+    let whole = (bytes / cut.width).checked_mul(block)?;
+    whole.checked_add(bytes % cut.width)
+}
+
 /// How many of the first bytes of the cell of a mark, where it is a result's, are computed as those of the cell that holds its buffer.
 fn alike_bytes(
     plan: &Plan,
     shape: &Shape,
-    given: &CellPlaces,
-    own: &CellPlaces,
+    given: &CutPlaces,
+    own: &CutPlaces,
     held: &BufferCells,
     mark: Mark,
 ) -> u64
@@ -116,7 +170,12 @@ fn alike_bytes(
             if !is_known(plan, shape, buffer, rank, cell) {
                 return 0;
             }
-            same_places(given.cell(cell), due_places(shape, own, held, buffer, rank)) as u64
+            let cut = given.cut(cell);
+            if !is_cut_alike(shape, own, held, buffer, rank, cut) {
+                return 0;
+            }
+            let due = due_places(shape, own, held, buffer, rank);
+            unsliced(cut, same_places(given.cell(cell), due) as u64).unwrap_or(0)
         }
         _ => 0,
     }
@@ -126,8 +185,8 @@ fn alike_bytes(
 pub(crate) fn first_unlike(
     plan: &Plan,
     shape: &Shape,
-    given: &CellPlaces,
-    own: &CellPlaces,
+    given: &CutPlaces,
+    own: &CutPlaces,
     held: &BufferCells,
     marks: &[Mark],
 ) -> Option<Unlike>

@@ -1,7 +1,7 @@
 //! Whether the results of a plan are what its shape means, for all inputs.
 #![tactic(auto)]
 
-ghost use Rattle.std.specs.Prelude.{◌≡◌, None, map};
+ghost use Rattle.std.specs.Prelude.{◌≡◌, None, All, map};
 ghost use Rattle.number_lists.specs.Numbers.{from_to};
 ghost use Rattle.coll_shape.specs.Outline.{Outline, buffer_at, list_bytes};
 ghost use Rattle.coll_shape.specs.WellFormed.{IsWellFormed};
@@ -9,10 +9,14 @@ ghost use Rattle.plan_core.specs.Plan.{Plan};
 ghost use Rattle.plan_judge.specs.Causes.{judged};
 ghost use Rattle.schedule_compiler.specs.shapes.Drawing.{plan_of};
 ghost use Rattle.schedule_compiler.specs.shapes.Footprint.{refusal};
-ghost use Rattle.plan_agreement.specs.Agreement.{IsPlanFor};
+ghost use Rattle.given_lines.specs.declared.given.Mark.{Mark};
+ghost use Rattle.plan_agreement.specs.Agreement.{IsAlwaysMeant, IsMeantIfThere, IsPlanFor};
+ghost use Rattle.plan_agreement.specs.Bare.{IsBare, IsNamed};
+ghost use Rattle.plan_agreement.specs.Witness.{number_units};
 
 mod agreement;
 mod comparing;
+mod cut_places;
 mod exact;
 mod numbers;
 mod sources;
@@ -29,4 +33,10 @@ pub fn own_plans_fit()
 pub fn judged_plans_fit()
     ensures { (p : Plan) (o : Outline) → p.ranks ≡ o.ranks →
         judged p (map (λ b. list_bytes (buffer_at o b)) (from_to 0 o.inputs)) ≡ None → IsPlanFor p o }
+{}
+
+/// Where nothing is combined, neither in a plan nor in the shape's own, a result that is meant for the inputs of numbered bytes always is.
+pub fn numbers_tell()
+    ensures { (p : Plan) (o : Outline) (m : Mark) → IsWellFormed o → IsBare p → IsBare (plan_of o) → IsNamed p o m →
+        All (IsMeantIfThere p o m) number_units → IsAlwaysMeant p o m }
 {}

@@ -1,6 +1,5 @@
 -- The plan is evaluated, and its result is compared.
-use Rattle.std.proofs.Common.{◌≡◌, ◌<◌, ◌∙◌, map, length, sym, subst, arith}
-use Rattle.plan_core.specs.Plan.{all_cells}
+use Rattle.std.proofs.Common.{◌<◌, ◌∙◌, length, sym, subst, arith}
 use Rattle.plan_core.specs.Values.{value}
 use Rattle.plan_tables.proofs.Passes.{length-table}
 use Rattle.plan_agreement.specs.Agreement.{HasCell, IsMeant}

@@ -1,0 +1,5 @@
+pub mod Slices
+pub mod Elements
+pub mod Together
+pub mod Landing
+pub mod Values
