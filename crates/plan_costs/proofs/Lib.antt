@@ -11,3 +11,4 @@ pub mod RankTimes
 pub mod Going
 pub mod Spending
 pub mod Walking
+pub mod Once

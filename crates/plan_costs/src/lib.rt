@@ -3,6 +3,7 @@
 
 mod costs;
 mod events;
+mod laws;
 mod numbers;
 mod pass;
 mod path;
@@ -13,6 +14,7 @@ mod times;
 mod traffic;
 
 pub use costs::{CostFault, sound_plans_are_timed, times_of};
+pub use laws::times_are_one;
 pub use numbers::LogGp;
 pub use path::{CriticalPath, critical_path};
 pub use ranks::rank_times;

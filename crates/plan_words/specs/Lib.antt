@@ -2,4 +2,5 @@ pub mod Limits
 pub mod Words
 pub mod Graph
 pub mod Takes
+pub mod Installing
 pub mod Costs

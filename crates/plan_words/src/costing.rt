@@ -1,10 +1,11 @@
 //! The lines of what a plan takes in time.
 
-ghost use Rattle.std.specs.Prelude.{◌≡◌, ◌<◌, ◌^◌, [], length};
-ghost use Rattle.plan_core.specs.Plan.{link};
+ghost use Rattle.std.specs.Prelude.{◌≡◌, ◌<◌, ◌≤◌, ◌^◌, [], length};
+ghost use Rattle.plan_core.specs.Plan.{Plan, link};
+ghost use Rattle.plan_costs.specs.declared.numbers.LogGp.{LogGp};
 ghost use Rattle.plan_costs.specs.Path.{IsCosted};
 ghost use Rattle.run_text.specs.Putting.{EndsWith, Puts};
-ghost use Rattle.plan_words.specs.Costs.{IsCostOf, begin_line, begin_of, cell_time_line, cell_time_lines, cost_text, costs_of};
+ghost use Rattle.plan_words.specs.Costs.{CostOf, IsCostOf, begin_line, begin_of, cell_time_line, cell_time_lines, cost_text, costs_of};
 ghost use Rattle.plan_words.specs.Costs.{hop_line, path_lines, rank_time_line, rank_time_lines, sum_line, total_line};
 
 use plan_core::Plan;
@@ -258,3 +259,9 @@ pub fn write_costs<K: Sink>(out: &mut Pieces, sink: &mut K, costs: &PlanCosts) -
     put_costs(out, sink, costs)?;
     out.end(sink)
 }
+
+/// With an overhead of at least 1 a plan takes one time by some numbers: there is one answer to what each cell, each rank and the critical
+/// path take, and so one text.
+pub fn costs_are_one()
+    ensures { (n : LogGp) (p : Plan) (a b : CostOf) → 1 ≤ n.overhead → IsCostOf n p a → IsCostOf n p b → b ≡ a }
+{}

@@ -8,9 +8,9 @@ mod limits;
 mod ops;
 mod takes;
 
-pub use costing::{PlanCosts, write_costs};
+pub use costing::{PlanCosts, costs_are_one, write_costs};
 pub use explaining::{write_explained, write_rank_explained};
 pub use graph::write_graph;
 pub use limits::write_limits;
 pub use ops::OpTables;
-pub use takes::{Takes, takes_of_ranks};
+pub use takes::{Takes, takes_are_installed, takes_of_ranks};

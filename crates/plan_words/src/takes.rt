@@ -1,7 +1,11 @@
 //! What a rank of a plan takes of an interface, and how many messages it exchanges with others.
 
-ghost use Rattle.std.specs.Prelude.{◌≡◌, ◌<◌, ◌≤◌, ◌^◌, IfOk, map, sum_by};
+ghost use Rattle.std.specs.Prelude.{◌≡◌, ◌<◌, ◌≤◌, ◌^◌, IfOk, length, map, sum_by};
 ghost use Rattle.number_lists.specs.Numbers.{from_to};
+ghost use Rattle.plan_core.specs.Plan.{Plan};
+ghost use Rattle.plan_core.specs.Sound.{AreInputsOf, SoundPlan};
+ghost use Rattle.plan_core.specs.Values.{Inputs};
+ghost use Rattle.plan_words.specs.Installing.{AreTaken};
 ghost use Rattle.plan_words.specs.Takes.{takes_of, to_other};
 
 use ptl_types::{Lane, NoMemory, Rank};
@@ -112,3 +116,9 @@ pub fn takes_of_ranks(alloc: Global, schedule: &Schedule) -> Result<Vec<Takes>, 
     }
     Ok(takes)
 }
+
+/// What is told of the ranks of a sound plan is so much as the calls make that are compiled for them, whatever the inputs; for just so
+/// much their interfaces are opened; and no run sends a rank more messages, or more bytes, than are told.
+pub fn takes_are_installed()
+    ensures { (p : Plan) (inputs : Inputs) → SoundPlan p (length inputs) → AreInputsOf p inputs → AreTaken p inputs (takes_of p) }
+{}
