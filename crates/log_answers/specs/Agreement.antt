@@ -2,7 +2,7 @@
 use Rattle.std.specs.Prelude.{ℕ, Bool, true, false, ◌==◌, ◌&&◌, ◌||◌, ◌-◌, ◌^◌, List, [], ◌∷◌, Option, Some, None, is_some, codes}
 use Rattle.std.specs.Prelude.{if◌then◌else◌}
 use Rattle.std.specs.Str.{bytes_eq}
-use Rattle.log_words.specs.Words.{Word, Rest, amount_within, is_name_word, key_of, value_of}
+use Rattle.log_words.specs.Words.{Word, Rest, amount_within, is_last, is_name_word, key_of, value_of}
 use Rattle.log_answers.specs.Known.{Known}
 use Rattle.log_answers.specs.Texts.{hex_word}
 use Rattle.log_answers.specs.Items.{field_in, fields_owed, word_owed}
@@ -80,10 +80,6 @@ compared k o place new [] past = if is_some (word_owed k o place) then Differs p
 compared k o place new (w ∷ ws) past =
     if is_wrong (judged k o place w) then Differs w.column
     else compared k o (place_after (judged k o place w) place) (given (judged k o place w) w new) ws past
-
-abbrev pub is_last : List Word → Bool
-is_last [] = true
-is_last (w ∷ ws) = false
 
 -- `?` alone tells nothing of an answer
 abbrev pub is_silent : List Word → Bool

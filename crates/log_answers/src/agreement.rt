@@ -2,7 +2,7 @@
 
 ghost use Rattle.std.specs.Prelude.{◌≡◌, ◌-◌, ◌^◌};
 ghost use Rattle.log_words.specs.Words.{amount_within};
-ghost use Rattle.log_answers.specs.Agreement.{agrees, found, given, is_last, is_number, is_said, is_silent, is_wrong, judged, next_place};
+ghost use Rattle.log_answers.specs.Agreement.{agrees, found, given, is_number, is_said, is_silent, is_wrong, judged, next_place};
 ghost use Rattle.log_answers.specs.Agreement.{place_after, plain};
 
 use crate::hexes::is_hex_of;
@@ -148,16 +148,6 @@ fn given<'a>(judged: Judgement, word: Word<'a>, before: Option<Word<'a>>) -> Opt
     }
 }
 
-/// Whether no word is left.
-fn is_last(mut words: Rest) -> bool
-    ensures { result ≡ is_last words.entry.words }
-{
-    match words.next() {
-        Some(_) => false,
-        None => true,
-    }
-}
-
 /// Whether a device told nothing of its answer: `?` alone.
 fn is_silent(mut said: Rest) -> bool
     ensures { result ≡ is_silent said.entry.words }
@@ -168,7 +158,7 @@ fn is_silent(mut said: Rest) -> bool
     if !is(word.text(), b"?") {
         return false;
     }
-    is_last(said)
+    said.is_over()
 }
 
 /// Compares an answer with what is owed.

@@ -1,7 +1,8 @@
 //! Lines.
 
-ghost use Rattle.std.specs.Prelude.{◌≡◌, ◌<◌, ◌≤◌, length, not, IfNone, IfSome};
-ghost use Rattle.std.specs.List.{position};
+ghost use Rattle.std.specs.Prelude.{◌≡◌, ◌<◌, ◌≤◌, ◌&&◌, ◌==◌, length, not, IfNone, IfSome};
+ghost use Rattle.std.specs.List.{list_all, list_any, position};
+ghost use Rattle.coll_text.specs.Text.{is_empty, words};
 ghost use Rattle.log_lines.specs.Lines.{alone, called, early_flaw, empty_flaw, is_allowed, is_note, line_of, loses, read_line, space_flaw};
 ghost use Rattle.log_lines.specs.Lines.{tells, words_read};
 
@@ -77,14 +78,41 @@ fn space_flaw(line: &[u8]) -> Option<LineFault>
     empty_flaw(Rest::of(line))
 }
 
+/// Whether a byte ends a word as it begins.
+fn ends_empty(begins: bool, b: u8) -> bool
+    ensures { result ≡ (begins && b == 32) }
+{
+    begins && b == b' '
+}
+
+/// Whether each byte may stand in a line, and no word is empty: what most lines are, by one look at each byte.
+fn is_plain(line: &[u8]) -> bool
+    ensures { result ≡ (list_all is_allowed line.now && not (list_any is_empty (words line.now))) }
+{
+    let mut begins = true;
+    for b in line {
+        if is_barred(*b) {
+            return false;
+        }
+        if ends_empty(begins, *b) {
+            return false;
+        }
+        begins = *b == b' ';
+    }
+    !begins
+}
+
 /// The first byte or space that may not stand there.
-#[tactic(auto, unfolding(crate::specs::Lines::early_flaw))]
+#[tactic(auto, unfolding(crate::specs::Lines::early_flaw), using(crate::proofs::Plain::no_flaw))]
 fn early_flaw(line: &[u8]) -> Option<LineFault>
     ensures value { result ≡ early_flaw line.now }
     ensures short { IfNone result (length line.now ≤ LONGEST_LINE) }
 {
     if line.len() > LONGEST_LINE {
         return Some(at(LONGEST_LINE + 1, Flaw::TooLong));
+    }
+    if is_plain(line) {
+        return None;
     }
     match first_barred(line) {
         Some(place) => Some(at(place + 1, Flaw::BadByte)),

@@ -1,7 +1,7 @@
 //! A verdict as text.
 
 ghost use Rattle.std.specs.Prelude.{◌≡◌, ◌++◌, ◌∷◌, [], IfOk, OnOk, drop};
-ghost use Rattle.log_top.specs.Telling.{flaw_name, flaw_of, served, spaced, status_of, verdict_text};
+ghost use Rattle.log_top.specs.Telling.{flaw_of, served, spaced, status_of, verdict_text};
 
 use itoa::Buffer;
 use log_verdict::{Taken, Verdict};
@@ -9,30 +9,6 @@ use log_words::Flaw;
 use ptl_types::NoMemory;
 use run_text::Status;
 use std::alloc::Global;
-
-/// The name of a flaw.
-fn flaw_name(flaw: Flaw) -> &'static [u8]
-    ensures { result.now ≡ flaw_name flaw }
-{
-    match flaw {
-        Flaw::TooLong => b"TooLong",
-        Flaw::BadByte => b"BadByte",
-        Flaw::BadSpace => b"BadSpace",
-        Flaw::BadHeader => b"BadHeader",
-        Flaw::BadLine => b"BadLine",
-        Flaw::BadCall => b"BadCall",
-        Flaw::BadWord => b"BadWord",
-        Flaw::WordTwice => b"WordTwice",
-        Flaw::BadNumber => b"BadNumber",
-        Flaw::BadHex => b"BadHex",
-        Flaw::NoAnswer => b"NoAnswer",
-        Flaw::NameTaken => b"NameTaken",
-        Flaw::NotOpen => b"NotOpen",
-        Flaw::UnknownMessage => b"UnknownMessage",
-        Flaw::Unended => b"Unended",
-        Flaw::AfterEnd => b"AfterEnd",
-    }
-}
 
 /// A number behind a space.
 fn push_number(out: &mut Vec<u8>, n: u64) -> Result<(), NoMemory>
@@ -85,7 +61,7 @@ pub(crate) fn verdict_text(alloc: Global, part: u8, verdict: &Verdict) -> Result
         }
         Verdict::Refused { line, column, flaw } => {
             push_place(&mut out, b"refused", *line, *column)?;
-            push_words(&mut out, b' ', flaw_name(*flaw), b"")?;
+            push_words(&mut out, b' ', flaw.name(), b"")?;
         }
     }
     out.push(b'\n')?;

@@ -2,7 +2,7 @@
 use Rattle.std.proofs.Common.{◌≡◌, ℕ, List, Bool, true, false, cond, codes, Option, Some, None, refl, sym, ap, ◌∙◌, subst}
 use Rattle.std.specs.Str.{bytes_eq}
 use Rattle.coll_text.specs.Text.{words}
-use Rattle.log_words.specs.Words.{Word, Rest}
+use Rattle.log_words.specs.Words.{Word, Rest, is_last}
 use Rattle.log_answers.specs.names.Flights.{age_of, flight_at}
 use Rattle.log_answers.specs.declared.names.flights.Flight.{Flight}
 use Rattle.log_words.specs.declared.call_fields.said.Opening.{Opening}
@@ -10,7 +10,6 @@ use Rattle.log_lines.specs.declared.calls.Call.{Call}
 use Rattle.log_lines.specs.declared.calls.Call.TheVariants as said
 use Rattle.log_lines.specs.declared.lines.Line.{Line}
 use Rattle.log_lines.specs.declared.lines.Line.TheVariants as lines
-use Rattle.log_answers.specs.Agreement.{is_last}
 use Rattle.log_answers.specs.declared.owed.Owed.TheVariants as owed
 use Rattle.log_seats.specs.Answers.{After}
 use Rattle.log_verdict.specs.Answering.{Came, answered, came, told_step}

@@ -5,7 +5,7 @@ use Rattle.std.specs.Str.{bytes_eq}
 use Rattle.ni_model.specs.State.{opened}
 use Rattle.portals_ni.specs.Fit.{FitLimits}
 use Rattle.guarded_ni.specs.declared.faults.Misuse.TheVariants.{Elsewhere, UnfitLimits, UnknownRank}
-use Rattle.log_words.specs.Words.{Word, Rest, begins}
+use Rattle.log_words.specs.Words.{Word, Rest, begins, is_last}
 use Rattle.log_words.specs.Reading.{flaw_at}
 use Rattle.log_words.specs.declared.faults.Flaw.{Flaw}
 use Rattle.log_words.specs.declared.faults.Flaw.TheVariants.{BadWord, NameTaken, NoAnswer, NotOpen, UnknownMessage}
@@ -15,7 +15,6 @@ use Rattle.log_lines.specs.declared.calls.Call.{Call}
 use Rattle.log_lines.specs.declared.calls.Call.TheVariants as calls
 use Rattle.log_lines.specs.declared.lines.Line.{Line}
 use Rattle.log_lines.specs.declared.lines.Line.TheVariants as lines
-use Rattle.log_answers.specs.Agreement.{is_last}
 use Rattle.log_answers.specs.declared.owed.Owed.TheVariants as owed
 use Rattle.log_answers.specs.names.Keys.{with_number}
 use Rattle.log_answers.specs.names.Flights.{age_of, flight_at, oldest, word_in}

@@ -1,7 +1,6 @@
 //! What comes of a line.
 
 ghost use Rattle.std.specs.Prelude.{◌≡◌, IfOk, is_some, option_copied};
-ghost use Rattle.log_answers.specs.Agreement.{is_last};
 ghost use Rattle.log_verdict.specs.Answering.{came};
 ghost use Rattle.log_verdict.specs.Scenes.{seat_at};
 ghost use Rattle.log_verdict.specs.Steps.{Asks, CallComes, CallsSeat, LineCame, Makes, MakesUnlessLacking, Opens, answer_flaw, call_flaw};
@@ -62,17 +61,6 @@ fn open(
     }
 }
 
-/// Whether no word is left.
-fn is_last(words: &Rest) -> bool
-    ensures { result ≡ is_last words.now.words }
-{
-    let mut left = words.again();
-    match left.next() {
-        Some(_) => false,
-        None => true,
-    }
-}
-
 /// Whether a device may lack memory for a call.
 fn may_lack(call: &Call) -> bool
     ensures { result ≡ may_lack call.now }
@@ -89,7 +77,7 @@ fn says_no_memory(said: &Rest) -> bool
 {
     let mut left = said.again();
     match left.next() {
-        Some(word) => is(word.text(), b"NoMemory") && is_last(&left),
+        Some(word) => is(word.text(), b"NoMemory") && left.is_over(),
         None => false,
     }
 }
@@ -127,7 +115,7 @@ fn answer_flaw(fills: bool, said: &Rest) -> Option<LineFault>
     ensures { result ≡ answer_flaw fills said.now }
 {
     let column = said.column();
-    let over = is_last(said);
+    let over = said.is_over();
     if fills {
         if over {
             None
@@ -324,7 +312,7 @@ fn tells_flight(
     let Some(flight) = flight else {
         return Ok(flawed(message.column(), Flaw::UnknownMessage));
     };
-    if is_last(said) {
+    if said.is_over() {
         return Ok(Step::Goes);
     }
     let owed = Owed::Told(*flight.message().header());

@@ -1,12 +1,12 @@
 -- The columns of the words of a line.
 use denote.Ref.{Bor}
-use Rattle.std.proofs.Common.{◌≡◌, ℕ, ◌+◌, ◌≤◌, List, [], ◌∷◌, length, Option, Some, None, Bool, true, false, cond, refl, sym, ap, subst}
+use Rattle.std.proofs.Common.{◌≡◌, ℕ, ◌+◌, ◌≤◌, List, [], ◌∷◌, length, Option, Some, None, Bool, true, false, cond, refl, ap, subst}
 use Rattle.std.proofs.Common.{◌∙◌, arith}
 use Rattle.std.specs.Prelude.{◌==◌, ◌^◌, IfSome}
 use Rattle.std.specs.Option.{option_copied}
-use Rattle.std.specs.List.{slice_split, onto_first}
+use Rattle.std.specs.List.{onto_first}
 use Rattle.coll_text.specs.Text.{words, words_left}
-use Rattle.log_words.specs.Words.{Rest, rest_from, placed, behind, begins, begins_at}
+use Rattle.log_words.specs.Words.{Rest, rest_from, placed, behind, begins, begins_at, is_last}
 
 -- a further word begins no sooner than those that are left
 pub behind_from : (k : ℕ) (ws : List (List ℕ)) → k ≤ behind k ws
@@ -54,6 +54,16 @@ room k left r text ws h e p =
 
 pub at_most : (k : ℕ) (ws : List (List ℕ)) → behind k ws ≤ 2 ^ 63 → length (placed k ws) ≤ 2 ^ 63
 at_most k ws h = omega (arith, few_words k ws)
+
+-- bytes have a word, so that none is left only where no bytes are
+pub some_word : (k : ℕ) (line : List ℕ) → is_last (placed k (words line)) ≡ false
+some_word k [] = refl
+some_word k (b ∷ bs) = by_byte (b == 32) (words bs)
+  where
+    by_byte : (is : Bool) (ws : List (List ℕ)) → is_last (placed k (cond is ([] ∷ ws) (onto_first b ws))) ≡ false
+    by_byte true ws = refl
+    by_byte false [] = refl
+    by_byte false (w ∷ ws) = refl
 
 -- the bytes that are left have the words that are left
 pub text_words : (k : ℕ) (left : Option (Bor (List ℕ))) (r : Rest) → rest_from k (words_left (option_copied left)) ≡ r

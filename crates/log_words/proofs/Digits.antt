@@ -1,6 +1,6 @@
 -- Hexadecimal digits, one more at a time.
-use Rattle.std.proofs.Common.{◌≡◌, ℕ, ◌+◌, ◌*◌, ◌≤◌, ◌<◌, zero, suc, List, [], ◌∷◌, length, get_or, drop, Option, Some, None, Bool, true}
-use Rattle.std.proofs.Common.{false, refl, sym, ap, ◌∙◌, arith, add-one, drop-cons}
+use Rattle.std.proofs.Common.{◌≡◌, ℕ, ◌+◌, ◌*◌, ◌≤◌, ◌<◌, suc, List, [], ◌∷◌, length, get_or, drop, Option, Some, None, Bool, true}
+use Rattle.std.proofs.Common.{false, refl, sym, ap, arith, add-one, drop-cons}
 use Rattle.std.specs.Prelude.{option_map, option_and_then, nat_le, if◌then◌else◌}
 use Rattle.std.proofs.lemmas.List.{drop_all}
 use Rattle.std.proofs.lemmas.Bool.Decides.{nat_tests}

@@ -1,7 +1,7 @@
 -- The words of a line with the columns where they begin, and what single words say.
-use Rattle.std.specs.Prelude.{ℕ, ◌+◌, ◌-◌, ◌*◌, ◌%◌, ◌^◌, List, [], ◌∷◌, length, drop, take, Option, Some, None, Bool, true, false, ◌&&◌}
+use Rattle.std.specs.Prelude.{ℕ, ◌+◌, ◌-◌, ◌*◌, ◌%◌, List, [], ◌∷◌, length, drop, take, Option, Some, None, Bool, true, false, ◌&&◌}
 use Rattle.std.specs.Prelude.{◌||◌, not}
-use Rattle.std.specs.Prelude.{◌==◌, nat_eq, nat_le, nat_lt, is_some, if◌then◌else◌, option_map, option_and_then, codes}
+use Rattle.std.specs.Prelude.{◌==◌, nat_eq, nat_le, is_some, if◌then◌else◌, option_and_then, codes}
 use Rattle.std.specs.List.{list_all, list_any, position, starts_with}
 use Rattle.std.specs.Str.{bytes_eq}
 use Rattle.coll_text.specs.Text.{is_digit, is_empty, number_of, words}
@@ -55,6 +55,11 @@ is_arrow w = bytes_eq w.text (codes "->")
 abbrev pub over : List Word → Bool
 over [] = true
 over (w ∷ ws) = is_arrow w
+
+-- no word is left
+abbrev pub is_last : List Word → Bool
+is_last [] = true
+is_last (w ∷ ws) = false
 
 -- ---- numbers
 

@@ -1,6 +1,7 @@
 //! Why a log is refused.
 
 ghost use Rattle.std.specs.Prelude.{◌≡◌};
+ghost use Rattle.log_words.specs.Flaws.{flaw_name};
 
 /// Why a log is refused, where its line isn't one or names what isn't there. On one line the first that holds in this order of reading
 /// is told: bytes, spaces, then word by word from the left.
@@ -42,7 +43,9 @@ pub enum Flaw {
 
 impl Flaw {
     /// The name that a refusal is printed with.
-    pub fn name(self) -> &'static [u8] {
+    pub fn name(self) -> &'static [u8]
+        ensures { result.now ≡ flaw_name self }
+    {
         match self {
             Flaw::TooLong => b"TooLong",
             Flaw::BadByte => b"BadByte",

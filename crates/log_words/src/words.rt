@@ -3,7 +3,7 @@
 ghost use Rattle.std.specs.Prelude.{◌≡◌, ◌∷◌, [], ◌^◌, ◌+◌, ◌<◌, ◌≤◌, length, drop, take, true, false, IfSome, IfNone};
 ghost use Rattle.std.specs.List.{list_any};
 ghost use Rattle.coll_text.specs.Text.{words};
-ghost use Rattle.log_words.specs.Words.{word, rest, all_words, begins, equals_in, is_arrow, key_of, over, placed, value_of};
+ghost use Rattle.log_words.specs.Words.{word, rest, all_words, begins, equals_in, is_arrow, is_last, key_of, over, placed, value_of};
 ghost use Rattle.log_words.specs.Reading.{said_next, same_key};
 
 use crate::faults::{Flaw, LineFault, at};
@@ -152,6 +152,16 @@ impl<'a> Rest<'a> {
         ensures none { IfNone result (self.now.words ≡ []) }
     {
         self.left
+    }
+
+    /// Whether none is left.
+    pub fn is_over(&self) -> bool
+        ensures { result ≡ is_last self.now.words }
+    {
+        match self.left {
+            Some(_) => false,
+            None => true,
+        }
     }
 
     /// Where the next begins, or would begin.
