@@ -83,7 +83,8 @@ fn write_end<W: fmt::Write>(
     }
     writeln!(
         out,
-        "<p id=\"end\">After the last step {cells} cells aren't final, {counters} done counters aren't at their thresholds, {messages} messages are left.</p>"
+        "<p id=\"end\">After the last step {cells} cells aren't final, {counters} done counters aren't at their thresholds, \
+         {messages} messages are left.</p>"
     )
 }
 

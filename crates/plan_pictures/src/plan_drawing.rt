@@ -72,10 +72,12 @@ fn fault_of<'a>(answer: Option<Answer<'a>>, item: Item) -> Option<&'a str> {
     }
 }
 
+/// The text of a word of ASCII; of another none.
 pub fn ascii(word: &[u8]) -> &str {
     str::from_utf8(word).unwrap_or("")
 }
 
+/// The word for a kind of link, as it stands in a plan's text.
 pub fn kind_word(kind: LinkKind) -> &'static str {
     match kind {
         LinkKind::Put => "put",

@@ -29,10 +29,18 @@ text { font: 9px sans-serif; fill: #222 }
 .band-3 { fill: #f7eef8 }
 </style>
 <defs>
-<marker id=\"put-head\" viewBox=\"0 0 8 8\" refX=\"8\" refY=\"4\" markerWidth=\"6\" markerHeight=\"6\" markerUnits=\"userSpaceOnUse\" orient=\"auto\"><path d=\"M0 0 L8 4 L0 8 z\" fill=\"#1d5fc2\"/></marker>
-<marker id=\"atomic-head\" viewBox=\"0 0 8 8\" refX=\"8\" refY=\"4\" markerWidth=\"8\" markerHeight=\"8\" markerUnits=\"userSpaceOnUse\" orient=\"auto\"><path d=\"M0 0 L8 4 L0 8 L3 4 z\" fill=\"#c2410c\"/></marker>
-<marker id=\"bump-head\" viewBox=\"0 0 8 8\" refX=\"8\" refY=\"4\" markerWidth=\"6\" markerHeight=\"6\" markerUnits=\"userSpaceOnUse\" orient=\"auto\"><path d=\"M0 1 L8 4 L0 7\" fill=\"none\" stroke=\"#777\"/></marker>
-<marker id=\"answer-head\" viewBox=\"0 0 8 8\" refX=\"8\" refY=\"4\" markerWidth=\"5\" markerHeight=\"5\" markerUnits=\"userSpaceOnUse\" orient=\"auto\"><path d=\"M0 0 L8 4 L0 8 z\" fill=\"#999\"/></marker>
+<marker id=\"put-head\" viewBox=\"0 0 8 8\" refX=\"8\" refY=\"4\" markerWidth=\"6\" markerHeight=\"6\" markerUnits=\"userSpaceOnUse\" \
+    orient=\"auto\">\
+    <path d=\"M0 0 L8 4 L0 8 z\" fill=\"#1d5fc2\"/></marker>
+<marker id=\"atomic-head\" viewBox=\"0 0 8 8\" refX=\"8\" refY=\"4\" markerWidth=\"8\" markerHeight=\"8\" markerUnits=\"userSpaceOnUse\" \
+    orient=\"auto\">\
+    <path d=\"M0 0 L8 4 L0 8 L3 4 z\" fill=\"#c2410c\"/></marker>
+<marker id=\"bump-head\" viewBox=\"0 0 8 8\" refX=\"8\" refY=\"4\" markerWidth=\"6\" markerHeight=\"6\" markerUnits=\"userSpaceOnUse\" \
+    orient=\"auto\">\
+    <path d=\"M0 1 L8 4 L0 7\" fill=\"none\" stroke=\"#777\"/></marker>
+<marker id=\"answer-head\" viewBox=\"0 0 8 8\" refX=\"8\" refY=\"4\" markerWidth=\"5\" markerHeight=\"5\" markerUnits=\"userSpaceOnUse\" \
+    orient=\"auto\">\
+    <path d=\"M0 0 L8 4 L0 8 z\" fill=\"#999\"/></marker>
 </defs>
 ";
 

@@ -1,7 +1,7 @@
 -- How the run of a rank ends.
-use Rattle.std.proofs.Common.{ℕ, false, ◌+◌, ◌≡◌, ◌<◌, ◌≤◌, ◌++◌, List, [], ◌∷◌, Option, None, refl}
+use Rattle.std.proofs.Common.{ℕ, ◌+◌, ◌≡◌, ◌<◌, ◌≤◌, ◌++◌, List, [], ◌∷◌, refl}
 use Rattle.std.proofs.Common.{sym, ap, ap₂, ◌∙◌, subst, arith, length}
-use Rattle.std.proofs.Common.{get_or, count_by, map, sum, zero, suc, inl, inr, Result, Ok, Err}
+use Rattle.std.proofs.Common.{get_or, count_by, map, sum, suc, inl, inr, Ok}
 use Rattle.std.proofs.lemmas.Bool.{cases_lt}
 use Rattle.std.proofs.lemmas.List.{get_or_past}
 use Rattle.std.proofs.lemmas.List.Sums.{get_or-le-sum_by, sum_by-cons}
@@ -13,20 +13,17 @@ use Rattle.ni_model.specs.Ready.{is_ready}
 use Rattle.ni_model.specs.State.{State}
 use Rattle.plan_core.specs.Plan.{Plan}
 use Rattle.port_io.specs.Ends.{GivesFront, Inflow, Outflow}
-use Rattle.port_io.specs.declared.ends.Failed.{Failed}
 use Rattle.run_text.specs.Orders.{order_line}
-use Rattle.run_text.specs.Putting.{Ends, EndsWith, FailsWithin, Takes}
+use Rattle.run_text.specs.Putting.{Ends, FailsWithin, Takes}
 use Rattle.run_text.proofs.Taking.{EndsWith-then, Fails-then, Takes-more}
-use Rattle.cuts.specs.ended.Ended.{HasEnded}
-use Rattle.cuts.specs.histories.Cut.{owned}
-use Rattle.cuts.specs.histories.History.{Local, and_then, got, is_start}
+use Rattle.cuts.specs.histories.History.{Local, and_then, is_start}
 use Rattle.cuts.specs.histories.History.Local.{Start, Receive, Fire}
 use Rattle.cuts.specs.orders.Taking.{listed}
 use Rattle.rank_node.specs.Copies.{listed as noted}
 use Rattle.rank_node.specs.Handles.{slots_of}
 use Rattle.rank_node.specs.Node.{IsNode}
 use Rattle.rank_frames.specs.Due.{Dues, due_on, messages_due}
-use Rattle.rank_frames.specs.Frames.{IsPart, RunsDry, frames_for, frames_of, mark}
+use Rattle.rank_frames.specs.Frames.{IsPart, RunsDry, frames_of, mark}
 use Rattle.rank_frames.specs.Going.{GoesBy, HasGone, HasStarted, IsIdle, IsOver, StopsBy}
 use Rattle.rank_frames.specs.Place.{PlaceState}
 use Rattle.rank_frames.specs.declared.fault.FrameFault.{FrameFault}
@@ -36,7 +33,7 @@ use Rattle.rank_process.specs.lines.Lines.{PrintsOf, own_lines, placed_lines}
 use Rattle.rank_process.specs.lines.Rank.{Work, made_by_rank, state_after}
 use Rattle.rank_process.specs.Opening.{IsOpened}
 use Rattle.rank_process.specs.Owed.{Closes, owed}
-use Rattle.rank_process.specs.Runs.{EndsRank, HasEndedAlone, IsIdleAlone, RefusesFrame, RunsAs, StarvesRank, Told, end_text, frames_made}
+use Rattle.rank_process.specs.Runs.{HasEndedAlone, IsIdleAlone, RefusesFrame, RunsAs, StarvesRank, Told, end_text, frames_made}
 use Rattle.rank_process.specs.Status.{status_of}
 use Rattle.rank_process.specs.declared.opening.Opened.{Opened}
 use Rattle.rank_process.specs.declared.status.Status.{Status}

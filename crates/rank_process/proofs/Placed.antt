@@ -1,14 +1,12 @@
 -- The place of a rank in which nothing was done.
-use Rattle.std.proofs.Common.{ℕ, ◌+◌, ◌≡◌, ◌<◌, ◌≤◌, ◌*◌, ◌^◌, cond, List, [], refl, ap, ◌∙◌, sym, subst, arith, length, sum_by, count_by}
+use Rattle.std.proofs.Common.{ℕ, ◌≡◌, ◌≤◌, List, [], refl, ap, ◌∙◌, sym, arith, length, count_by}
 use Rattle.ptl_types.specs.declared.headers.Lane.TheVariants.{Request, Answer}
 use Rattle.ni_model.specs.State.{State}
-use Rattle.plan_core.specs.Plan.{Plan, link}
+use Rattle.plan_core.specs.Plan.{Plan}
 use Rattle.plan_core.specs.Sound.{SoundPlan}
 use Rattle.plan_core.specs.Values.{Inputs}
 use Rattle.plan_core.proofs.Drawing.{length-row}
-use Rattle.plan_core.specs.calls.Areas.{links_to}
 use Rattle.plan_core.specs.calls.Lanes.{lane_messages}
-use Rattle.plan_core.specs.calls.RankOps.{sends_of}
 use Rattle.cuts.specs.histories.History.{Local}
 use Rattle.cuts.specs.histories.Lanes.{is_receipt}
 use Rattle.cuts.specs.histories.Plans.{system_of}
@@ -19,7 +17,7 @@ use Rattle.rank_node.specs.Handles.{Agrees, slots_of}
 use Rattle.rank_node.specs.Node.{IsNode, NodeState}
 use Rattle.rank_node.specs.Plans.{IsCompiledFor}
 use Rattle.rank_node.proofs.Nodes.{agrees}
-use Rattle.rank_frames.specs.Due.{Dues, messages_due}
+use Rattle.rank_frames.specs.Due.{Dues}
 use Rattle.rank_frames.specs.Place.{IsPlace, PlaceState}
 use Rattle.rank_process.specs.Opening.{IsDueTo, IsPlaceOf}
 use Rattle.rank_process.proofs.Sums.{few-due}

@@ -1,22 +1,19 @@
 -- What a place has gone through is a history of its rank.
-use Rattle.std.proofs.Common.{ℕ, false, ◌+◌, ◌≡◌, ◌<◌, ◌≤◌, ◌++◌, List, [], refl, sym, ap, ap₂, ◌∙◌, subst, arith, length, get_or}
+use Rattle.std.proofs.Common.{ℕ, false, ◌+◌, ◌≡◌, ◌<◌, ◌≤◌, ◌++◌, List, sym, ap, ap₂, ◌∙◌, subst, arith, length}
 use Rattle.std.proofs.lemmas.List.{get_or_past, nil_from_length}
 use Rattle.ptl_types.specs.declared.headers.Lane.{Lane}
 use Rattle.ptl_types.specs.declared.headers.Lane.TheVariants.{Request, Answer}
 use Rattle.ptl_types.specs.Messages.{Sent}
-use Rattle.ni_model.specs.State.{State}
 use Rattle.plan_core.specs.Plan.{Plan}
 use Rattle.plan_core.specs.Values.{Inputs}
 use Rattle.plan_core.proofs.Drawing.{length-row}
 use Rattle.plan_core.specs.calls.Lanes.{lane_messages}
-use Rattle.cuts.specs.histories.Cut.{owned}
-use Rattle.cuts.specs.histories.History.{Beginning, Legal, Local, got, made, state}
+use Rattle.cuts.specs.histories.History.{Legal, Local, got, made, state}
 use Rattle.cuts.specs.histories.Plans.{start_of as begins}
 use Rattle.cuts.specs.view.Calls.{prepare}
 use Rattle.cuts.specs.view.Slots.{Slots}
-use Rattle.rank_node.specs.Copies.{bytes_received}
 use Rattle.rank_node.specs.Handles.{Agrees, slots_of}
-use Rattle.rank_node.specs.Node.{IsNode, Task, start_of}
+use Rattle.rank_node.specs.Node.{IsNode, start_of}
 use Rattle.rank_node.specs.Plans.{IsCompiledFor}
 use Rattle.rank_node.proofs.Nodes.{agrees}
 use Rattle.rank_node.proofs.Plans.{begin-is, run-legal}

@@ -8,7 +8,7 @@ use Rattle.std.proofs.lemmas.List.Sums.{count_by-le-length, length-filter, sum_b
 use Rattle.ptl_types.specs.declared.headers.Lane.{Lane}
 use Rattle.ptl_types.specs.declared.headers.Lane.TheVariants.{Request, Answer}
 use Rattle.number_lists.specs.Numbers.{from_to}
-use Rattle.plan_core.specs.Plan.{Plan, all_links, out_links}
+use Rattle.plan_core.specs.Plan.{Plan, all_links}
 use Rattle.plan_core.proofs.Drawing.{row-more}
 use Rattle.plan_core.specs.calls.Areas.{comes_to, links_to}
 use Rattle.plan_core.specs.calls.Lanes.{goes_along, lane_links, lane_messages}

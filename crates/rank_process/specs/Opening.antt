@@ -10,7 +10,6 @@ use Rattle.plan_core.specs.calls.Lanes.{lane_messages}
 use Rattle.cuts.specs.view.Calls.{prepare}
 use Rattle.cuts.specs.view.Slots.{Slots}
 use Rattle.rank_node.specs.Handles.{Agrees}
-use Rattle.rank_node.specs.Node.{IsNode}
 use Rattle.rank_node.specs.Plans.{IsCompiledFor}
 use Rattle.rank_frames.specs.Due.{Dues}
 use Rattle.rank_frames.specs.Place.{PlaceState}

@@ -1,5 +1,5 @@
 -- Why a text isn't run, and what a rank does that can't begin.
-use Rattle.std.specs.Prelude.{ℕ, ◌≡◌, ◌≤◌, ◌<◌, List, [], ◌++◌, Option, Some, None, Result, Ok, Err, option_map}
+use Rattle.std.specs.Prelude.{ℕ, ◌≡◌, ◌≤◌, ◌<◌, List, ◌++◌, Option, Some, None, Result, Ok, Err, option_map}
 use Rattle.coll_lang.specs.Language.{read}
 use Rattle.coll_lang.specs.Program.{Chosen, Program}
 use Rattle.coll_lang.specs.declared.fault.Refusal.{Refusal}

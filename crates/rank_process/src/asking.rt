@@ -4,7 +4,7 @@ ghost use Rattle.std.specs.Prelude.{ℕ, List, ◌≡◌, ◌<◌, ◌^◌, Ok, 
 ghost use Rattle.coll_lang.specs.Language.{read};
 ghost use Rattle.coll_lang.specs.declared.fault.Refusal.{Refusal};
 ghost use Rattle.coll_shape.specs.Meaning.{AreInputs};
-ghost use Rattle.given_verdicts.specs.Answers.{IsFlawless, judged_text};
+ghost use Rattle.given_verdicts.specs.Answers.{IsFlawless};
 ghost use Rattle.given_verdicts.specs.declared.answer.Judged.TheVariants.{Flawless};
 ghost use Rattle.schedule_compiler.specs.Answers.{Compiles};
 ghost use Rattle.schedule_compiler.specs.Jobs.{job_of};

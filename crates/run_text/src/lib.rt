@@ -19,7 +19,9 @@ mod words;
 pub use lines::{rest_line, result_line, value_line};
 pub use orders::{fails_line, order_line};
 pub use pieces::{PIECE, Pieces, write_short};
-pub use plans::{PlanLine, PlanTables, plan_line, put_done, put_drawn, write_plan};
+pub use plans::{
+    PlanLine, PlanTables, kind_word, op_or_none, plan_line, put_done, put_drawn, write_plan,
+};
 pub use reading::{ReadError, read_text};
 pub use refused::{refusal_line, refuse, step_line};
 pub use results::{ResultLists, put_result, write_result};

@@ -57,8 +57,8 @@ pub enum PlanLine {
     EndLine,
 }
 
-/// The word of a cell's operation, `-` where there is none.
-fn op_or_none(op: Option<AtomicOp>) -> &'static [u8]
+/// The word of a cell's operation, as a plan's text has it; `-` where there is none.
+pub fn op_or_none(op: Option<AtomicOp>) -> &'static [u8]
     ensures { result.now ≡ op_or_none op }
 {
     match op {
@@ -67,7 +67,8 @@ fn op_or_none(op: Option<AtomicOp>) -> &'static [u8]
     }
 }
 
-fn kind_word(kind: LinkKind) -> &'static [u8]
+/// The word of a kind of link, as a plan's text has it.
+pub fn kind_word(kind: LinkKind) -> &'static [u8]
     ensures { result.now ≡ kind_word kind }
 {
     match kind {

@@ -1,6 +1,6 @@
 -- What the options of entries and descriptors hide: nothing where none is set, and the kinds of all events that one state tells, by each
 -- option.
-use Rattle.std.specs.Prelude.{ℕ, Bool, true, false, ◌≡◌, ◌&&◌, ◌||◌, not, if◌then◌else◌, Option, List, [], ◌∷◌, Some, None, refl}
+use Rattle.std.specs.Prelude.{Bool, true, false, ◌≡◌, ◌&&◌, ◌||◌, not, if◌then◌else◌, Option, List, [], ◌∷◌, Some, None, refl}
 use Rattle.std.proofs.Common.{ap}
 use Rattle.ptl_types.specs.declared.handles.Handle.{Handle}
 use Rattle.ptl_types.specs.declared.headers.AckRequest.TheVariants.{Ack}

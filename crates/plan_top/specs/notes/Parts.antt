@@ -1,15 +1,13 @@
 -- Messages in parts: words, and what a cell, a link or a line of a plan has.
-use Rattle.std.specs.Prelude.{ℕ, ◌+◌, ◌-◌, ◌^◌, ◌==◌, min, List, [], ◌∷◌, Option, Some, None, length, slice_get, codes, if◌then◌else◌}
+use Rattle.std.specs.Prelude.{ℕ, ◌+◌, ◌-◌, ◌^◌, ◌==◌, min, List, [], ◌∷◌, Option, Some, None, length, slice_get, if◌then◌else◌}
 use Rattle.std.specs.List.{fold}
 use Rattle.std.specs.Fmt.{decimal}
-use Rattle.ptl_types.specs.declared.elements.AtomicOp.{AtomicOp}
 use Rattle.ptl_types.specs.Operations.{bytes_of}
-use Rattle.coll_lang.specs.Words.{op_word, type_word}
+use Rattle.coll_lang.specs.Words.{type_word}
 use Rattle.coll_shape.specs.Outline.{Outline, buffer_at, list_bytes}
-use Rattle.plan_core.specs.declared.LinkKind.{LinkKind}
-use Rattle.plan_core.specs.declared.LinkKind.TheVariants.{Put, Atomic, Bump}
 use Rattle.plan_core.specs.Plan.{Plan, cell, in_links, link}
 use Rattle.plan_core.specs.Sound.{put_bytes}
+use Rattle.run_text.specs.Plans.{kind_word, op_or_none}
 use Rattle.text_notes.specs.notes.Shown.{then_shown}
 use Rattle.plan_top.specs.declared.notes.parts.OfCell.{OfCell}
 use Rattle.plan_top.specs.declared.notes.parts.OfCell.TheVariants as of_cell
@@ -21,16 +19,6 @@ use Rattle.plan_top.specs.declared.notes.parts.Part.{Part}
 use Rattle.plan_top.specs.declared.notes.parts.Part.TheVariants as parts
 use Rattle.plan_top.specs.declared.notes.parts.Filling.{Filling}
 use Rattle.plan_top.specs.declared.notes.parts.Subject.{Subject}
-
--- `-` is no operation
-abbrev pub op_or_none : Option AtomicOp → List ℕ
-op_or_none None = codes "-"
-op_or_none (Some op) = op_word op
-
-abbrev pub kind_word : LinkKind → List ℕ
-kind_word Put = codes "put"
-kind_word Atomic = codes "atomic"
-kind_word Bump = codes "bump"
 
 -- of cell c; puts that have 2^64 bytes or more count as the number below
 abbrev pub cell_bytes : Plan → ℕ → OfCell → List ℕ

@@ -4,14 +4,15 @@ ghost use Rattle.std.specs.Prelude.{◌≡◌};
 ghost use Rattle.plan_core.specs.Plan.{cell, link};
 ghost use Rattle.coll_shape.specs.Outline.{buffer_at, list_bytes};
 ghost use Rattle.text_notes.specs.notes.Shown.{then_shown};
-ghost use Rattle.plan_top.specs.notes.Parts.{cell_bytes, filled_by, kind_word, link_bytes, list_part, op_or_none, part_bytes, shown};
+ghost use Rattle.plan_top.specs.notes.Parts.{cell_bytes, filled_by, link_bytes, list_part, part_bytes, shown};
 
 use crate::notes::counts::{bytes_to, links_to};
 use crate::notes::table::Message;
-use coll_lang::{op_word, type_word};
+use coll_lang::type_word;
 use coll_shape::Shape;
 use plan_core::{Cell, Link, LinkKind, Plan};
-use ptl_types::{AtomicOp, ElemType};
+use ptl_types::ElemType;
+use run_text::{kind_word, op_or_none};
 use text_notes::notes::Printable;
 
 /// What a cell has.
@@ -133,27 +134,6 @@ pub(crate) fn link_at(plan: &Plan, l: u64) -> Link
             target_offset: 0,
             kind: LinkKind::Bump,
         },
-    }
-}
-
-/// A cell's operation, as a plan's text has it.
-fn op_or_none(op: Option<AtomicOp>) -> &'static [u8]
-    ensures { result.now ≡ op_or_none op }
-{
-    match op {
-        None => b"-",
-        Some(op) => op_word(op),
-    }
-}
-
-/// The word of a kind of link.
-fn kind_word(kind: LinkKind) -> &'static [u8]
-    ensures { result.now ≡ kind_word kind }
-{
-    match kind {
-        LinkKind::Put => b"put",
-        LinkKind::Atomic => b"atomic",
-        LinkKind::Bump => b"bump",
     }
 }
 

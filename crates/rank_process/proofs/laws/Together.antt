@@ -1,9 +1,8 @@
 -- Ranks that have ended each by itself make a cut at rest, and their lines are the result.
-use Rattle.std.proofs.Common.{ℕ, zero, suc, ◌+◌, ◌<◌, ◌≤◌, ◌≡◌, ◌++◌, List, ◌∷◌, refl, sym, ap, ap₂, ◌∙◌, subst, arith, length, get_or}
+use Rattle.std.proofs.Common.{ℕ, zero, suc, ◌+◌, ◌<◌, ◌≡◌, ◌++◌, List, refl, sym, ap, ap₂, subst, arith, length, get_or}
 use Rattle.std.proofs.Common.{take}
 use Rattle.std.specs.List.{flat_map}
 use Rattle.number_lists.specs.Numbers.{from_to}
-use Rattle.ptl_types.specs.declared.headers.Lane.{Lane}
 use Rattle.ptl_types.specs.Messages.{Sent}
 use Rattle.coll_lang.specs.Program.{Program}
 use Rattle.coll_lang.specs.Readable.{IsReadable, ReadsExactly}

@@ -1,5 +1,5 @@
 -- Ranks that have ended each by itself, what was carried between them, and their lines.
-use Rattle.std.specs.Prelude.{ℕ, ◌<◌, ◌≡◌, List}
+use Rattle.std.specs.Prelude.{ℕ, ◌<◌, List}
 use Rattle.std.specs.List.{flat_map}
 use Rattle.number_lists.specs.Numbers.{from_to}
 use Rattle.ptl_types.specs.declared.headers.Lane.{Lane}

@@ -4,7 +4,6 @@ use Rattle.coll_lang.specs.Language.{read}
 use Rattle.coll_lang.specs.Program.{Program}
 use Rattle.coll_shape.specs.Meaning.{Lists}
 use Rattle.coll_shape.specs.Outline.{Outline}
-use Rattle.coll_shape.specs.WellFormed.{IsWellFormed}
 use Rattle.schedule_compiler.proofs.shapes.Final.{fine-shape}
 use Rattle.schedule_compiler.specs.Jobs.{JobOf, job_of}
 use Rattle.schedule_compiler.specs.shapes.Footprint.{refusal}

@@ -1,5 +1,5 @@
 -- The node has room for what is due.
-use Rattle.std.proofs.Common.{◌≤◌, subst, sym}
+use Rattle.std.proofs.Common.{subst, sym}
 use Rattle.rank_frames.specs.Place.{PlaceState}
 use Rattle.schedule_compiler.specs.Schedules.{ScheduleOf}
 use Rattle.rank_process.specs.Opening.{IsDueTo, IsPlaceOf}
