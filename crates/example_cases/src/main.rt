@@ -1,6 +1,7 @@
 //! The examples, run: what each description of data/ gives under `once` is what the file beside it says, the plan that is drawn of it
-//! holds for its inputs, and what each in JSON stands for is the description of the same name. What is told of the plan of forms/ is
-//! what the files beside it say, and plans take the time of closed forms. The logs of logs/ are judged.
+//! holds for its inputs, and what each in JSON stands for is the description of the same name. What is told of the plan of forms/, and
+//! written of runs of the one of told/, is what the files beside them say, and plans take the time of closed forms. The logs of logs/ are
+//! judged.
 #![tactic(auto)]
 
 mod comparing;
@@ -14,7 +15,7 @@ mod told;
 use comparing::{Found, lines_of_json, once_gives};
 use drawn::print_drawn;
 use folder::names;
-use forms::print_forms;
+use forms::{print_forms, print_runs};
 use logs::judge_logs;
 use std::{fs, io};
 use times::print_times;
@@ -66,6 +67,7 @@ fn main(rt: HostRuntime) -> io::Result<()> {
         }
     }
     print_forms(&rt, &rt, "forms/broadcast")?;
+    print_runs(&rt, &rt, "forms/broadcast_and_barrier", "told/sum")?;
     print_told(&rt, &rt, "told/sum.given", "told/rows")?;
     print_times(&rt, &rt)?;
     judge_logs(&rt, "logs")?;

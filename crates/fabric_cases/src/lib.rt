@@ -1,5 +1,5 @@
 //! Wires and turns between threads, messages as bytes and shared calls, each alone; and fabrics of worked texts: scripts whose calls are
-//! made by one caller, and workers on threads, with gates that watch them; and a rank as a process.
+//! made by one caller, and workers on threads, with gates that watch them.
 #![tactic(auto)]
 
 #[cfg(test)]
@@ -12,8 +12,6 @@ mod gates;
 mod hands;
 #[cfg(test)]
 mod jobs;
-#[cfg(test)]
-mod ranks;
 #[cfg(test)]
 mod scripts;
 #[cfg(test)]

@@ -1,5 +1,5 @@
-//! The logs of devices, held against values from outside: lines with what they say, answers with what was owed, names, and small logs with
-//! their verdicts.
+//! The logs of devices, held against values from outside: lines with what they say, answers with what was owed, names, small logs with
+//! their verdicts, and the whole program.
 #![tactic(auto)]
 
 #[cfg(test)]
@@ -8,5 +8,7 @@ mod answers;
 mod lines;
 #[cfg(test)]
 mod names;
+#[cfg(test)]
+mod programs;
 #[cfg(test)]
 mod verdicts;

@@ -25,6 +25,82 @@ const BARRIER: &str = "coll 1\nranks 2\nbarrier\nend\n";
 /// The mark of the start, and of the end.
 const MARK: &[u8] = &[255, 255, 255, 255, 0, 0, 0, 0];
 
+/// A rank's number, the parts of a text and the bytes behind them; then how the rank ends, what it writes, and what it says.
+type Row = (
+    u32,
+    &'static [&'static str],
+    &'static [u8],
+    u8,
+    &'static [u8],
+    &'static str,
+);
+
+const ROWS: &[Row] = &[
+    // A rank of one starts and ends.
+    (
+        0,
+        &[ONE_RANK],
+        MARK,
+        0,
+        b"\xff\xff\xff\xff\0\0\0\0a 0 7 9\norder 0 s f0 f1 f2\n",
+        "",
+    ),
+    // It runs the plan that is given.
+    (
+        0,
+        &[ONE_RANK, PLAN],
+        MARK,
+        0,
+        b"\xff\xff\xff\xff\0\0\0\0a 0 7 9\norder 0 s f0 f1 f2 f3 f4\n",
+        "",
+    ),
+    // A plan with a flaw doesn't run.
+    (
+        0,
+        &[ONE_RANK, FLAWED],
+        MARK,
+        8,
+        b"\xff\xff\xff\xff\0\0\0\0fails 9 Needs\n",
+        "fails 9 Needs\n",
+    ),
+    // A text is refused.
+    (
+        0,
+        &[REFUSED],
+        MARK,
+        3,
+        b"\xff\xff\xff\xff\0\0\0\0refused 5 BadLine\n",
+        "refused 5 BadLine\n",
+    ),
+    // A rank too many writes nothing.
+    (
+        2,
+        &[BARRIER],
+        MARK,
+        2,
+        b"",
+        "the description has no such rank\n",
+    ),
+    // A frame of no rank is refused.
+    (
+        0,
+        &[BARRIER],
+        b"\x07\0\0\0\x01\0\0\0\0",
+        7,
+        b"",
+        "a frame is refused: of no rank\n",
+    ),
+    // A source that ends early.
+    (
+        0,
+        &[BARRIER],
+        b"\xff\xff",
+        4,
+        b"",
+        "standard input failed, or ended before the rank did\n",
+    ),
+];
+
 /// A rank's number and a text of these parts, with these bytes behind them.
 fn told(alloc: Global, rank: u32, texts: &[&str], behind: &[u8]) -> Result<Bytes, Fail> {
     let mut text = Vec::new(alloc);
@@ -40,78 +116,25 @@ fn told(alloc: Global, rank: u32, texts: &[&str], behind: &[u8]) -> Result<Bytes
     Ok(Bytes::from_vec(bytes))
 }
 
-/// Stops the test where a rank that is told this ends otherwise, or writes or says anything else.
-fn ends_with(
-    rt: &impl Abort,
-    alloc: Global,
-    told: Bytes,
-    status: u8,
-    written: &[u8],
-    note: &str,
-) -> Result<(), Fail> {
-    let mut source = SureSource::new(told);
+/// Stops the test where a rank that is told what a row says ends otherwise, or writes or says anything else.
+fn ends_as_due(rt: &impl Abort, alloc: Global, place: usize, row: &Row) -> Result<(), Fail> {
+    let (rank, texts, behind, status, written, note) = *row;
+    let mut source = SureSource::new(told(alloc, rank, texts, behind)?);
     let mut sink = SureSink::with_room(alloc, 4096)?;
     let mut notes = SureSink::with_room(alloc, 4096)?;
     let ended = rank_main(alloc, &[], &mut source, &mut sink, &mut notes);
-    assert_eq!(rt; ended.number(), status);
-    assert_eq!(rt; sink.as_slice(), written);
-    assert_eq!(rt; notes.as_slice(), note.as_bytes());
+    assert_eq!(rt; ended.number(), status, "row {place}");
+    assert_eq!(rt; sink.as_slice(), written, "row {place}");
+    assert_eq!(rt; notes.as_slice(), note.as_bytes(), "row {place}");
     Ok(())
 }
 
 #[test]
-fn a_rank_of_one_starts_and_ends(rt: HostRuntime) -> Result<(), Fail> {
-    let told = told(rt.alloc(), 0, &[ONE_RANK], MARK)?;
-    let mut written = MARK.to_vec(rt.alloc())?;
-    written.extend_from_slice(b"a 0 7 9\norder 0 s f0 f1 f2\n")?;
-    ends_with(&rt, rt.alloc(), told, 0, written.as_slice(), "")
-}
-
-#[test]
-fn a_given_plan_runs(rt: HostRuntime) -> Result<(), Fail> {
-    let told = told(rt.alloc(), 0, &[ONE_RANK, PLAN], MARK)?;
-    let mut written = MARK.to_vec(rt.alloc())?;
-    written.extend_from_slice(b"a 0 7 9\norder 0 s f0 f1 f2 f3 f4\n")?;
-    ends_with(&rt, rt.alloc(), told, 0, written.as_slice(), "")
-}
-
-#[test]
-fn a_plan_with_a_flaw_runs_not(rt: HostRuntime) -> Result<(), Fail> {
-    let told = told(rt.alloc(), 0, &[ONE_RANK, FLAWED], MARK)?;
-    let mut written = MARK.to_vec(rt.alloc())?;
-    written.extend_from_slice(b"fails 9 Needs\n")?;
-    let note = "fails 9 Needs\n";
-    ends_with(&rt, rt.alloc(), told, 8, written.as_slice(), note)
-}
-
-#[test]
-fn a_text_is_refused(rt: HostRuntime) -> Result<(), Fail> {
-    let told = told(rt.alloc(), 0, &[REFUSED], MARK)?;
-    let mut written = MARK.to_vec(rt.alloc())?;
-    written.extend_from_slice(b"refused 5 BadLine\n")?;
-    let note = "refused 5 BadLine\n";
-    ends_with(&rt, rt.alloc(), told, 3, written.as_slice(), note)
-}
-
-#[test]
-fn a_rank_too_many_writes_nothing(rt: HostRuntime) -> Result<(), Fail> {
-    let told = told(rt.alloc(), 2, &[BARRIER], MARK)?;
-    let note = "the description has no such rank\n";
-    ends_with(&rt, rt.alloc(), told, 2, &[], note)
-}
-
-#[test]
-fn a_frame_of_no_rank_is_refused(rt: HostRuntime) -> Result<(), Fail> {
-    let told = told(rt.alloc(), 0, &[BARRIER], &[7, 0, 0, 0, 1, 0, 0, 0, 0])?;
-    let note = "a frame is refused: of no rank\n";
-    ends_with(&rt, rt.alloc(), told, 7, &[], note)
-}
-
-#[test]
-fn a_source_that_ends_early_is_told(rt: HostRuntime) -> Result<(), Fail> {
-    let told = told(rt.alloc(), 0, &[BARRIER], &[255, 255])?;
-    let note = "standard input failed, or ended before the rank did\n";
-    ends_with(&rt, rt.alloc(), told, 4, &[], note)
+fn ends_of_ranks(rt: HostRuntime) -> Result<(), Fail> {
+    for (place, row) in ROWS.iter().enumerate() {
+        ends_as_due(&rt, rt.alloc(), place, row)?;
+    }
+    Ok(())
 }
 
 /// The first read takes the first number, and the second fails; the whole text is there.
