@@ -23,7 +23,7 @@ use Rattle.ptl_types.specs.declared.entries.List.{List as EntryList}
 use Rattle.ptl_types.specs.declared.calls.Appended.{Appended}
 use Rattle.ptl_types.specs.Elements.{part}
 use Rattle.ptl_types.specs.Messages.{Sent}
-use Rattle.ni_model.specs.Calls.{Makes, MayLackMemory, ct_alloc, ends, entry_slot, eq_alloc, md_bind, me_append, start, triggered}
+use Rattle.ni_model.specs.Calls.{Makes, MayLackMemory, ct_alloc, ends, entry_taken, eq_alloc, md_bind, me_append, start, triggered}
 use Rattle.ni_model.specs.Calls.{write_memory}
 use Rattle.ni_model.specs.Ready.{fired, fires, is_ready, ready_numbers}
 use Rattle.ni_model.specs.State.{State, opened, target}
@@ -91,7 +91,8 @@ abbrev pub Binds : Descriptor → State → State → Result Handle NiFault → 
 Binds md s t r = Makes (λ slot. has_slot slot s.mds.live) (λ slot. md_bind slot md s) (ends t r)
 
 abbrev pub Appends : ℕ → EntryList → Entry → State → State → Result Appended NiFault → Type 0
-Appends pt list entry s t r = Makes (entry_slot s.indices) (λ slot. me_append slot pt list entry s) (ends t r)
+Appends pt list entry s t r =
+    Makes (entry_taken s.indices t.headers.unexpected) (λ slot. me_append slot pt list entry s) (ends t r)
 
 -- ---- starts and triggered operations
 

@@ -164,3 +164,41 @@ fn answers_that_are_filled_in(rt: HostRuntime) {
         }
     }
 }
+
+/// An overflow entry of rank 1 is unlinked by its first message. Two more are linked, the second under the same name, while the message's
+/// header waits.
+const WAITING: [&[u8]; 14] = [
+    b"ni 1",
+    b"ranks 2",
+    b"0 open mds=1 msg=16 region=01020304 -> ok",
+    b"1 open entries=2 unexpected=1 pts=1 msg=16 region=00000000 -> ok",
+    b"1 pt_alloc 0 -> ok",
+    b"1 me_append 0 overflow length=4 once put -> linked m0",
+    b"0 md_bind length=4 -> d0",
+    b"0 put d0 length=2 target=1 -> w0",
+    b"1 deliver w0 -> overflow",
+    b"1 me_unlink m0 -> Stale",
+    b"1 me_append 0 priority bits=7 put -> linked m1",
+    b"1 me_append 0 priority bits=8 put -> linked m0",
+    b"1 header 0 0 -> found delivered=2 entry=m0",
+    b"1 me_unlink m0 -> ok",
+];
+
+#[test]
+fn an_entry_has_its_name_while_a_header_waits_in_it(rt: HostRuntime) {
+    let ends: [(&[u8], bool); 3] = [
+        (b"1 header 0 0 -> found entry=m0", true),
+        (b"1 me_search 0 delete put -> found entry=m0", true),
+        (b"1 header 0 0 -> found entry=m1", false),
+    ];
+    for (line, conforms) in ends {
+        let mut judge = Judge::new(rt.alloc(), false);
+        for before in WAITING {
+            assert!(rt; matches!(judge.take(before), Ok(Taken::Goes)));
+        }
+        match judge.take(line).expect(&rt, "memory") {
+            Taken::Goes => assert!(rt; conforms),
+            _ => assert!(rt; !conforms),
+        }
+    }
+}

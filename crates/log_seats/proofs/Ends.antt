@@ -1,6 +1,6 @@
 -- What is owed after a call, from what the call did.
 use Rattle.std.proofs.Common.{◌≡◌, ◌==◌, ℕ, List, length, None, Some, Option, refl, sym, ap, ◌∙◌, subst}
-use Rattle.std.specs.Prelude.{Bool, Result, Ok, Err, codes}
+use Rattle.std.specs.Prelude.{Bool, false, Result, Ok, Err, codes}
 use Rattle.ptl_types.specs.declared.calls.Delivered.{Delivered}
 use Rattle.ptl_types.specs.declared.handles.Handle.{Handle}
 use Rattle.ptl_types.specs.declared.calls.NiFault.{NiFault}
@@ -14,7 +14,7 @@ use Rattle.ni_model.specs.Ready.{Fires, fired, fires, is_ready}
 use Rattle.ni_model.specs.State.{Delivers, State, target}
 use Rattle.portals_ni.specs.Answers.{MakesIfMemory, as_started}
 use Rattle.guarded_ni.specs.declared.faults.CallFault.{CallFault}
-use Rattle.guarded_ni.specs.declared.faults.CallFault.TheVariants.{Misused, Refused}
+use Rattle.guarded_ni.specs.declared.faults.CallFault.TheVariants.{Refused}
 use Rattle.guarded_ni.specs.declared.faults.Misuse.{Misuse}
 use Rattle.guarded_ni.specs.Guarded.{Guards, Tests}
 use Rattle.guarded_ni.specs.Guarded.Tests.{Answered, Misused_by}
@@ -23,8 +23,7 @@ use Rattle.guarded_ni.specs.Misuses.{start_misuse, unless}
 use Rattle.guarded_ni.specs.declared.faults.Misuse.TheVariants.{Elsewhere, NotReady}
 use Rattle.log_answers.specs.declared.owed.Owed.{Owed}
 use Rattle.log_answers.specs.declared.owed.Sort.{Sort}
-use Rattle.log_answers.specs.declared.owed.Owed.TheVariants as owed
-use Rattle.log_seats.specs.Answers.{After, Ends, EndsSome, IsRefused, IsStarted, after, fault_word, left, message_owed, misuse_word, says}
+use Rattle.log_seats.specs.Answers.{After, Ends, IsRefused, IsStarted, after, fault_word, left, message_owed, misuse_word, says}
 use Rattle.log_seats.specs.Answers.{arrived, arrives, delivers_as, fires_as, fires_at, frees, gone, ok, outside, posts, sent_by}
 use Rattle.log_seats.specs.Answers.{starts, tells, told, unless_misused, with_posted, writes}
 use Rattle.log_seats.specs.Seats.{with_nic}
@@ -42,16 +41,6 @@ module _ {A : Type 0} (f : A → Owed) (t : State) (r : Result A NiFault) (s : S
   pub tells_of : {H : Type 0} (call : H → Done (Result A NiFault)) (h k : H) → h ≡ k → ends t r ≡ call h
       → a ≡ record { owed = told f r; sent = None } → Ends (with_nic t s) a (tells f (call k) s)
   tells_of call h k is does e = tells_as (call k) (does ∙ ap call is) e
-
-  -- of a call that makes a thing
-  pub makes_as : (taken : ℕ → Bool) (call : ℕ → Done (Result A NiFault)) → Makes taken call (ends t r)
-      → a ≡ record { owed = told f r; sent = None } → EndsSome (with_nic t s) a (λ slot. tells f (call slot) s)
-  makes_as taken call m e = (m.slot, tells_as (call m.slot) m.ended e)
-
-  pub makes_of : {H : Type 0} (taken : ℕ → Bool) (call : H → ℕ → Done (Result A NiFault)) (h k : H) → h ≡ k
-      → Makes taken (call h) (ends t r)
-      → a ≡ record { owed = told f r; sent = None } → EndsSome (with_nic t s) a (λ slot. tells f (call k slot) s)
-  makes_of taken call h k is m e = (m.slot, tells_as (call k m.slot) (m.ended ∙ ap (λ h. call h m.slot) is) e)
 
 -- a call that had memory
 had : {A : Type 0} (call end : Done (Result A NiFault)) (old q : State) (x : Result A NiFault) → MayLackMemory call old end → end ≡ ends q x
@@ -94,24 +83,30 @@ module _ {A : Type 0} (o : Option Misuse) (s : Seat) (t : State) (F : Done (Resu
   -- a call that makes a thing
   pub guarded_ok : (taken : ℕ → Bool) (call : ℕ → Done (Result A NiFault)) (x : A)
       → Guards o s.nic t (λ r. MakesIfMemory taken call s.nic (ends t r)) (Ok x)
-      → (slot : ℕ) × (F (ends t (Ok x)) ≡ unless_misused o s (F (call slot)))
-  guarded_ok taken call x (Done_as _ none made) = (
-    made.slot,
-    known o (call made.slot) s t (Ok x) F (F (ends t (Ok x))) none
-        (had (call made.slot) (ends t (Ok x)) s.nic t (Ok x) made.ended refl (λ e. cc)) refl,
-  )
+      → Makes taken (λ slot. unless_misused o s (F (call slot))) (F (ends t (Ok x)))
+  guarded_ok taken call x (Done_as _ none made) = record {
+    slot = made.slot;
+    free = made.free;
+    ended =
+        known o (call made.slot) s t (Ok x) F (F (ends t (Ok x))) none
+        (had (call made.slot) (ends t (Ok x)) s.nic t (Ok x) made.ended refl (λ e. cc)) refl;
+  }
 
   pub guarded_err : (taken : ℕ → Bool) (call : ℕ → Done (Result A NiFault)) (fault : CallFault) (w : Owed)
       → Guards o s.nic t (λ r. MakesIfMemory taken call s.nic (ends t r)) (Err fault) → IsRefused fault w → Tells
-      → (slot : ℕ) × (refusal w ≡ unless_misused o s (F (call slot)))
-  guarded_err taken call fault w (Refuses f none made) is tells =
-      let n = refused_as f w is in (
-        made.slot,
-        known o (call made.slot) s t (Err f) F (refusal w) none
+      → (some : ℕ) → taken some ≡ false → Makes taken (λ slot. unless_misused o s (F (call slot))) (refusal w)
+  guarded_err taken call fault w (Refuses f none made) is tells some free =
+      let n = refused_as f w is in
+      record {
+        slot = made.slot;
+        free = made.free;
+        ended =
+            known o (call made.slot) s t (Err f) F (refusal w) none
             (had (call made.slot) (ends t (Err f)) s.nic t (Err f) made.ended refl (is_no_lack f (Err f) n.0 refl))
-            (rw n.1 (sym (tells f))),
-      )
-  guarded_err taken call fault w (Misuses m some stays) is tells = (0, misused o m s (refusal w) (F (call 0)) some (rw (stays, is) refl))
+            (rw n.1 (sym (tells f)));
+      }
+  guarded_err taken call fault w (Misuses m broken stays) is tells some free =
+      record { slot = some; free = free; ended = misused o m s (refusal w) (F (call some)) broken (rw (stays, is) refl) }
 
   -- a call that may lack memory
   pub may_ok : (call : Done (Result A NiFault)) (x : A) → Guards o s.nic t (λ r. MayLackMemory call s.nic (ends t r)) (Ok x)

@@ -18,9 +18,10 @@ use Rattle.ptl_types.specs.declared.calls.TriggeredOp.TheVariants.{Put, Get, Ato
 use Rattle.ptl_types.specs.Messages.{Sent}
 use Rattle.ni_model.specs.Answers.{is_awaited}
 use Rattle.ni_model.specs.Calls as calls
-use Rattle.ni_model.specs.Calls.{Done}
+use Rattle.ni_model.specs.Calls.{Done, Makes, entry_taken}
 use Rattle.ni_model.specs.Ready.{Fires, fired, is_ready, ready_numbers, ready_numbers_to, target_at}
 use Rattle.ni_model.specs.State.{State, Delivers, target}
+use Rattle.ni_model.specs.Tables.{has_slot}
 use Rattle.match_lists.specs.unexpected.Places.{header_at}
 use Rattle.guarded_ni.specs.declared.faults.CallFault.{CallFault}
 use Rattle.guarded_ni.specs.declared.faults.CallFault.TheVariants.{Misused, Refused}
@@ -240,7 +241,7 @@ arrives m s = delivers_as (target s.nic m) s
 abbrev pub arrived : Sent → Seat → After
 arrived m s = unless_misused (unless (m.header.target == s.nic.rank) misuses.Elsewhere) s (arrives m s)
 
--- ---- a call of an open interface, but for `open` and `deliver`: what may stand after it. A new thing gets some slot.
+-- ---- a call of an open interface, but for `open` and `deliver`: what may stand after it. A new thing gets some slot that is free.
 
 abbrev pub number : ℕ → Owed
 number n = owed.Amount n
@@ -255,22 +256,26 @@ new sort h = owed.New sort h
 unfoldable pub TableAnswers : Call → Seat → After → Type 0
 TableAnswers (said.PtAlloc pt eq) s x = x ≡ tells ok (calls.pt_alloc pt (handle_if Queue s eq) s.nic) s
 TableAnswers (said.PtFree pt) s x = x ≡ tells ok (calls.pt_free pt s.nic) s
-TableAnswers said.CtAlloc s x = (slot : ℕ) × (x ≡ tells (new Counter) (calls.ct_alloc slot s.nic) s)
+TableAnswers said.CtAlloc s x = Makes (λ slot. has_slot slot s.nic.cts.live) (λ slot. tells (new Counter) (calls.ct_alloc slot s.nic) s) x
 TableAnswers (said.CtFree ct) s x = x ≡ frees Counter (handle_of Counter s ct) (calls.ct_free (handle_of Counter s ct) s.nic) s
 TableAnswers (said.CtSet ct to) s x = x ≡ tells ok (calls.ct_set (handle_of Counter s ct) to s.nic) s
 TableAnswers (said.CtInc ct by) s x = x ≡ tells ok (calls.ct_inc (handle_of Counter s ct) by s.nic) s
 TableAnswers (said.CtCancel ct) s x = x ≡ cancels (handle_of Counter s ct) s
 TableAnswers (said.EqAlloc room) s x =
-    (slot : ℕ) × (x ≡ unless_misused (unless (nat_lt 0 room) misuses.NoRoom) s (tells (new Queue) (calls.eq_alloc slot room s.nic) s))
+    Makes (λ slot. has_slot slot s.nic.eqs.live)
+    (λ slot. unless_misused (unless (nat_lt 0 room) misuses.NoRoom) s (tells (new Queue) (calls.eq_alloc slot room s.nic) s)) x
 TableAnswers (said.EqFree eq) s x = x ≡ frees Queue (handle_of Queue s eq) (calls.eq_free (handle_of Queue s eq) s.nic) s
 TableAnswers (said.EqGet eq) s x = x ≡ tells got (calls.eq_get (handle_of Queue s eq) s.nic) s
-TableAnswers (said.MdBind md) s x = (slot : ℕ) × (x ≡ tells (new Md) (calls.md_bind slot (md_of s md) s.nic) s)
+TableAnswers (said.MdBind md) s x =
+    Makes (λ slot. has_slot slot s.nic.mds.live) (λ slot. tells (new Md) (calls.md_bind slot (md_of s md) s.nic) s) x
 TableAnswers (said.MdRelease md) s x = x ≡ frees Md (handle_of Md s md) (calls.md_release (handle_of Md s md) s.nic) s
 TableAnswers _ s x = x ≡ after s (says [])
 
 -- and of entries, operations and the region
 unfoldable pub EntryAnswers : Call → Seat → After → Type 0
-EntryAnswers (said.MeAppend pt list e) s x = (slot : ℕ) × (x ≡ tells appended (calls.me_append slot pt list (entry_of s e) s.nic) s)
+EntryAnswers (said.MeAppend pt list e) s x =
+    Makes (entry_taken s.nic.indices x.seat.nic.headers.unexpected)
+    (λ slot. tells appended (calls.me_append slot pt list (entry_of s e) s.nic) s) x
 EntryAnswers (said.MeUnlink me) s x = x ≡ frees Me (handle_of Me s me) (calls.me_unlink (handle_of Me s me) s.nic) s
 EntryAnswers (said.MeSearch pt delete e) s x = x ≡ tells found (calls.me_search pt (entry_of s e) delete s.nic) s
 EntryAnswers (said.Start d) s x = x ≡ starts (deed_of s d) s
@@ -319,6 +324,6 @@ left s a = record { seat = s; owed = a.owed; sent = a.sent }
 abbrev pub Ends : Seat → Told → After → Type 0
 Ends s a x = left s a ≡ x
 
--- for some slot of the new thing
-abbrev pub EndsSome : Seat → Told → (ℕ → After) → Type 0
-EndsSome s a x = (slot : ℕ) × Ends s a (x slot)
+-- for some slot of the new thing that isn't taken
+abbrev pub EndsSome : Seat → Told → (ℕ → Bool) → (ℕ → After) → Type 0
+EndsSome s a taken x = Makes taken x (left s a)

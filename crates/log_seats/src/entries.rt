@@ -59,7 +59,7 @@ fn searched(answer: Result<Option<UnexpectedHeader>, NiFault>) -> Owed
 
 /// Appends an entry.
 pub(crate) fn me_append(seat: &mut Seat, index: u32, list: List, said: &EntrySaid) -> After
-    ensures { EndsSome seat.new result
+    ensures { EndsSome seat.new result (calls.entry_taken seat.old.nic.indices seat.new.nic.headers.unexpected)
         (λ slot. tells appended (calls.me_append slot index list (entry_of seat.old said.now) seat.old.nic) seat.old) }
 {
     let entry = entry_of(seat, said);

@@ -2,6 +2,7 @@
 
 ghost use Rattle.std.specs.Prelude.{◌≡◌, IfOk, nat_lt};
 ghost use Rattle.ni_model.specs.Calls as calls;
+ghost use Rattle.ni_model.specs.Tables.{has_slot};
 ghost use Rattle.guarded_ni.specs.Misuses.{unless};
 ghost use Rattle.guarded_ni.specs.declared.faults.Misuse.TheVariants.{NoRoom};
 ghost use Rattle.log_seats.specs.Answers.{Ends, EndsSome, after, cancels, counts, frees, gone, got, md_of, new, number, ok, tells, told};
@@ -98,7 +99,8 @@ pub(crate) fn ct_inc(seat: &mut Seat, said: &Word, by: Count) -> After
 
 /// Allocates a counting event.
 pub(crate) fn ct_alloc(seat: &mut Seat) -> After
-    ensures { EndsSome seat.new result (λ slot. tells (new sorts.Counter) (calls.ct_alloc slot seat.old.nic) seat.old) }
+    ensures { EndsSome seat.new result (λ slot. has_slot slot seat.old.nic.cts.live)
+        (λ slot. tells (new sorts.Counter) (calls.ct_alloc slot seat.old.nic) seat.old) }
 {
     told(made(Sort::Counter, seat.nic.ct_alloc()))
 }
@@ -119,8 +121,9 @@ pub(crate) fn ct_cancel(alloc: Global, seat: &mut Seat, said: &Word) -> Result<A
 
 /// Allocates an event queue.
 pub(crate) fn eq_alloc(seat: &mut Seat, room: u32) -> Result<After, NoMemory>
-    ensures { IfOk result (λ a. EndsSome seat.new a (λ slot. unless_misused (unless (nat_lt 0 room) NoRoom) seat.old
-        (tells (new sorts.Queue) (calls.eq_alloc slot room seat.old.nic) seat.old))) }
+    ensures { IfOk result (λ a. EndsSome seat.new a (λ slot. has_slot slot seat.old.nic.eqs.live)
+        (λ slot. unless_misused (unless (nat_lt 0 room) NoRoom) seat.old (tells (new sorts.Queue)
+        (calls.eq_alloc slot room seat.old.nic) seat.old))) }
 {
     match guarded_ni::eq_alloc(&mut seat.nic, room) {
         Ok(eq) => Ok(told(Owed::New(Sort::Queue, eq))),
@@ -161,7 +164,7 @@ fn md_of(seat: &Seat, said: &MdSaid) -> Descriptor
 
 /// Binds a descriptor.
 pub(crate) fn md_bind(seat: &mut Seat, said: &MdSaid) -> After
-    ensures { EndsSome seat.new result
+    ensures { EndsSome seat.new result (λ slot. has_slot slot seat.old.nic.mds.live)
         (λ slot. tells (new sorts.Descriptor) (calls.md_bind slot (md_of seat.old said.now) seat.old.nic) seat.old) }
 {
     let md = md_of(seat, said);

@@ -207,7 +207,7 @@ loses_aged (Some age) w s = goes (without_flight age s)
 unfoldable pub loses : Word → Scene → Came
 loses w s = loses_aged (age_of w.text s.flights) w s
 
--- Where `fills` is set the answers of calls are written, and else they are judged. A new thing gets some slot, so several things may come.
+-- Where `fills` is set the answers of calls are written, and else they are judged. A new thing gets some free slot, so several may come.
 unfoldable pub LineCame : Bool → Line → Scene → Came → Type 0
 LineCame fills lines.Note s c = c ≡ goes s
 LineCame fills (lines.Tells w said) s c = c ≡ tells w said s

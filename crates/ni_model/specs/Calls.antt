@@ -16,6 +16,7 @@ use Rattle.ptl_types.specs.Elements.{written}
 use Rattle.ptl_types.specs.Messages.{Sent}
 use Rattle.ni_model.specs.declared.Linked.{Linked}
 use Rattle.ni_model.specs.declared.Bound.{Bound}
+use Rattle.ni_model.specs.declared.IndexedHeader.{IndexedHeader}
 use Rattle.ni_model.specs.Tables.{lookup, changed, with_new, without, handle}
 use Rattle.ni_model.specs.Counts.{successes, plus}
 use Rattle.ni_model.specs.Queues.{Waiting, queue, taken_from, after_take}
@@ -48,8 +49,8 @@ pub data MayLackMemory {A : Type 0} (call : Done (Result A NiFault)) (old : Stat
   enough : MayLackMemory call old call
   lacking : IsTrue (is_ok call.answer) → MayLackMemory call old (ends old (Err NoMemory))
 
--- a call that makes a thing gives it some slot that no live thing of its table has
-pub record Makes {A : Type 0} (taken : ℕ → Bool) (call : ℕ → Done A) (end : Done A) : Type 0 where
+-- what makes a thing gives it some slot that is not taken, as by a live thing of its table
+pub record Makes {A : Type 0} (taken : ℕ → Bool) (call : ℕ → A) (end : A) : Type 0 where
   pub slot : ℕ
   pub free : taken slot ≡ false
   pub ended : end ≡ call slot
@@ -194,6 +195,16 @@ abbrev pub entry_slot : List (Option Index) → ℕ → Bool
 entry_slot [] slot = false
 entry_slot (None ∷ is) slot = entry_slot is slot
 entry_slot (Some i ∷ is) slot = (slot_in slot i.priority || slot_in slot i.overflow) || entry_slot is slot
+
+-- a header lies in an entry of this slot
+abbrev pub header_slot : List IndexedHeader → ℕ → Bool
+header_slot [] slot = false
+header_slot (a ∷ hs) slot = (a.header.entry.slot == slot) || header_slot hs slot
+
+-- an entry of this slot is linked, or one of these headers lies in one. For an append these are the headers that it leaves: a slot is
+-- free once the last of an unlinked entry has gone.
+abbrev pub entry_taken : List (Option Index) → List IndexedHeader → ℕ → Bool
+entry_taken is left slot = entry_slot is slot || header_slot left slot
 
 -- ---- operations
 

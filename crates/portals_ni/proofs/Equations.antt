@@ -29,11 +29,12 @@ use Rattle.ni_model.specs.Refusals.{pt_alloc_fault, ct_set_fault, ct_inc_fault, 
 use Rattle.ni_model.specs.Refusals.{action_passes, triggered_fault, md_names_ct, md_names_eq, index_names_ct, index_names_eq}
 use Rattle.ni_model.specs.Refusals.{operation_names_ct}
 use Rattle.ni_model.specs.Calls.{ends, Makes, MayLackMemory, enough, lacking, AnswersReady, new_index, bound, ct_alloc, ct_free, eq_free}
-use Rattle.ni_model.specs.Calls.{ct_set, ct_inc, ct_cancel, eq_alloc, eq_get, md_bind, entry_slot, unlinked_in, me_append, me_unlink}
+use Rattle.ni_model.specs.Calls.{ct_set, ct_inc, ct_cancel, eq_alloc, eq_get, md_bind, entry_taken, unlinked_in, me_append, me_unlink}
 use Rattle.ni_model.specs.Calls.{me_search, pt_alloc, start, triggered}
 use Rattle.ni_objects.proofs.handles.StoreLemmas.{change-absent}
 use Rattle.initiator_engine.specs.Initiators.{Initiating, with_mds, is_start, has_started, has_returned}
 use Rattle.target_engine.specs.Sides.{has_searched, has_appended, AppendsSome}
+use Rattle.target_engine.proofs.Slots.{free_entry_slot}
 use Rattle.triggered_ops.specs.Operations.{Operations, action_of, operation_at, is_ready, told, with_posted, without_number, waiting_on}
 use Rattle.triggered_ops.specs.Operations.{cancelled, posted_all}
 use Rattle.std.specs.Prelude.{slice_set}
@@ -41,7 +42,7 @@ use Rattle.portals_ni.specs.declared.posted_op.PostedOp.{PostedOp}
 use Rattle.portals_ni.specs.Answers.{MakesIfMemory, event_taken, action_counts}
 use Rattle.portals_ni.specs.Pendings.{action_in, told_by}
 use Rattle.portals_ni.specs.Sound.{IsTold, Stands, state_of}
-use Rattle.portals_ni.proofs.Ends.{ends-done, ends-refused, free_slot, is-free, free_entry_slot, entry-is-free}
+use Rattle.portals_ni.proofs.Ends.{ends-done, ends-refused, free_slot, is-free}
 use Rattle.portals_ni.proofs.Firing.{posted-new, posted-cancelled, length-waiting, posted-without, ready-is, fired-is, done-start}
 use Rattle.portals_ni.proofs.Firing.{done-count}
 use Rattle.portals_ni.proofs.Stands.{fewer-stands, done-stands}
@@ -190,8 +191,8 @@ module _ (t : Side) (r : List ℕ) (c : Table Count) (e : Table Waiting) (i : In
   pub append-makes : (pt : ℕ) (list : EntryList) (en : Entry) (u : Side) (k : Table Count) (f : Table Waiting)
       (left : Operations PostedOp) (answer : Appended) (ct : Option Handle) → append_fault pt en (parts t r c e) ≡ None →
       AppendsSome pt list en (parts t r c e) (has_appended (parts u r k f) answer ct) → u.rank ≡ t.rank → u.limit ≡ t.limit →
-      left ≡ told_by ct k ops → Makes (entry_slot t.indices) (λ slot. me_append slot pt list en before)
-      (ends (state_of u r k f i left d v) (Ok answer))
+      left ≡ told_by ct k ops → Makes (entry_taken t.indices u.headers.unexpected)
+      (λ slot. me_append slot pt list en before) (ends (state_of u r k f i left d v) (Ok answer))
   append-makes pt list en u k f left answer ct none is rank limit told = record {
     slot = is.slot;
     free = is.free;
@@ -200,9 +201,11 @@ module _ (t : Side) (r : List ℕ) (c : Table Count) (e : Table Waiting) (i : In
 
   pub append-refused : (pt : ℕ) (list : EntryList) (en : Entry) (u : Side) (k : Table Count) (f : Table Waiting) (fault : NiFault) →
       append_fault pt en (parts t r c e) ≡ Some fault → (u ≡ t) × (k ≡ c) × (f ≡ e) →
-      Makes (entry_slot t.indices) (λ slot. me_append slot pt list en before) (ends (state_of u r k f i ops d v) (Err fault))
-  append-refused pt list en u k f fault is same = rw (same.0, same.1, same.2)
-      (record { slot = free_entry_slot t.indices; free = entry-is-free t.indices; ended = rw is refl })
+      Makes (entry_taken t.indices u.headers.unexpected) (λ slot. me_append slot pt list en before)
+      (ends (state_of u r k f i ops d v) (Err fault))
+  append-refused pt list en u k f fault is same =
+      let s = free_entry_slot t.indices t.headers.unexpected in
+      rw (same.0, same.1, same.2) (record { slot = s.0; free = s.1; ended = rw is refl })
 
   pub unlink-ends : (me : Handle) (u : Side) (res : Result (Unit {0}) NiFault) → IfErr res (λ fault. unlink_fault me t ≡ Some fault) →
       OnErr res (u ≡ t) → OnOk res (unlink_fault me t ≡ None) → OnOk res (u ≡ record t { indices = map (unlinked_in me) t.indices }) →

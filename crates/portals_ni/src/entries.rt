@@ -6,7 +6,7 @@ ghost use Rattle.target_engine.specs.Sides.{SlotBelow};
 ghost use Rattle.match_lists.specs.unexpected.Places.{header_at};
 ghost use Rattle.ni_model.specs.Answers.{is_awaited};
 ghost use Rattle.ni_model.specs.Tables.{has_slot};
-ghost use Rattle.ni_model.specs.Calls.{ends, Makes, entry_slot, pt_alloc, pt_free, me_append, me_unlink, me_search, md_bind, awaits};
+ghost use Rattle.ni_model.specs.Calls.{ends, Makes, entry_taken, pt_alloc, pt_free, me_append, me_unlink, me_search, md_bind, awaits};
 
 use crate::nic::Nic;
 use crate::posted_op::tell;
@@ -35,10 +35,11 @@ impl Nic {
     /// takes the oldest unexpected header that it matches and allows, and isn't linked then; a persistent one takes all of them
     /// and is linked. To the overflow list it is linked. `Stale` where the index isn't allocated or the entry's counting event
     /// isn't, `NoSpace` where as many entries as the limit are linked or all 2^64 - 1 stamps were given, `OutOfRegion` where its
-    /// part reaches past the region. An unlinked entry keeps its record while a header lies in its memory, so that slots are
-    /// below the limits of entries and of headers together.
+    /// part reaches past the region. An unlinked entry keeps its record, and so its slot, while a header lies in its memory: slots
+    /// are below the limits of entries and of headers together.
     pub fn me_append(&mut self, pt: u32, list: List, entry: Entry) -> Result<Appended, NiFault>
-        ensures makes { Makes (entry_slot self.old.indices) (λ slot. me_append slot pt list entry self.old) (ends self.new result) }
+        ensures makes { Makes (entry_taken self.old.indices self.new.headers.unexpected) (λ slot. me_append slot pt list entry self.old)
+            (ends self.new result) }
         ensures slot { IfOk result (SlotBelow (self.old.limits.entries + self.old.limits.unexpected)) }
     {
         let args = AppendArgs { pt, list, entry };

@@ -1,11 +1,12 @@
 -- Counting headers by a test.
 use Rattle.std.proofs.Common.{◌≡◌, ℕ, ◌+◌, ◌≤◌, Bool, true, false, not, List, [], ◌∷◌, ◌++◌, Some, length, if◌then◌else◌, nat_lt, refl, ap}
-use Rattle.std.proofs.Common.{◌∙◌, arith}
+use Rattle.std.proofs.Common.{◌∙◌, nat_eq, arith}
 use Rattle.ptl_types.specs.declared.handles.Handle.{Handle}
 use Rattle.ptl_types.specs.declared.entries.Entry.{Entry}
 use Rattle.ptl_types.specs.Handles.{same_handle}
 use Rattle.ni_model.specs.declared.IndexedHeader.{IndexedHeader}
 use Rattle.ni_model.specs.Headers.{names_entry, finds, oldest, without_oldest, found_in, left_in, is_of, headers_of}
+use Rattle.ni_model.specs.Calls.{header_slot}
 use Rattle.target_engine.specs.PortalTable.{headers_by, lies_in}
 use Rattle.target_engine.proofs.Counting.{or-one}
 
@@ -13,9 +14,17 @@ use Rattle.target_engine.proofs.Counting.{or-one}
 abbrev pub is_entry : Handle → Handle → Bool
 is_entry me h = same_handle h me
 
+-- an entry of this slot
+abbrev pub is_at_slot : ℕ → Handle → Bool
+is_at_slot s h = nat_eq h.slot s
+
 pub names-count : (me : Handle) (hs : List IndexedHeader) → names_entry me hs ≡ nat_lt 0 (headers_by (lies_in (is_entry me)) hs)
 names-count me [] = refl
 names-count me (a ∷ hs) = or-one (same_handle a.header.entry me) _ _ (names-count me hs)
+
+pub header_slot-count : (s : ℕ) (hs : List IndexedHeader) → header_slot hs s ≡ nat_lt 0 (headers_by (lies_in (is_at_slot s)) hs)
+header_slot-count s [] = refl
+header_slot-count s (a ∷ hs) = or-one (nat_eq a.header.entry.slot s) _ _ (header_slot-count s hs)
 
 one-at_most : (b : Bool) → (if b then 1 else 0) ≤ 1
 one-at_most true = omega arith

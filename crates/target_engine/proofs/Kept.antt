@@ -21,7 +21,7 @@ use Rattle.ni_model.specs.Headers.{UnexpectedList, unexpected_list, oldest, with
 use Rattle.ni_model.specs.Conditions.{HasRoom}
 use Rattle.ni_model.specs.Arrive.{is_over, indices_after, headers_after, delivered, place}
 use Rattle.ni_model.specs.Append.{fresh, linked_at}
-use Rattle.ni_model.specs.Calls.{unlinked_in, slot_in, entry_slot}
+use Rattle.ni_model.specs.Calls.{unlinked_in, slot_in, entry_slot, header_slot}
 use Rattle.target_engine.specs.declared.index.Index.{Index as PortalEntry}
 use Rattle.target_engine.specs.declared.entry_records.EntryRecord.{EntryRecord}
 use Rattle.target_engine.specs.PortalTable.{index, seen, seen_in, updated_in, HasLists, IsPortalEntry, IsUnused, MayLink, AreRecorded}
@@ -99,8 +99,9 @@ pub kept-may_link : (slot most linked : ℕ) (is : List PortalEntry) (t : Table 
     has_slot slot t.live ≡ false → All (MayLink slot) is
 kept-may_link slot most linked is t hs k room below free =
     let at_most = not-full most (sum_by entries_in (seen_in is)) t.given room in
-    may-all slot most (most + hs.limit) t.given is k.portal_entries at_most.0
-    (recorded-slot slot (seen_in is) hs.unexpected t k.recorded free) (omega (arith, k.limit)) at_most.1
+    let untaken = or-none (entry_slot (seen_in is) slot) (header_slot hs.unexpected slot)
+    (recorded-slot slot (seen_in is) hs.unexpected t k.recorded free) in
+    may-all slot most (most + hs.limit) t.given is k.portal_entries at_most.0 untaken.0 (omega (arith, k.limit)) at_most.1
 
 pub kept-lists : (most linked : ℕ) (is : List PortalEntry) (t : Table EntryRecord) (hs : UnexpectedList) → IsKept most is linked t hs →
     All HasLists is

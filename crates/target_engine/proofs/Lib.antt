@@ -6,6 +6,7 @@ pub mod Headers
 pub mod Kept
 pub mod Recorded
 pub mod Records
+pub mod Slots
 pub mod Swapping
 pub mod Taking
 pub mod Views

@@ -18,7 +18,7 @@ use Rattle.ni_model.specs.Headers.{names_entry}
 use Rattle.ni_model.specs.Arrive.{is_over, running_after, entries_after, updated_at, indices_after}
 use Rattle.ni_model.specs.Refusals.{is_linked_anywhere}
 use Rattle.ni_model.specs.Append.{fresh, linked_at}
-use Rattle.ni_model.specs.Calls.{slot_in, entry_slot, unlinked_in}
+use Rattle.ni_model.specs.Calls.{entry_slot, header_slot, entry_taken, unlinked_in}
 use Rattle.ni_objects.specs.users.Sums.{sum_of}
 use Rattle.ni_objects.proofs.users.SumLemmas.{one_if, same-self, number_at, sum-split, but-zero, but-same, sum-push, once-new}
 use Rattle.target_engine.specs.declared.entry_records.EntryRecord.{EntryRecord}
@@ -28,7 +28,7 @@ use Rattle.target_engine.specs.PortalTable.{changed_by, recorded_by, unlinked_af
 use Rattle.target_engine.proofs.Counting.{any_handle, is_handle, is_slot, but, elsewhere, is_linked_anywhere-count, entry_slot-count}
 use Rattle.target_engine.proofs.Counting.{linked-all, linked-unlinked, entries-push, entries-advanced, linked-set, linked-same}
 use Rattle.target_engine.proofs.Counting.{linked-split, unlinked-none, advanced-none, map-at}
-use Rattle.target_engine.proofs.Headers.{is_entry, names-count, unexpected-all, unexpected-append}
+use Rattle.target_engine.proofs.Headers.{is_entry, is_at_slot, header_slot-count, names-count, unexpected-all, unexpected-append}
 use Rattle.target_engine.proofs.Records.{sum-anew, named-anew, busy-anew}
 
 -- ---- what the records tell of the entries and of the headers
@@ -89,9 +89,24 @@ slot-unlinked s (x ∷ xs) e =
       | false ↦ λ f. omega (arith, apart-linked x.value.linked false refl, slot-unlinked s xs f)
     ] e
 
+slot-empty : (s : ℕ) (xs : List (Live EntryRecord)) → has_slot s xs ≡ false → sum_of (headers_as (is_at_slot s)) xs ≡ 0
+slot-empty s [] e = refl
+slot-empty s (x ∷ xs) e =
+    elim (nat_eq x.handle.slot s) as (λ b. (b || has_slot s xs) ≡ false →
+    (if b then x.value.headers else 0) + sum_of (headers_as (is_at_slot s)) xs ≡ 0) [
+      | true ↦ λ f. cc
+      | false ↦ λ f. omega (arith, slot-empty s xs f)
+    ] e
+
+-- a slot of which there is no record is that of no linked entry, and of none in which a header lies
 pub recorded-slot : (s : ℕ) (is : List (Option Index)) (hs : List IndexedHeader) (t : Table EntryRecord) → AreRecorded is hs t →
-    has_slot s t.live ≡ false → entry_slot is s ≡ false
-recorded-slot s is hs t a free = entry_slot-count s 0 is ∙ ap (λ n. nat_lt 0 n) (a.same (is_slot s) ∙ slot-unlinked s t.live free)
+    has_slot s t.live ≡ false → entry_taken is hs s ≡ false
+recorded-slot s is hs t a free =
+    let linked : entry_slot is s ≡ false = entry_slot-count s 0 is
+    ∙ ap (λ n. nat_lt 0 n) (a.same (is_slot s) ∙ slot-unlinked s t.live free) in
+    let lies : header_slot hs s ≡ false = header_slot-count s hs
+    ∙ ap (λ n. nat_lt 0 n) (a.lies (is_at_slot s) ∙ slot-empty s t.live free) in
+    rw (linked, lies) refl
 
 -- ---- there is room for a record of each linked entry and of each in which a header lies
 
@@ -583,31 +598,3 @@ recorded-none n limit = record { same = λ p. none-linked p 0 n; lies = λ p. re
 
 pub many-none : (n : ℕ) → sum_by entries_in (replicate n None) ≡ 0
 many-none n = sym (linked-all 0 (replicate n None)) ∙ none-linked any_handle 0 n
-
--- ---- some slot is free
-
-abbrev slots_of : List Linked → ℕ
-slots_of [] = 0
-slots_of (x ∷ xs) = suc x.handle.slot + slots_of xs
-
-slot_in-past : (s : ℕ) (xs : List Linked) → slots_of xs ≤ s → slot_in s xs ≡ false
-slot_in-past s [] le = refl
-slot_in-past s (x ∷ xs) le = let e : nat_eq x.handle.slot s ≡ false = grind (arith, nat_tests) in
-    rw (e, slot_in-past s xs (omega arith)) refl
-
-abbrev all_slots : List (Option Index) → ℕ
-all_slots [] = 0
-all_slots (None ∷ is) = all_slots is
-all_slots (Some i ∷ is) = slots_of i.priority + slots_of i.overflow + all_slots is
-
-entry_slot-past : (s : ℕ) (is : List (Option Index)) → all_slots is ≤ s → entry_slot is s ≡ false
-entry_slot-past s [] le = refl
-entry_slot-past s (None ∷ is) le = entry_slot-past s is le
-entry_slot-past s (Some i ∷ is) le = rw (
-  slot_in-past s i.priority (omega arith),
-  slot_in-past s i.overflow (omega arith),
-  entry_slot-past s is (omega arith),
-) refl
-
-pub free_slot : (is : List (Option Index)) → (s : ℕ) × (entry_slot is s ≡ false)
-free_slot is = (all_slots is, entry_slot-past (all_slots is) is (omega arith))

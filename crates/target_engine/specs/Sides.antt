@@ -1,5 +1,5 @@
 -- What a target is seen as, and how its parts make up the model's.
-use Rattle.std.specs.Prelude.{ℕ, ◌≡◌, ◌<◌, false, List, Option, Some, None, All}
+use Rattle.std.specs.Prelude.{ℕ, ◌<◌, List, Option, Some, None, All}
 use Rattle.ptl_types.specs.declared.handles.Handle.{Handle}
 use Rattle.ptl_types.specs.declared.entries.Entry.{Entry}
 use Rattle.ptl_types.specs.declared.entries.List.{List as EntryList}
@@ -11,7 +11,7 @@ use Rattle.ni_model.specs.Lists.{Index}
 use Rattle.ni_model.specs.Headers.{UnexpectedList}
 use Rattle.ni_model.specs.Arrive.{Side, Parts}
 use Rattle.ni_model.specs.Append.{Appends, Searched, append}
-use Rattle.ni_model.specs.Calls.{entry_slot}
+use Rattle.ni_model.specs.Calls.{Makes, entry_taken}
 use Rattle.ni_objects.specs.users.Rows.{IsAlone}
 
 -- a target: its rank, how many entries may be linked, its indices, the stamps given to entries, its headers
@@ -31,11 +31,10 @@ abbrev pub SlotBelow : ℕ → Appended → Type 0
 SlotBelow n (IsLinked h) = h.slot < n
 SlotBelow n (Consumed x) = Unit {0}
 
--- the append, with some slot that no linked entry has
-pub record AppendsSome (pt : ℕ) (list : EntryList) (e : Entry) (old : Parts) (end : Appends) : Type 0 where
-  pub slot : ℕ
-  pub free : entry_slot old.side.indices slot ≡ false
-  pub ended : end ≡ append slot pt list e old
+-- the append, with some slot that no linked entry has and in whose entry none of the headers that it leaves lies
+abbrev pub AppendsSome : ℕ → EntryList → Entry → Parts → Appends → Type 0
+AppendsSome pt list e old end =
+    Makes (entry_taken old.side.indices end.parts.side.headers.unexpected) (λ slot. append slot pt list e old) end
 
 -- the counting event of each entry of an index, if it has one, is ct or has another slot
 abbrev pub EntriesAlone : Handle → Option Index → Type 0

@@ -6,7 +6,7 @@ ghost use Rattle.ni_model.specs.Headers.{found_in, left_in};
 ghost use Rattle.ni_model.specs.Arrive.{parts};
 ghost use Rattle.ni_model.specs.Shown.{told_of_entry};
 ghost use Rattle.ni_model.specs.Events.{link_event};
-ghost use Rattle.ni_model.specs.Calls.{entry_slot};
+ghost use Rattle.ni_model.specs.Calls.{entry_taken};
 ghost use Rattle.ni_model.specs.Append.{append_fault, is_allocated, linked_count, next_handle, link_side, queue_at, overflow_counter};
 ghost use Rattle.ni_model.specs.Append.{each_counted, each_gone, with_unexpected, counted_by};
 ghost use Rattle.target_engine.specs.Sides.{has_appended, SlotBelow, AppendsSome};
@@ -48,7 +48,7 @@ impl Target {
         requires index { is_allocated pt self.old ≡ true }
         requires room { (nat_le self.old.limit (linked_count self.old) || nat_le top self.old.given) ≡ false }
         ensures named { result ≡ next_handle result.slot self.old }
-        ensures free { entry_slot self.old.indices result.slot ≡ false }
+        ensures free { entry_taken self.old.indices self.old.headers.unexpected result.slot ≡ false }
         ensures below { result.slot < self.old.limit + self.old.headers.limit }
         ensures linked { self.new ≡ link_side result.slot pt list entry self.old }
         ensures events { eqs.new ≡ told_of_entry entry.hidden (queue_at pt self.old) (link_event pt entry.match_bits) eqs.old }

@@ -1,5 +1,5 @@
 -- Appends that take headers, their events in order, and searches (Portals 4.3, unexpected messages and event queues).
-use Rattle.std.specs.Prelude.{ℕ, true, false, ◌≡◌, List, [], ◌∷◌, Option, Some, None, Result, Ok, Err, refl, replicate}
+use Rattle.std.specs.Prelude.{ℕ, Bool, true, false, ◌≡◌, List, [], ◌∷◌, Option, Some, None, Result, Ok, Err, refl, replicate}
 use Rattle.ptl_types.specs.declared.entries.List.TheVariants.{Priority, Overflow as InOverflow}
 use Rattle.ptl_types.specs.declared.entries.UnexpectedHeader.{UnexpectedHeader}
 use Rattle.ptl_types.specs.declared.events.Event.{Event}
@@ -18,7 +18,8 @@ use Rattle.ni_model.specs.Append.{append, search}
 use Rattle.ni_model.specs.Counts.{successes}
 use Rattle.ni_model.specs.Tables.{handle}
 use Rattle.ni_model.specs.State.{State, target}
-use Rattle.ni_model.specs.Calls.{Done, pt_alloc, pt_free, ct_alloc, ct_get, eq_alloc, eq_get, me_append, me_search, me_unlink}
+use Rattle.ni_model.specs.Calls.{Done, Makes, pt_alloc, pt_free, ct_alloc, ct_get, entry_slot, entry_taken, eq_alloc, eq_get, me_append}
+use Rattle.ni_model.specs.Calls.{me_search, me_unlink}
 use Rattle.law_cases.proofs.model.Wide.{events_in, kinds_in}
 use Rattle.law_cases.proofs.model.Setting.{new, first, entry, once, local, counting_overflow, put_at, put, atomic}
 
@@ -70,6 +71,38 @@ order_of_events : kinds (append_once (append_once (append_once filled).state).st
     ∷ AutoFree ∷ Link ∷ []
 unfolding target request append
 order_of_events = refl
+
+-- ---- the slot of that entry: nothing is linked there, and it is taken until the last header in the entry has gone
+abbrev slot_after : State → ℕ → Bool
+slot_after s slot = entry_taken filled.indices s.headers.unexpected slot
+
+no_entry_is_linked : entry_slot filled.indices 0 ≡ false
+unfolding target request append
+no_entry_is_linked = refl
+
+headers_take_its_slot : slot_after filled 0 ≡ true
+unfolding target request append
+headers_take_its_slot = refl
+
+last_header_takes_its_slot : slot_after (append_once filled).state 0 ≡ true
+unfolding target request append
+last_header_takes_its_slot = refl
+
+slot_is_free_again : slot_after (append_once (append_once filled).state).state 0 ≡ false
+unfolding target request append
+slot_is_free_again = refl
+
+other_slots_are_free : slot_after filled 1 ≡ false
+unfolding target request append
+other_slots_are_free = refl
+
+-- a persistent entry takes both headers, and may be linked under that slot
+abbrev append_both : ℕ → Done (Result Appended NiFault)
+append_both slot = me_append slot 1 Priority (entry 8 4) filled
+
+links_under_its_slot : Makes (slot_after (append_both 0).state) append_both (append_both 0)
+unfolding target request append
+links_under_its_slot = record { slot = 0; free = refl; ended = refl }
 
 -- a taken header's event says where its bytes lie
 taken_says : events (append_once filled).state ≡ record {

@@ -1,7 +1,8 @@
-use Rattle.std.proofs.Common.{ℕ, None, nat_lt, refl, ap, ◌∙◌}
+use Rattle.std.proofs.Common.{nat_lt, refl}
 use Rattle.ni_model.specs.Calls as calls
 use Rattle.ni_model.specs.Calls.{Done}
 use Rattle.ni_model.specs.Tables.{has_slot}
+use Rattle.portals_ni.proofs.Ends.{free_slot, is-free}
 use Rattle.guarded_ni.specs.Misuses.{unless}
 use Rattle.guarded_ni.specs.declared.faults.Misuse.TheVariants.{NoRoom}
 use Rattle.log_answers.specs.declared.owed.Sort.TheVariants.{Queue}
@@ -21,4 +22,5 @@ returns-in_ok-refused-in-Err c =
     rw c.told-in-Err.ensures
     (guarded_err (unless (nat_lt 0 c.args.room) NoRoom) c.args.seat.now c.eq_alloc.new.nic (λ d. tells (new Queue) d c.args.seat.now)
     (λ slot. has_slot slot c.args.seat.now.nic.eqs.live) (λ slot. calls.eq_alloc slot c.args.room c.args.seat.now.nic) c.in-Err.fault
-    c.in_ok-refused-in-Err.field-0 c.in-Err.ensures c.in_ok-refused-in-Err.ensures (λ r. refl))
+    c.in_ok-refused-in-Err.field-0 c.in-Err.ensures c.in_ok-refused-in-Err.ensures (λ r. refl) (free_slot c.args.seat.now.nic.eqs.live)
+    (is-free c.args.seat.now.nic.eqs.live))

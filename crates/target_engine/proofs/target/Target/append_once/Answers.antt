@@ -7,7 +7,7 @@ use Rattle.target_engine.specs.declared.entry_records.Records.{Records}
 use Rattle.target_engine.proofs.Counted.{counted-gone, long-gone}
 use Rattle.target_engine.proofs.Headers.{unexpected-oldest}
 use Rattle.target_engine.proofs.Kept.{kept-fewer, kept-frees}
-use Rattle.target_engine.proofs.Recorded.{free_slot}
+use Rattle.target_engine.proofs.Slots.{free_entry_slot}
 use Rattle.target_engine.proofs.Records.{given-by}
 use Rattle.target_engine.proofs.target.Target.append_once.Goals as goal
 
@@ -42,7 +42,7 @@ pub returns-clause-appends : goal.returns-clause-appends
 unfolding append
 returns-clause-appends c =
     λ region.
-    let s = free_slot c.args.self.now.indices in
+    let s = free_entry_slot c.args.self.now.indices c.take_oldest.new.self.unexpected in
     let o : oldest c.args.args.pt c.args.args.entry c.self.inside.headers.unexpected ≡ Some c.in-Some.unexpected =
     sym c.take_oldest.ensures.oldest
     ∙ c.in-Some.is in
