@@ -24,7 +24,7 @@ use std::alloc::Global;
 
 /// What came of a line.
 #[derive(Drop)]
-pub(crate) enum Step {
+pub enum Step {
     /// The log goes on.
     Goes,
     /// The log goes on, and this is owed as the answer, each word behind a space.
@@ -37,7 +37,7 @@ pub(crate) enum Step {
 
 /// What an answer was found to be: what is owed, with the word for what is new; or not from a column on, with what was said and is owed.
 #[derive(Drop)]
-pub(crate) enum Compared<'w> {
+pub enum Compared<'w> {
     Agrees(Option<Word<'w>>),
     Differs(usize, Printed, Printed),
 }

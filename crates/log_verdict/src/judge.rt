@@ -56,7 +56,7 @@ pub enum Taken {
 
 /// Which line is due.
 #[derive(Clone, Copy, PartialEq, Eq)]
-enum Stage {
+pub enum Stage {
     Header,
     Ranks,
     Body,

@@ -4,14 +4,15 @@
 //! so, and each other answer is owed. A handle is compared by the word that the device gave it, so what is owed speaks of no slot.
 #![tactic(auto)]
 
-mod answering;
+// Three modules are public for `slot_laws` alone, whose law names what stands after a line and what comes of one.
+pub mod answering;
 mod arriving;
 mod filler;
 mod filling;
-mod judge;
+pub mod judge;
 mod kept;
 mod printed;
-mod scenes;
+pub mod scenes;
 mod settling;
 mod steps;
 mod whole;

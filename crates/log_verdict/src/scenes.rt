@@ -13,7 +13,7 @@ use std::alloc::Global;
 
 /// The interfaces of a log by their ranks, and the messages between them.
 #[derive(Drop)]
-pub(crate) struct Scene {
+pub struct Scene {
     pub(crate) ranks: u32,
     pub(crate) any_order: bool,
     pub(crate) seats: ByNumber<Kept>,
