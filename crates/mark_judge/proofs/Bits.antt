@@ -1,15 +1,15 @@
 -- Words of bits: which entries lie in a cell, and which are into a step.
 use Rattle.std.proofs.Common.{ℕ, Bool, true, false, cond, ◌&&◌, ◌||◌, ◌≡◌, ◌+◌, ◌-◌, ◌*◌, ◌%◌, ◌^◌, ◌<◌, ◌≤◌, ◌==◌, nat_lt, List}
-use Rattle.std.proofs.Common.{[], ◌∷◌, ◌++◌, ap, ap₂, ◌∙◌, sym, length, get_or, set, ltb, max, inl, inr, refl, arith, not, length-append}
+use Rattle.std.proofs.Common.{ap, ap₂, ◌∙◌, sym, length, get_or, set, ltb, max, inl, inr, refl, arith, not}
 use Rattle.std.specs.Int.{bit_at, w128}
 use Rattle.std.specs.Int.RustNames.{bit_or}
 use Rattle.std.proofs.lemmas.Bool.{and_left, and_parts, cases_Bool, cases_eq, cases_lt, eq-eqb, eqb-true, le-ltb, lt-ltb, ltb-false}
 use Rattle.std.proofs.lemmas.Bool.{ltb-true, ne_eqb, or_left, or_right}
-use Rattle.std.proofs.lemmas.List.{get_or-set_other, get_or-set_same, get_or_append_left, get_or_push}
+use Rattle.std.proofs.lemmas.List.{get_or-set_other, get_or-set_same}
 use Rattle.std.proofs.lemmas.Nat.Bits.{bit_at-lt, bit_at-zero, bit_at_or, bit_at_set_other, bit_at_set_same}
 use Rattle.mark_judge.specs.declared.entry_bits.Bits.{Bits}
 use Rattle.mark_judge.specs.declared.entries.Entry.{Entry}
-use Rattle.mark_judge.specs.Tables.{AreBegun, AreMasks, does_lack, entry_at, has_bit, lacks_one, no_bits}
+use Rattle.mark_judge.specs.Tables.{AreMasks, does_lack, entry_at, has_bit, lacks_one, no_bits}
 use Rattle.mark_judge.proofs.Tests.{and-false, and-true, none_below, or-false, or_assoc}
 
 -- ---- bits of a number
@@ -102,10 +102,17 @@ bits_kept words cell k h c j low =
     (ap (λ t. (j == k) && t) (ne_eqb cell c (λ q. absurd (omega (arith, h, low, q)))) ∙ and-false (j == k))
     ∙ or-false (has_bit (get_or words c no_bits) j))
 
--- the entries before place k are noted
+-- of the entries before place k it is noted at which place f holds
+abbrev pub AreNotedTo : (ℕ → ℕ → Bool) → ℕ → ℕ → List Bits → Type 0
+AreNotedTo f n k words = (c j : ℕ) → c < n → has_bit (get_or words c no_bits) j ≡ (ltb j k && f c j)
+
+-- in which cell each lies
 abbrev pub AreBegunTo : List Entry → ℕ → ℕ → List Bits → Type 0
-AreBegunTo es cells k words =
-    (c j : ℕ) → c < cells → has_bit (get_or words c no_bits) j ≡ (ltb j k && ((entry_at es j).cell == c))
+AreBegunTo es = AreNotedTo (λ c j. (entry_at es j).cell == c)
+
+-- into which step each is
+abbrev pub AreMasksTo : List Entry → ℕ → ℕ → List Bits → Type 0
+AreMasksTo es = AreNotedTo (λ s j. (entry_at es j).step == s)
 
 test_more : (f : ℕ → Bool) (j k : ℕ) → ((ltb j k && f j) || ((j == k) && f k)) ≡ (ltb j (k + 1) && f j)
 test_more f j k =
@@ -125,19 +132,24 @@ test_more f j k =
           | inr h ↦ le-ltb j k h ∙ sym (le-ltb j (k + 1) (omega (arith, h, ne)))
         ]
 
-pub begun_more : (es : List Entry) (cells k : ℕ) (old new : List Bits) → length old ≡ cells → AreBegunTo es cells k old
+pub none_noted : (f : ℕ → ℕ → Bool) (n : ℕ) (words : List Bits)
+    → ((c j : ℕ) → c < n → has_bit (get_or words c no_bits) j ≡ false) → AreNotedTo f n 0 words
+none_noted f n words none c j h = none c j h ∙ sym (ap (λ a. a && f c j) (le-ltb j 0 (omega arith)))
+
+pub noted_more : (f : ℕ → ℕ → Bool) (n k : ℕ) (old new : List Bits) → length old ≡ n → AreNotedTo f n k old
     → ((c j : ℕ) → c < length old →
-    has_bit (get_or new c no_bits) j ≡ (has_bit (get_or old c no_bits) j || ((j == k) && ((entry_at es k).cell == c))))
-    → AreBegunTo es cells (k + 1) new
-begun_more es cells k old new many before noted c j h =
+    has_bit (get_or new c no_bits) j ≡ (has_bit (get_or old c no_bits) j || ((j == k) && f c k)))
+    → AreNotedTo f n (k + 1) new
+noted_more f n k old new many before noted c j h =
     noted c j (omega (arith, many, h))
-    ∙ ap (λ t. t || ((j == k) && ((entry_at es k).cell == c))) (before c j h)
-    ∙ test_more (λ i. (entry_at es i).cell == c) j k
+    ∙ ap (λ t. t || ((j == k) && f c k)) (before c j h)
+    ∙ test_more (f c) j k
 
 -- all are
-pub begun_all : (es : List Entry) (cells k : ℕ) (words : List Bits) → length es ≤ k → AreBegunTo es cells k words → AreBegun es cells words
-begun_all es cells k words all noted c j h low =
-    noted c j h ∙ ap (λ a. a && ((entry_at es j).cell == c)) (lt-ltb j k (omega (arith, all, low)))
+pub noted_all : (f : ℕ → ℕ → Bool) (n k count : ℕ) (words : List Bits) → count ≤ k → AreNotedTo f n k words → (c j : ℕ) → c < n → j < count
+    → has_bit (get_or words c no_bits) j ≡ f c j
+noted_all f n k count words all noted c j h low =
+    noted c j h ∙ ap (λ a. a && f c j) (lt-ltb j k (omega (arith, all, low)))
 
 -- ---- which entries lead to a cell
 -- one link more
@@ -146,7 +158,7 @@ pub gathered_more : (own : Bool) (before one : Bool) (word : Bool) (all : Bool) 
 gathered_more own before one word all e f = ap (λ t. t || one) e ∙ or_assoc own before one ∙ ap (λ t. own || t) (sym f)
 
 -- ---- no entry
-no_bit : (j : ℕ) → has_bit no_bits j ≡ false
+pub no_bit : (j : ℕ) → has_bit no_bits j ≡ false
 no_bit j =
     elim (cases_Bool (nat_lt j 128)) [
       | inl t ↦ ap (λ b. cond b (bit_at 0 j == 1) (bit_at 0 (j - 128) == 1)) t ∙ ap (λ n. n == 1) (bit_at-zero j)
@@ -167,39 +179,6 @@ clear_more words c low clear d j h =
     ]
 
 -- ---- masks of steps
--- the entries before place k are noted
-abbrev pub IsMaskTo : List Entry → ℕ → ℕ → Bits → Type 0
-IsMaskTo es step k mask = (j : ℕ) → has_bit mask j ≡ (ltb j k && ((entry_at es j).step == step))
-
-pub mask_none : (es : List Entry) (step : ℕ) → IsMaskTo es step 0 no_bits
-mask_none es step j = no_bit j ∙ sym (ap (λ t. t && ((entry_at es j).step == step)) (le-ltb j 0 (omega arith)))
-
-pub mask_more : (es : List Entry) (step k : ℕ) (old new : Bits) (so : Bool) → IsMaskTo es step k old
-    → so ≡ ((entry_at es k).step == step) → ((j : ℕ) → has_bit new j ≡ (has_bit old j || ((j == k) && so)))
-    → IsMaskTo es step (k + 1) new
-mask_more es step k old new so before is noted j =
-    noted j
-    ∙ ap₂ (λ a b. a || ((j == k) && b)) (before j) is
-    ∙ test_more (λ i. (entry_at es i).step == step) j k
-
-pub mask_all : (es : List Entry) (step k : ℕ) (mask : Bits) → length es ≤ k → IsMaskTo es step k mask → (j : ℕ) → j < length es
-    → has_bit mask j ≡ ((entry_at es j).step == step)
-mask_all es step k mask all noted j low =
-    noted j ∙ ap (λ a. a && ((entry_at es j).step == step)) (lt-ltb j k (omega (arith, all, low)))
-
-pub masks_more : (es : List Entry) (s : ℕ) (masks : List Bits) (mask : Bits) → length masks ≡ s → AreMasks es masks
-    → ((k : ℕ) → k < length es → has_bit mask k ≡ ((entry_at es k).step == s)) → AreMasks es (masks ++ mask ∷ [])
-masks_more es s masks mask many before here t k h low =
-    elim (cases_eq t s) [
-      | inl e ↦ ap (λ i. has_bit (get_or (masks ++ mask ∷ []) i no_bits) k) e
-          ∙ ap (λ w. has_bit w k) (get_or_push masks mask no_bits s many)
-          ∙ here k low
-          ∙ ap (λ i. (entry_at es k).step == i) (sym e)
-      | inr ne ↦ (let long = length-append masks (mask ∷ []) in
-          let less : t < length masks = omega (arith, many, h, ne, long) in
-          ap (λ w. has_bit w k) (get_or_append_left masks (mask ∷ []) no_bits t less) ∙ before t k less low)
-    ]
-
 -- all entries of a mask are among these
 pub all_among : (a m both : Bits) → ((both.low == a.low) && (both.high == a.high)) ≡ true
     → ((j : ℕ) → has_bit both j ≡ (has_bit a j || has_bit m j)) → (j : ℕ) → has_bit m j ≡ true → has_bit a j ≡ true

@@ -8,3 +8,4 @@ pub mod Opening
 pub mod Binding
 pub mod Good
 pub mod Right
+pub mod Counts

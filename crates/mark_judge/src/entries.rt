@@ -66,13 +66,14 @@ pub(crate) fn lacks_one(bits: Bits, entries: &[Entry], step: u32) -> bool
     false
 }
 
-/// For each of so many cells no entry.
+/// For each of so many cells, or steps, no entry.
 ///
 /// # Errors
 ///
 /// There was no memory for them.
 pub(crate) fn no_bits(alloc: Global, cells: usize) -> Result<Vec<Bits>, AllocError>
     ensures many { IfOk result (λ words. length words.items ≡ cells) }
+    ensures none { IfOk result (λ words. (c j : ℕ) → c < cells → has_bit (get_or words.items c no_bits) j ≡ false) }
 {
     vec![in alloc; NO_BITS; cells]
 }
@@ -87,8 +88,8 @@ fn clear(words: &mut Vec<Bits>)
     }
 }
 
-/// Adds the entry of this number to those of a cell, if there is one.
-fn begin_at(words: &mut Vec<Bits>, cell: u32, k: u32)
+/// Adds the entry of this number to those of a cell, or of a step, if there is one.
+pub(crate) fn begin_at(words: &mut Vec<Bits>, cell: u32, k: u32)
     requires { k < 256 }
     ensures many { length words.new.items ≡ length words.old.items }
     ensures bits { (c j : ℕ) → c < length words.old.items →

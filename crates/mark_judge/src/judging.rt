@@ -50,8 +50,8 @@ fn marks_flaw(
 /// then the first `enter` whose cell may be reached before its rank's start; then the first `leave` to which not each `enter` of its step
 /// leads. None: `no_mark_flaw` says what then holds.
 ///
-/// It takes a number of steps in the order of the plan's cells and links, once for each 256 lines `enter`, of which a description asks
-/// for 16,384 at most; past the first time over a cell to which one link comes, and where no rank enters, one look.
+/// It takes a number of steps in the order of the plan's cells and links and of the lines, once for each 256 lines `enter`, of which a
+/// description asks for 16,384 at most; past the first time over a cell to which one link comes, and where no rank enters, one look.
 ///
 /// # Errors
 ///

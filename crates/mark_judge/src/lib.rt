@@ -28,6 +28,7 @@ mod roots;
 
 pub use flaw::{Due, MarkFlaw, line_of};
 pub use judging::judge_marks;
+pub use named::all_false;
 
 /// The lines after the links of a sound plan have no flaw exactly where they are those that the description asks for.
 pub fn no_mark_flaw()

@@ -3,40 +3,12 @@
 ghost use Rattle.std.specs.Prelude.{ℕ, ◌≡◌, ◌<◌, ◌≤◌, ◌==◌, ◌||◌, ◌&&◌, true, IfOk, get_or, length};
 ghost use Rattle.mark_judge.specs.Tables.{AreMasks, entry_at, has_bit, lacks_one, no_bits};
 
-use crate::entries::{Entry, entry_at, lacks_one};
-use crate::entry_bits::{Bits, NO_BITS, has_all, with_bit};
+use crate::entries::{Entry, begin_at, entry_at, lacks_one, no_bits};
+use crate::entry_bits::{Bits, has_all};
 use coll_shape::MOST_STEPS;
 use std::alloc::{AllocError, Global};
 
-/// Whether the entry at a place is one into a step.
-fn is_into(entries: &[Entry], step: u32, k: usize) -> bool
-    requires { k < length entries.now }
-    ensures { result ≡ ((entry_at entries.now k).step == step) }
-{
-    entry_at(entries, k).step == step
-}
-
-/// The mask with this entry, if that is so.
-fn with_entry(mask: Bits, k: u32, so: bool) -> Bits
-    requires { k < 256 }
-    ensures { (j : ℕ) → has_bit result j ≡ (has_bit mask j || ((j == k) && so)) }
-{
-    if so { with_bit(mask, k) } else { mask }
-}
-
-/// Which of these entries are into a step.
-fn mask_of(entries: &[Entry], step: u32) -> Bits
-    requires { length entries.now ≤ 256 }
-    ensures { (k : ℕ) → k < length entries.now → has_bit result k ≡ ((entry_at entries.now k).step == step) }
-{
-    let mut mask = NO_BITS;
-    for k in 0..entries.len() {
-        mask = with_entry(mask, k as u32, is_into(entries, step, k));
-    }
-    mask
-}
-
-/// Of each step that a description may have, which of these entries are into it.
+/// Of each step that a description may have, which of these entries are into it. It takes one look at each entry.
 ///
 /// # Errors
 ///
@@ -45,9 +17,9 @@ pub(crate) fn masks_of(alloc: Global, entries: &[Entry]) -> Result<Vec<Bits>, Al
     requires { length entries.now ≤ 256 }
     ensures { IfOk result (λ masks. AreMasks entries.now masks.items) }
 {
-    let mut masks = Vec::with_capacity(alloc, MOST_STEPS)?;
-    for step in 0..MOST_STEPS as u32 {
-        masks.push(mask_of(entries, step))?;
+    let mut masks = no_bits(alloc, MOST_STEPS)?;
+    for k in 0..entries.len() {
+        begin_at(&mut masks, entry_at(entries, k).step, k as u32);
     }
     Ok(masks)
 }

@@ -56,7 +56,7 @@ fn place_of(due: Due) -> usize
 /// # Errors
 ///
 /// There was no memory for them.
-pub(crate) fn all_false(alloc: Global, count: usize) -> Result<Vec<bool>, AllocError>
+pub fn all_false(alloc: Global, count: usize) -> Result<Vec<bool>, AllocError>
     ensures many { IfOk result (λ answers. length answers.items ≡ count) }
     ensures none { IfOk result (λ answers. (i : ℕ) → i < count → get_or answers.items i false ≡ false) }
 {

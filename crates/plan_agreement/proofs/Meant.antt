@@ -301,7 +301,8 @@ module _ (p : Plan) (o : Outline) (count : ℕ) (t : Table) (given own : Evaluat
 pub meant : (p : Plan) (o : Outline) (count : ℕ) (t : Table) (given own : Evaluated) → IsWellFormed o → IsPlanFor p o
     → AreCompared p o count t given own → (m : Mark) → IsAlike p o given own m → IsAlwaysMeant p o m
 meant p o count t given own wf for both (Result b r c) alike =
-    λ inputs ins. same_cell p o count t given own wf for both inputs ins b r c alike.cell alike.buffer alike.rank alike.cut alike.places
+    λ inputs ins. same_cell p o count t given own wf for both inputs ins b r c alike.due.cell alike.due.buffer alike.due.rank
+    alike.due.cut alike.places
 meant p o count t given own wf for both (Enter s r c) alike = λ inputs ins. tt
 meant p o count t given own wf for both (Leave s r c) alike = λ inputs ins. tt
 
@@ -336,7 +337,8 @@ any_part p o count t given own b r c zero wf for both alike inputs ins = refl
 any_part p o count t given own b r c (suc k) wf for both alike inputs ins =
     let is = alike (omega arith) in
     ap (λ n. take n (value p inputs c)) is.bytes
-    ∙ same_part p o count t given own wf for both inputs ins b r c is.cell is.buffer is.rank is.cut is.shared is.within is.due is.places
+    ∙ same_part p o count t given own wf for both inputs ins b r c is.due.cell is.due.buffer is.due.rank is.due.cut is.shared is.within
+    is.within_due is.places
     ∙ sym (ap (λ n. take n (at (lists_of (meaning_of o inputs) b) r)) is.bytes)
 
 pub part_meant : (p : Plan) (o : Outline) (count : ℕ) (t : Table) (given own : Evaluated) → IsWellFormed o → IsPlanFor p o

@@ -5,7 +5,7 @@ use Rattle.coll_shape.specs.Meaning.{AreInputs, Lists, lists_of, meaning_of}
 use Rattle.coll_shape.specs.Outline.{Outline}
 use Rattle.given_lines.specs.declared.given.Mark.{Mark}
 use Rattle.given_lines.specs.declared.given.Mark.TheVariants.{Result, Enter, Leave}
-use Rattle.mark_judge.specs.Due.{mark_at}
+use Rattle.mark_judge.specs.Due.{cell_of, mark_at}
 use Rattle.plan_core.specs.Plan.{Plan}
 use Rattle.plan_core.specs.Sound.{AreInputsOf, SoundPlan}
 use Rattle.plan_core.specs.Draw.{held_cell}
@@ -82,9 +82,7 @@ Agrees p o ms (Unknown i k) = IsOpen p o ms i k
 -- ---- which inputs were tried
 -- the line names a cell of the plan
 abbrev pub HasCell : Plan → Mark → Type 0
-HasCell p (Result b r c) = c < length p.cells
-HasCell p (Enter s r c) = c < length p.cells
-HasCell p (Leave s r c) = c < length p.cells
+HasCell p m = cell_of m < length p.cells
 
 -- the inputs whose bytes are these of their numbers don't show that the result isn't what is meant
 abbrev pub IsMeantIfThere : Plan → Outline → Mark → ℕ → Type 0
@@ -114,12 +112,16 @@ abbrev pub held_cut : List Cut → Cut → Option ℕ → Cut
 held_cut cuts k None = k
 held_cut cuts k (Some c) = cut_at cuts c
 
--- a result's cell is cut as the cell in the shape's own plan that holds its buffer, and its slices have the places of that one's
-pub record IsAlikeAt (p : Plan) (o : Outline) (given own : Evaluated) (b r c : ℕ) : Type 0 where
+-- a result's cell is cut as the cell in the shape's own plan that holds its buffer
+pub record IsCutAsDue (p : Plan) (o : Outline) (given own : Evaluated) (b r c : ℕ) : Type 0 where
   pub cell : c < length p.cells
   pub buffer : b < length o.buffers
   pub rank : r < o.ranks
   pub cut : cut_at given.cuts c ≡ held_cut own.cuts (cut_at given.cuts c) (held_cell (drawing_of o).held b r)
+
+-- and its slices have the places of that one's
+pub record IsAlikeAt (p : Plan) (o : Outline) (given own : Evaluated) (b r c : ℕ) : Type 0 where
+  pub due : IsCutAsDue p o given own b r c
   pub places : get_or given.places c [] ≡ held_places own.places (held_cell (drawing_of o).held b r)
 
 abbrev pub IsAlike : Plan → Outline → Evaluated → Evaluated → Mark → Type 0
@@ -136,13 +138,10 @@ unsliced k n = n / k.width * block k + n % k.width
 
 -- its slices have so many first places of that cell's
 pub record IsPartAlikeAt (p : Plan) (o : Outline) (given own : Evaluated) (b r c k : ℕ) : Type 0 where
-  pub cell : c < length p.cells
-  pub buffer : b < length o.buffers
-  pub rank : r < o.ranks
-  pub cut : cut_at given.cuts c ≡ held_cut own.cuts (cut_at given.cuts c) (held_cell (drawing_of o).held b r)
+  pub due : IsCutAsDue p o given own b r c
   pub shared : ℕ
   pub within : shared ≤ length (get_or given.places c [])
-  pub due : shared ≤ length (held_places own.places (held_cell (drawing_of o).held b r))
+  pub within_due : shared ≤ length (held_places own.places (held_cell (drawing_of o).held b r))
   pub places : take shared (get_or given.places c []) ≡ take shared (held_places own.places (held_cell (drawing_of o).held b r))
   pub bytes : k ≡ unsliced (cut_at given.cuts c) shared
 

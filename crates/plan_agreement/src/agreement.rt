@@ -22,8 +22,8 @@ use ptl_types::NoMemory;
 use schedule_compiler::shapes::{CompileFault, DrawnShape, drawn_shape};
 use std::alloc::{AllocError, Global};
 
-/// Inputs of numbered bytes are tried, with each of the four bytes of the numbers.
-const UNITS: [u64; 4] = [1, 256, 65_536, 16_777_216];
+/// What the four bytes of a number count. Inputs of numbered bytes are tried with each of them.
+pub const NUMBER_UNITS: [u64; 4] = [1, 256, 65_536, 16_777_216];
 
 /// How many inputs are tried after these.
 const TRIES: u32 = 9;
@@ -81,7 +81,13 @@ fn search(
     ensures agrees { IfOk result (λ found. Agrees plan.now shape.now marks.now found) }
     ensures tried { IfOk result (λ found. AreNumbersTried plan.now shape.now marks.now found) }
 {
-    let shown = by_numbers(alloc, plan, shape, marks[unknown.mark as usize], &UNITS)?;
+    let shown = by_numbers(
+        alloc,
+        plan,
+        shape,
+        marks[unknown.mark as usize],
+        &NUMBER_UNITS,
+    )?;
     match shown {
         Some(inputs) => Ok(Agreement::Differs(unknown.mark, inputs)),
         None => try_inputs(alloc, plan, shape, marks, unknown, other),
@@ -249,7 +255,8 @@ fn against(
 /// again. Where it isn't, inputs are looked for that show that the result isn't what is meant; so are they for the first result where the
 /// shape's own plan is refused or there is too much to compare.
 ///
-/// It takes about twelve bytes of memory for each byte of a slice of both plans' cells, and more for what is combined.
+/// It takes about twelve bytes of memory for each byte of a slice of both plans' cells, some 50 for each link and 70 for each cell, and
+/// more for what is combined.
 ///
 /// # Errors
 ///

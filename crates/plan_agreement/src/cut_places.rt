@@ -7,7 +7,7 @@ ghost use Rattle.plan_terms.specs.terms.Terms.{Keeps};
 ghost use Rattle.plan_agreement.specs.Evaluated.{CutAlike, IsEvaluated};
 
 use plan_core::Plan;
-use plan_slices::{Cut, are_cuts, cut_at, sliced};
+use plan_slices::{Cut, are_cuts, cut_at, recall_uncut, sliced};
 use plan_terms::terms::{TermFault, Terms};
 use plan_terms::{CellPlaces, cell_places};
 use std::alloc::Global;
@@ -64,6 +64,11 @@ pub(crate) fn cut_places(
     ensures keeps { Keeps terms.old terms.new }
     ensures are { IfOk result (λ v. IsEvaluated plan.now count terms.new v) }
 {
+    if cuts.is_empty() {
+        recall_uncut(plan);
+        let places = cell_places(terms, alloc, plan, count)?;
+        return Ok(CutPlaces { cuts, places });
+    }
     if !are_cuts(plan, &cuts) {
         return Err(TermFault::Unfit);
     }

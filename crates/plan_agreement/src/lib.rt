@@ -22,7 +22,8 @@ mod numbers;
 mod sources;
 mod witness;
 
-pub use agreement::{Agreement, agree};
+pub use agreement::{Agreement, NUMBER_UNITS, agree};
+pub use numbers::numbered;
 
 /// The plan of a shape that isn't refused is one for the shape.
 pub fn own_plans_fit()

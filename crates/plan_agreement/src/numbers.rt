@@ -46,8 +46,13 @@ fn numbered_lists(alloc: Global, shape: &Shape, unit: u64) -> Result<Vec<InputLi
     Ok(lists)
 }
 
-/// Inputs of a shape, each byte one of the four bytes of its number.
-fn numbered(alloc: Global, shape: &Shape, unit: u64) -> Result<Inputs, NoMemory>
+/// Inputs of a shape, each byte one of the four bytes of its number: the one that counts so many. Byte k of list i has the number
+/// 32,768 i + k + 1, where the lists are counted input by input and by rank in each.
+///
+/// # Errors
+///
+/// There was no memory.
+pub fn numbered(alloc: Global, shape: &Shape, unit: u64) -> Result<Inputs, NoMemory>
     requires { 0 < unit }
     ensures { IfOk result (λ inputs. inputs ≡ numbered shape.now unit) }
 {

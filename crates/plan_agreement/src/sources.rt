@@ -10,13 +10,14 @@ use crate::comparing::{Unlike, due_cell, is_known};
 use crate::witness::list_count;
 use coll_shape::Shape;
 use given_lines::Mark;
+use mark_judge::all_false;
 use plan_core::reading::cell_count;
 use plan_core::{LinkKind, Plan};
 use plan_judge::{links_by_target, links_to};
 use plan_tables::ByRank;
 use ptl_types::NoMemory;
 use schedule_compiler::shapes::DrawnShape;
-use std::alloc::{AllocError, Global};
+use std::alloc::Global;
 
 /// No list has this number.
 pub(crate) const NO_LIST: u32 = u32::MAX;
@@ -58,17 +59,12 @@ fn note_sources(noted: &mut Vec<bool>, plan: &Plan, into: &ByRank, c: u32)
     }
 }
 
-/// So many answers, all no.
-fn none_noted(alloc: Global, count: usize) -> Result<Vec<bool>, AllocError> {
-    vec![in alloc; false; count]
-}
-
 /// Of each cell whether bytes of it come into this one, by links that rise.
 fn sources_of(alloc: Global, plan: &Plan, cell: u32) -> Result<Vec<bool>, NoMemory>
     requires { length plan.now.cells + length plan.now.links < 2 ^ 32 - 1 }
 {
     let into = links_by_target(alloc, plan)?;
-    let Ok(mut noted) = none_noted(alloc, plan.cells().len()) else {
+    let Ok(mut noted) = all_false(alloc, plan.cells().len()) else {
         return Err(NoMemory);
     };
     note(&mut noted, cell);

@@ -5,6 +5,7 @@ ghost use Rattle.coll_shape.specs.Meaning.{AreInputs};
 ghost use Rattle.coll_shape.specs.Outline.{buffer_at, list_bytes};
 ghost use Rattle.plan_agreement.specs.Witness.{AreWitnesses, IsListOf};
 
+use crate::sources::NO_LIST;
 use coll_shape::{InputList, Inputs, Shape};
 use ptl_types::NoMemory;
 use std::alloc::{AllocError, Global};
@@ -29,13 +30,15 @@ enum Bytes {
     Few,
 }
 
-/// How the bytes of a list are chosen in a try. In the first three it is known whether only one of two plans reads the list: its bytes
-/// then show in any fold, since all others together are what the fold would be without them, or is zero, or is greater.
-fn bytes_in(kind: u32, is_other: bool, state: u64) -> Bytes {
+/// How the bytes of list i are chosen in a try. In the first three the bytes of the list that only one of two plans reads show in any
+/// fold, since all others together are what the fold would be without them, or is zero, or is greater. Where no such list is known all
+/// bytes are alike, others in each of these tries.
+fn bytes_in(kind: u32, i: u32, other: u32, state: u64) -> Bytes {
+    let is_other = i == other;
     match kind {
         0 => Bytes::All(if is_other { 1 } else { 0 }),
         1 => Bytes::All(if is_other { 0 } else { 255 }),
-        2 => Bytes::All(if is_other { 128 } else { 0 }),
+        2 => Bytes::All(if is_other || other == NO_LIST { 128 } else { 0 }),
         3 | 6 => Bytes::Any,
         4 | 7 => Bytes::All(((state >> 33) % 2) as u8),
         5 => Bytes::Bits,
@@ -92,7 +95,7 @@ pub(crate) fn bytes_at(shape: &Shape, i: u32) -> u64
 }
 
 /// The lists of all inputs of a shape, rank by rank in each, for a try. The list of the number `other` is one that only one of two plans
-/// reads.
+/// reads; `NO_LIST` where none is known.
 fn witness_lists(
     alloc: Global,
     shape: &Shape,
@@ -104,7 +107,7 @@ fn witness_lists(
     let mut lists = Vec::new(alloc);
     for i in 0..list_count(shape) {
         let state = stepped(u64::from(i).wrapping_mul(0x9E37_79B9_7F4A_7C15) ^ u64::from(kind));
-        let chosen = bytes_in(kind, i == other, state);
+        let chosen = bytes_in(kind, i, other, state);
         let list = witness_list(alloc, chosen, state, bytes_at(shape, i))?;
         lists.push(list)?;
     }
@@ -112,7 +115,7 @@ fn witness_lists(
 }
 
 /// Inputs of a shape, others for each kind. The list of the number `other`, counted input by input and by rank in each, is one that only
-/// one of two plans reads, if there is one.
+/// one of two plans reads; `NO_LIST` where none is known.
 pub(crate) fn witness(
     alloc: Global,
     shape: &Shape,

@@ -312,12 +312,12 @@ last_once n p t c l m a b = elim (same_or_not m l) [ inl e ↦ e | inr ne ↦ ab
         by : (v : Bool) → nat_lt l m ≡ v → ⊥
         by true lt =
             let x = b.first l a.comes (ltb-true l m lt) in
-            let y = a.last m b.comes in
+            let y = a.last m b.comes b.below in
             omega (arith, x, y)
         by false ge =
             let le = ltb-false l m ge in
             let x = a.first m b.comes (omega (arith, le, ne)) in
-            let y = b.last l a.comes in
+            let y = b.last l a.comes a.below in
             omega (arith, x, y)
 
 lead_once : (n : LogGp) (p : Plan) (t : TimesOf) (c : ℕ) (ls ms : List ℕ) → LeadTo n p t c ls → LeadTo n p t c ms → ms ≡ ls

@@ -10,7 +10,7 @@ use Rattle.plan_core.specs.Plan.{Plan, link}
 use Rattle.plan_costs.specs.declared.numbers.LogGp.{LogGp}
 use Rattle.plan_costs.specs.declared.spent.Spent.{Spent}
 use Rattle.plan_costs.specs.Lasts.{AreLast, IsLastBelow, IsLatestBelow, later_link}
-use Rattle.plan_costs.specs.Path.{IsCosted, IsCritical, IsLastTo, LeadTo, nothing, plus, spent_by, spent_on, whole}
+use Rattle.plan_costs.specs.Path.{IsCosted, IsCritical, LeadTo, nothing, plus, spent_by, spent_on, whole}
 use Rattle.std.specs.Prelude.{IfSome}
 use Rattle.plan_costs.specs.Soonest.{IsSoonest}
 use Rattle.plan_costs.specs.Times.{ComesTo, TimesOf, counted}
@@ -201,9 +201,6 @@ last_time n p t c l costed h known = at s.prompt
         let e = m.2 in
         omega (arith, a, b, e)
 
-last_to : (n : LogGp) (p : Plan) (t : TimesOf) (c l : ℕ) → IsLastBelow n p t (length p.links) c (Some l) → IsLastTo n p t c l
-last_to n p t c l known = record { comes = known.comes; last = λ m come. known.last m come come.known; first = known.first }
-
 -- what the next link takes has room
 pub walk_fits : (n : LogGp) (p : Plan) (t : TimesOf) (end c l : ℕ) (links : List ℕ) (spent : Spent) → IsCosted n p t
     → get_or t.cells end 0 < 2 ^ 64 → Walking n p t end c links spent → IsLastBelow n p t (length p.links) c (Some l)
@@ -241,7 +238,7 @@ walk_more n p t end c l links spent costed w known = record {
   known = costed.timed.tabled.sources l known.comes.known;
   each = each_more p links l w.each known.comes.known;
   lead = λ rest leads. subst (λ (v : List ℕ). LeadTo n p t end v) (sym (append_assoc links (l ∷ []) rest))
-      (w.lead (l ∷ rest) (last_to n p t c l known, leads));
+      (w.lead (l ∷ rest) (known, leads));
   sum = ap (plus (spent_by n p t l)) w.sum ∙ ap (spent_on n p t) (sym (reverse-append links (l ∷ [])));
   time =
       let a = whole_by n p t l costed known.comes.known in
@@ -279,7 +276,7 @@ walked : (n : LogGp) (p : Plan) (t : TimesOf) (end c : ℕ) (links : List ℕ) (
     → IsCritical n p t (record { end = end; links = reverse links; spent = spent })
 unfolding LeadTo
 walked n p t end c links spent costed latest w none = record {
-  latest = record { known = latest.known; last = latest.last; first = latest.first };
+  latest = latest;
   links = subst (λ (v : List ℕ). LeadTo n p t end v) (append-nil links ∙ sym (reverse-reverse links))
       (w.lead [] (λ l come. none l come come.known));
   known = each_turned p links w.each;

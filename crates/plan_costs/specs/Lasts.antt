@@ -7,7 +7,7 @@ use Rattle.plan_costs.specs.Times.{ComesTo, TimesOf, counted}
 abbrev pub later_cell : TimesOf → ℕ → ℕ → ℕ
 later_cell t a b = if nat_lt (get_or t.cells a 0) (get_or t.cells b 0) then b else a
 
--- of the cells below k
+-- of the cells below k the one that is reached last; of several the lowest
 pub record IsLatestBelow (p : Plan) (t : TimesOf) (k c : ℕ) : Type 0 where
   pub known : c < length p.cells
   pub last : (d : ℕ) → d < k → get_or t.cells d 0 ≤ get_or t.cells c 0
@@ -17,7 +17,7 @@ abbrev pub later_link : LogGp → Plan → TimesOf → ℕ → Option ℕ → Op
 later_link n p t l None = Some l
 later_link n p t l (Some m) = if nat_lt (counted n p t m) (counted n p t l) then Some l else Some m
 
--- of the links below k that come to cell c
+-- of the links below k that come to cell c the one that is counted last; of several the lowest
 pub record IsLastSoFar (n : LogGp) (p : Plan) (t : TimesOf) (k c l : ℕ) : Type 0 where
   pub comes : ComesTo p c l
   pub below : l < k

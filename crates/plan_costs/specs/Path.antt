@@ -1,11 +1,12 @@
 -- The path that a plan's time rests on, and what each message of it takes.
-use Rattle.std.specs.Prelude.{ℕ, ◌≡◌, ◌<◌, ◌≤◌, ◌+◌, ◌-◌, ◌^◌, List, [], ◌∷◌, get_or, if◌then◌else◌, length, reverse, sum_by}
+use Rattle.std.specs.Prelude.{ℕ, ◌≡◌, ◌<◌, ◌+◌, ◌-◌, ◌^◌, List, [], ◌∷◌, get_or, if◌then◌else◌, length, reverse, sum_by}
 use Rattle.plan_core.specs.Plan.{Plan, all_links, link}
 use Rattle.plan_costs.specs.declared.numbers.LogGp.{LogGp}
 use Rattle.plan_costs.specs.declared.spent.Spent.{Spent}
 use Rattle.plan_costs.specs.declared.traffic.Traffic.{Traffic}
-use Rattle.plan_costs.specs.Times.{AreTimes, ComesTo, IsTimed, TimesOf, arrival, counted, handling, in_turn, ready, received_at, sent_at}
+use Rattle.plan_costs.specs.Times.{AreTimes, ComesTo, IsTimed, TimesOf, arrival, handling, in_turn, ready, received_at, sent_at}
 use Rattle.plan_costs.specs.Times.{stays, wire_time}
+use Rattle.plan_costs.specs.Lasts.{IsLastSoFar, IsLatestBelow}
 
 -- these are a plan's times, which 64 bits hold
 pub record IsCosted (n : LogGp) (p : Plan) (t : TimesOf) : Type 0 where
@@ -55,10 +56,8 @@ spent_on n p t (l ∷ ls) = plus (spent_by n p t l) (spent_on n p t ls)
 -- ---- the path
 
 -- the link that is counted last at cell c; of several the lowest
-pub record IsLastTo (n : LogGp) (p : Plan) (t : TimesOf) (c l : ℕ) : Type 0 where
-  pub comes : ComesTo p c l
-  pub last : (m : ℕ) → ComesTo p c m → counted n p t m ≤ counted n p t l
-  pub first : (m : ℕ) → ComesTo p c m → m < l → counted n p t m < counted n p t l
+abbrev pub IsLastTo : LogGp → Plan → TimesOf → ℕ → ℕ → Type 0
+IsLastTo n p t c l = IsLastSoFar n p t (length p.links) c l
 
 -- links that lead to cell c, the last one first: each is the last that is counted at its target, and nothing comes to where they begin
 unfoldable pub LeadTo : LogGp → Plan → TimesOf → ℕ → List ℕ → Type 0
@@ -66,10 +65,8 @@ LeadTo n p t c [] = (l : ℕ) → ComesTo p c l → ⊥
 LeadTo n p t c (l ∷ ls) = IsLastTo n p t c l × LeadTo n p t (link p l).source ls
 
 -- the cell that is reached last; of several the lowest
-pub record IsLatest (p : Plan) (t : TimesOf) (c : ℕ) : Type 0 where
-  pub known : c < length p.cells
-  pub last : (d : ℕ) → d < length p.cells → get_or t.cells d 0 ≤ get_or t.cells c 0
-  pub first : (d : ℕ) → d < c → get_or t.cells d 0 < get_or t.cells c 0
+abbrev pub IsLatest : Plan → TimesOf → ℕ → Type 0
+IsLatest p t c = IsLatestBelow p t (length p.cells) c
 
 -- where it ends, its links from the first to the last, and what they take together
 pub record PathOf : Type 0 where

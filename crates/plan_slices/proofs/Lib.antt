@@ -3,3 +3,4 @@ pub mod Elements
 pub mod Together
 pub mod Landing
 pub mod Values
+pub mod Uncut

@@ -22,8 +22,11 @@ impl Measure {
         }
     }
 
-    /// With a length or a place more.
+    /// With a length or a place more. Nothing but one divides one.
     fn with_bytes(self, bytes: u64) -> Measure {
+        if self.divisor == 1 {
+            return self;
+        }
         Measure {
             divisor: common_divisor(self.divisor, bytes),
             element: self.element,
@@ -39,6 +42,15 @@ impl Measure {
                 divisor: with.divisor,
                 element: with.element.max(cell.ty.size()),
             },
+        }
+    }
+
+    /// With what another has in common.
+    fn with(self, other: Measure) -> Measure {
+        let with = self.with_bytes(other.divisor);
+        Measure {
+            divisor: with.divisor,
+            element: with.element.max(other.element),
         }
     }
 
@@ -97,7 +109,7 @@ pub struct CutPlans<'a> {
     pub pairs: &'a [(u32, u32)],
 }
 
-/// The cells of both plans in groups: those of the second stand after those of the first.
+/// The cells of both plans in groups, with what each group has in common: those of the second stand after those of the first.
 #[derive(Drop)]
 struct Measured {
     groups: Groups,
@@ -105,11 +117,62 @@ struct Measured {
 }
 
 impl Measured {
+    /// What the group has in common for which this cell stands.
+    fn measure(&self, first: u32) -> Measure {
+        match self.measures.get(first as usize) {
+            Some(measure) => *measure,
+            None => Measure::new().with_bytes(1),
+        }
+    }
+
+    /// Keeps what the group has in common for which this cell stands.
+    fn keep(&mut self, first: u32, measure: Measure) {
+        let at = first as usize;
+        if at < self.measures.len() {
+            self.measures[at] = measure;
+        }
+    }
+
+    /// Takes the cells of a plan in, each by itself.
+    fn measure_cells(&mut self, plan: &Plan, before: u32) {
+        let mut number = before;
+        for cell in plan.cells() {
+            let measure = self.measure(number).with_cell(cell);
+            self.keep(number, measure);
+            number = number.saturating_add(1);
+        }
+    }
+
+    /// Takes the links of a plan in that carry bytes, each with its target.
+    fn measure_links(&mut self, plan: &Plan, before: u32) {
+        for link in plan.links() {
+            if moves(link) {
+                let target = before.saturating_add(link.target);
+                let measure = self.measure(target).with_link(link);
+                self.keep(target, measure);
+            }
+        }
+    }
+
+    /// Joins the groups of two cells.
+    fn join(&mut self, one: u32, other: u32) {
+        if self.groups.are_near(one, other) {
+            return;
+        }
+        let one = self.groups.first(one);
+        let other = self.groups.first(other);
+        let both = self.measure(one).with(self.measure(other));
+        let (first, last) = (one.min(other), one.max(other));
+        self.groups.lead(last, first);
+        self.keep(last, Measure::new());
+        self.keep(first, both);
+    }
+
     /// Joins the two ends of the links that carry bytes.
     fn join_links(&mut self, plan: &Plan, before: u32) {
         for link in plan.links() {
             if moves(link) {
-                self.groups.join(
+                self.join(
                     before.saturating_add(link.source),
                     before.saturating_add(link.target),
                 );
@@ -121,46 +184,13 @@ impl Measured {
     fn join_pairs(&mut self, pairs: &[(u32, u32)], before: u32) {
         for pair in pairs {
             let (one, other) = *pair;
-            self.groups.join(one, before.saturating_add(other));
+            self.join(one, before.saturating_add(other));
         }
     }
 
-    /// What the group of a cell has in common so far.
-    fn measure(&mut self, cell: u32) -> Measure {
-        let first = self.groups.first(cell);
-        match self.measures.get(first as usize) {
-            Some(measure) => *measure,
-            None => Measure::new().with_bytes(1),
-        }
-    }
-
-    /// Keeps what the group of a cell has in common.
-    fn keep(&mut self, cell: u32, measure: Measure) {
-        let at = self.groups.first(cell) as usize;
-        if at < self.measures.len() {
-            self.measures[at] = measure;
-        }
-    }
-
-    /// Takes the cells of a plan in.
-    fn measure_cells(&mut self, plan: &Plan, before: u32) {
-        let mut number = before;
-        for cell in plan.cells() {
-            let measure = self.measure(number).with_cell(cell);
-            self.keep(number, measure);
-            number = number.saturating_add(1);
-        }
-    }
-
-    /// Takes the links of a plan in that carry bytes.
-    fn measure_links(&mut self, plan: &Plan, before: u32) {
-        for link in plan.links() {
-            if moves(link) {
-                let cell = before.saturating_add(link.target);
-                let measure = self.measure(cell).with_link(link);
-                self.keep(cell, measure);
-            }
-        }
+    /// Whether the cells of any group can be cut into more than one piece.
+    fn has_pieces(&self) -> bool {
+        self.measures.iter().any(|measure| measure.cut().count > 1)
     }
 
     /// How the cells of a plan can be cut.
@@ -168,8 +198,8 @@ impl Measured {
         let mut cuts = Vec::with_capacity(alloc, plan.cells().len())?;
         let mut number = before;
         for _cell in plan.cells() {
-            let cut = self.measure(number).cut();
-            cuts.push(cut)?;
+            let first = self.groups.first(number);
+            cuts.push(self.measure(first).cut())?;
             number = number.saturating_add(1);
         }
         Ok(cuts)
@@ -177,7 +207,8 @@ impl Measured {
 }
 
 /// How the cells of two plans can be cut, with those of each pair alike: each into blocks as long as can be, of pieces as short as can
-/// be. That the plans can be cut so is for `are_cuts` to see. It takes about as many steps as there are cells and links.
+/// be. Both lists are empty where no cell would have a second piece: then nothing is cut, and where that shows of each cell by itself no
+/// groups are joined. That the plans can be cut so is for `are_cuts` to see. It takes about as many steps as there are cells and links.
 ///
 /// # Errors
 ///
@@ -190,13 +221,18 @@ pub fn cut_plans(alloc: Global, plans: CutPlans) -> Result<(Vec<Cut>, Vec<Cut>),
         groups: Groups::of(alloc, all)?,
         measures: vec![in alloc; Measure::new(); all as usize]?,
     };
-    measured.join_links(plans.first, 0);
-    measured.join_links(plans.second, before);
-    measured.join_pairs(plans.pairs, before);
     measured.measure_cells(plans.first, 0);
     measured.measure_cells(plans.second, before);
     measured.measure_links(plans.first, 0);
     measured.measure_links(plans.second, before);
+    if measured.has_pieces() {
+        measured.join_links(plans.first, 0);
+        measured.join_links(plans.second, before);
+        measured.join_pairs(plans.pairs, before);
+    }
+    if !measured.has_pieces() {
+        return Ok((Vec::new(alloc), Vec::new(alloc)));
+    }
     let first = measured.cuts(alloc, plans.first, 0)?;
     let second = measured.cuts(alloc, plans.second, before)?;
     Ok((first, second))

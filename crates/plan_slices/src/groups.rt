@@ -26,8 +26,8 @@ impl Groups {
         }
     }
 
-    /// Lets a thing lead to another.
-    fn lead(&mut self, thing: u32, to: u32) {
+    /// Lets a thing lead to another. Where it stood for its group, this joins the groups of both.
+    pub(crate) fn lead(&mut self, thing: u32, to: u32) {
         let at = thing as usize;
         if at < self.up.len() {
             self.up[at] = to;
@@ -49,10 +49,8 @@ impl Groups {
         at
     }
 
-    /// Joins the groups of two things.
-    pub(crate) fn join(&mut self, one: u32, other: u32) {
-        let one = self.first(one);
-        let other = self.first(other);
-        self.lead(one.max(other), one.min(other));
+    /// Whether two things lead to one, and so are of one group. They may be where they don't.
+    pub(crate) fn are_near(&self, one: u32, other: u32) -> bool {
+        self.above(one) == self.above(other)
     }
 }

@@ -1,5 +1,5 @@
-//! What bytes are computed from, whatever the bytes that are given: a table of terms, in which terms that are computed alike are one. A
-//! fold's members may come in any order and grouping, and as often as its operation may meet them.
+//! What bytes are computed from, whatever the bytes that are given: a table of terms, in which a term that was made before is mostly found
+//! again. A fold's members may come in any order and grouping, and as often as its operation may meet them.
 
 mod fault;
 mod index;

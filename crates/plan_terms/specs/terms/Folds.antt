@@ -1,5 +1,5 @@
 -- What is said of places, of words and of members: all of it for whatever stands at the places.
-use Rattle.std.specs.Prelude.{ℕ, ◌<◌, ◌≡◌, List, length, map}
+use Rattle.std.specs.Prelude.{ℕ, ◌+◌, ◌<◌, ◌≤◌, ◌≡◌, List, get_or, length, map}
 use Rattle.std.specs.List.{flat_map}
 use Rattle.ptl_types.specs.declared.elements.AtomicOp.{AtomicOp}
 use Rattle.ptl_types.specs.declared.elements.ElemType.{ElemType}
@@ -8,7 +8,7 @@ use Rattle.ptl_types.specs.Operations.{bytes_of, op, span, start_value}
 use Rattle.number_lists.specs.Numbers.{from_to}
 use Rattle.plan_terms.specs.declared.terms.term.Member.{Member}
 use Rattle.plan_terms.specs.declared.terms.term.Making.{Making}
-use Rattle.plan_terms.specs.terms.Terms.{IsSolution, Lists, Table, again, fold_from, fold_of, made_value, word_at}
+use Rattle.plan_terms.specs.terms.Terms.{IsSolution, Lists, Table, again, fold_from, fold_of, made_value, no_member, word_at}
 
 -- the starting value changes it no more
 abbrev pub IsSettled : AtomicOp → ElemType → ℕ → Type 0
@@ -27,6 +27,14 @@ IsMore o ty old new word times = (V : ℕ → ℕ)
 -- the fold of `new` is that of `old`, gone on with with these members
 abbrev pub AreMore : AtomicOp → ElemType → List Member → List Member → List Member → Type 0
 AreMore o ty old new ms = (V : ℕ → ℕ) → fold_of V o ty new ≡ fold_from V o ty ms (fold_of V o ty old)
+
+-- by rising places, each once
+abbrev pub AreRising : List Member → Type 0
+AreRising ms = (i : ℕ) → i + 1 < length ms → (get_or ms i no_member).word < (get_or ms (i + 1) no_member).word
+
+-- at places up to this one
+abbrev pub AreUpTo : ℕ → List Member → Type 0
+AreUpTo word ms = (i : ℕ) → i < length ms → (get_or ms i no_member).word ≤ word
 
 -- the eight places from s on have the value of this term
 abbrev pub IsPlaceOf : Table → ℕ → Making → List Member → Type 0

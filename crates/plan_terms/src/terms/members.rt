@@ -1,7 +1,8 @@
 //! The members of a fold while it is made.
 
-ghost use Rattle.std.specs.Prelude.{◌≡◌, ◌<◌, ◌≤◌, ◌+◌, true, false, [], ◌∷◌, ◌++◌, suc, length, get_or, set, take, drop, IfOk, OnOk};
-ghost use Rattle.plan_terms.specs.terms.Folds.{AreMore, IsMore};
+ghost use Rattle.std.specs.Prelude.{ℕ, ◌≡◌, ◌≢◌, ◌<◌, ◌≤◌, ◌+◌, true, false, [], ◌∷◌, ◌++◌, suc, length, get_or, set, take, drop};
+ghost use Rattle.std.specs.Prelude.{IfNone, IfOk, IfSome, OnOk};
+ghost use Rattle.plan_terms.specs.terms.Folds.{AreMore, AreRising, AreUpTo, IsMore};
 ghost use Rattle.plan_terms.specs.terms.Terms.{no_member};
 
 use crate::terms::fault::TermFault;
@@ -14,7 +15,7 @@ use std::marker::Model;
 /// A list with so many times more members takes them one by one, and one alone always.
 const FEW: usize = 16;
 
-/// The members of a fold, in any order. Now and then, and at the end, they are put by rising places, each once.
+/// The members of a fold, in any order. Where there is no room for more, and at the end, they are put by rising places, each once.
 #[derive(Drop)]
 pub struct Members {
     list: Vec<Member>,
@@ -31,7 +32,8 @@ impl Model for Members {
 
 /// Whether members stand by rising places, each once.
 fn are_rising(list: &[Member]) -> bool
-    ensures { result ≡ false → 2 ≤ length list.now }
+    ensures rising { result ≡ true → AreRising list.now }
+    ensures several { result ≡ false → 2 ≤ length list.now }
 {
     for i in 1..list.len() {
         if list[i].word <= list[i - 1].word {
@@ -92,7 +94,7 @@ impl Members {
         self.list.remove(at);
     }
 
-    /// Combines the word of a member so many times more.
+    /// Combines the word of the last member so many times more.
     fn count_up(
         &mut self,
         op: AtomicOp,
@@ -100,8 +102,10 @@ impl Members {
         at: usize,
         times: u64,
     ) -> Result<(), TermFault>
-        requires { at < length self.old }
-        ensures { OnOk result (IsMore op ty self.old self.new (get_or self.old at no_member).word times) }
+        requires { at + 1 ≡ length self.old }
+        ensures more { OnOk result (IsMore op ty self.old self.new (get_or self.old at no_member).word times) }
+        ensures rising { OnOk result (AreRising self.old → AreRising self.new) }
+        ensures up_to { OnOk result ((word : ℕ) → AreUpTo word self.old → AreUpTo word self.new) }
     {
         match times_of(op, self.times_at(at), times) {
             None => Err(TermFault::TooMany),
@@ -126,25 +130,41 @@ impl Members {
 
     /// Adds a member at the end.
     fn put(&mut self, op: AtomicOp, ty: ElemType, member: Member) -> Result<(), TermFault>
-        ensures { OnOk result (IsMore op ty self.old self.new member.word member.times) }
+        ensures more { OnOk result (IsMore op ty self.old self.new member.word member.times) }
+        ensures put { OnOk result (self.new ≡ self.old ++ member ∷ []) }
     {
         self.push(member)
     }
 
-    /// Combines a word so many times more: it is that of the last member, or the new last one.
-    fn append(&mut self, op: AtomicOp, ty: ElemType, member: Member) -> Result<(), TermFault>
-        ensures { OnOk result (IsMore op ty self.old self.new member.word member.times) }
+    /// The last member, if its word is this one.
+    fn last_of(&self, word: u32) -> Option<usize>
+        ensures last { IfSome result (λ at. at + 1 ≡ length self.now) }
+        ensures is { IfSome result (λ at. (get_or self.now at no_member).word ≡ word) }
+        ensures none { IfNone result ((at : ℕ) → at + 1 ≡ length self.now → (get_or self.now at no_member).word ≢ word) }
     {
         let end = self.list.len();
-        if end > 0 && self.list[end - 1].word == member.word {
-            self.count_up(op, ty, end - 1, member.times)
-        } else {
-            self.put(op, ty, member)
+        if end == 0 || self.list[end - 1].word != word {
+            return None;
+        }
+        Some(end - 1)
+    }
+
+    /// Combines a word so many times more: it is that of the last member, or the new last one.
+    fn append(&mut self, op: AtomicOp, ty: ElemType, member: Member) -> Result<(), TermFault>
+        ensures more { OnOk result (IsMore op ty self.old self.new member.word member.times) }
+        ensures rising { OnOk result (AreRising self.old → AreUpTo member.word self.old → AreRising self.new) }
+        ensures up_to { OnOk result (AreUpTo member.word self.old → AreUpTo member.word self.new) }
+    {
+        match self.last_of(member.word) {
+            Some(at) => self.count_up(op, ty, at, member.times),
+            None => self.put(op, ty, member),
         }
     }
 
     /// Whether the members stand by rising places, each once.
-    pub(crate) fn is_settled(&self) -> bool {
+    pub(crate) fn is_settled(&self) -> bool
+        ensures { result ≡ true → AreRising self.now }
+    {
         are_rising(self.list.as_slice())
     }
 
@@ -155,7 +175,8 @@ impl Members {
         op: AtomicOp,
         ty: ElemType,
     ) -> Result<Members, TermFault>
-        ensures { IfOk result (λ all. AreMore op ty self.now all []) }
+        ensures more { IfOk result (λ all. AreMore op ty self.now all []) }
+        ensures rising { IfOk result (λ all. AreRising all) }
     {
         settled(alloc, op, ty, self.list.as_slice())
     }
@@ -163,7 +184,8 @@ impl Members {
     /// Puts the members by rising places, each once.
     #[tactic(auto, using(crate::proofs::terms::Folds::no_more))]
     fn settle(&mut self, alloc: Global, op: AtomicOp, ty: ElemType) -> Result<(), TermFault>
-        ensures { OnOk result (AreMore op ty self.old self.new []) }
+        ensures more { OnOk result (AreMore op ty self.old self.new []) }
+        ensures rising { OnOk result (AreRising self.new) }
     {
         if self.is_settled() {
             return Ok(());
@@ -172,8 +194,16 @@ impl Members {
         Ok(())
     }
 
-    /// Where there is no room for a further member, puts them by rising places, each once: then there is room again, or twice as much is
-    /// taken.
+    /// Takes room for as many members again, where there isn't.
+    fn make_room(&mut self) -> Result<(), TermFault>
+        ensures { OnOk result (self.new ≡ self.old) }
+    {
+        self.list.reserve(self.list.len())?;
+        Ok(())
+    }
+
+    /// Where there is no room for a further member, puts them by rising places, each once, and sees that there is room for as many again:
+    /// so before this is done once more at least half of the members are new.
     #[tactic(auto, using(crate::proofs::terms::Folds::no_more))]
     fn settle_full(&mut self, alloc: Global, op: AtomicOp, ty: ElemType) -> Result<(), TermFault>
         ensures { OnOk result (AreMore op ty self.old self.new []) }
@@ -181,7 +211,8 @@ impl Members {
         if self.list.len() < self.list.capacity() {
             return Ok(());
         }
-        self.settle(alloc, op, ty)
+        self.settle(alloc, op, ty)?;
+        self.make_room()
     }
 
     /// Combines a word so many times more.
@@ -252,6 +283,10 @@ fn is_first_next(first: &[Member], i: usize, second: &[Member], j: usize) -> boo
     requires within { j ≤ length second.now }
     ensures first { result ≡ true → i < length first.now }
     ensures second { result ≡ false → j < length second.now }
+    ensures before { result ≡ true → j < length second.now →
+        (get_or first.now i no_member).word ≤ (get_or second.now j no_member).word }
+    ensures after { result ≡ false → i < length first.now →
+        (get_or second.now j no_member).word ≤ (get_or first.now i no_member).word }
 {
     if i >= first.len() {
         return false;
@@ -259,8 +294,8 @@ fn is_first_next(first: &[Member], i: usize, second: &[Member], j: usize) -> boo
     j >= second.len() || first[i].word <= second[j].word
 }
 
-/// The members of two lists together, each of which is by rising places.
-#[tactic(auto, using(crate::proofs::terms::Folds::one_more_member, crate::proofs::terms::Folds::one_member_before, crate::proofs::terms::Folds::no_more))]
+/// The members of two lists together; by rising places, each once, where each list is so.
+#[tactic(auto, using(crate::proofs::terms::Folds::one_more_member, crate::proofs::terms::Folds::one_member_before))]
 fn merged(
     alloc: Global,
     op: AtomicOp,
@@ -268,7 +303,8 @@ fn merged(
     first: &[Member],
     second: &[Member],
 ) -> Result<Members, TermFault>
-    ensures { IfOk result (λ all. AreMore op ty first.now all second.now) }
+    ensures more { IfOk result (λ all. AreMore op ty first.now all second.now) }
+    ensures rising { IfOk result (λ all. AreRising first.now → AreRising second.now → AreRising all) }
 {
     let total = first.len() + second.len();
     let mut all = Members::with_room(alloc, total)?;
@@ -286,7 +322,7 @@ fn merged(
     Ok(all)
 }
 
-/// The members of two lists together, each of which is by rising places.
+/// The members of two lists together; by rising places, each once, where each list is so.
 fn joined(
     alloc: Global,
     op: AtomicOp,
@@ -294,7 +330,8 @@ fn joined(
     first: &Members,
     second: &Members,
 ) -> Result<Members, TermFault>
-    ensures { IfOk result (λ all. AreMore op ty first.now all second.now) }
+    ensures more { IfOk result (λ all. AreMore op ty first.now all second.now) }
+    ensures rising { IfOk result (λ all. AreRising first.now → AreRising second.now → AreRising all) }
 {
     merged(alloc, op, ty, first.as_slice(), second.as_slice())
 }
@@ -320,7 +357,8 @@ fn copied(alloc: Global, list: &[Member]) -> Result<Members, TermFault>
 
 /// The members of a list by rising places, each once.
 fn settled(alloc: Global, op: AtomicOp, ty: ElemType, list: &[Member]) -> Result<Members, TermFault>
-    ensures { IfOk result (λ all. AreMore op ty list.now all []) }
+    ensures more { IfOk result (λ all. AreMore op ty list.now all []) }
+    ensures rising { IfOk result (λ all. AreRising all) }
 {
     if are_rising(list) {
         return copied(alloc, list);

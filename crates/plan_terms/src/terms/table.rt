@@ -12,14 +12,15 @@ use std::marker::Model;
 
 /// How many terms of a list are looked at. A list has few, but for terms that were sought out to have one hash. Where that isn't enough
 /// the term is made anew.
-const MOST_STEPS: u32 = 64;
+const MOST_LOOKS: u32 = 64;
 
 /// How many places there are.
 const MOST_PLACES: u64 = 4_294_967_295;
 
 /// What bytes are computed from, for all inputs. Each byte has a place, which is a number. The first places are those of the inputs'
 /// bytes: as many for each input cell as the longest list has. After them each term has eight, with the bytes of its value. A term is
-/// made of what stands at places before its own; terms that are made alike are one, so that equal places have equal bytes.
+/// made of what stands at places before its own. Terms that are made alike are mostly one, so that bytes which are computed alike mostly
+/// have one place.
 #[derive(Drop)]
 pub struct Terms {
     ranks: u32,
@@ -137,7 +138,7 @@ impl Terms {
         ensures is { IfSome result (λ r. get_or self.now.terms r no_term ≡ record { making = making; members = members.now }) }
     {
         let mut at = self.index.last(hash);
-        for _ in 0..MOST_STEPS {
+        for _ in 0..MOST_LOOKS {
             if at as usize >= self.terms.len() {
                 return None;
             }
@@ -180,7 +181,7 @@ impl Terms {
         Ok(first as u32)
     }
 
-    /// The first place of the term of these members, which is added if there is none yet.
+    /// The first place of the term of these members, which is added if it isn't found.
     pub fn place_of(
         &mut self,
         alloc: Global,

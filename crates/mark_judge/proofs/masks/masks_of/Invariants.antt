@@ -1,9 +1,10 @@
 use Rattle.std.proofs.Common.{◌≡◌, length}
-use Rattle.mark_judge.specs.Tables.{AreMasks}
+use Rattle.coll_shape.specs.declared.limits.TheConstants.{MOST_STEPS}
+use Rattle.mark_judge.proofs.Bits.{AreMasksTo}
 use Rattle.mark_judge.proofs.masks.masks_of.Given as goal
 
-abbrev pub invariant-loop-step : goal.invariant-loop-step
-invariant-loop-step l = record {
-  many : length l.masks.items ≡ l.step;
-  told : AreMasks l.entries l.masks.items;
+abbrev pub invariant-loop-k : goal.invariant-loop-k
+invariant-loop-k l = record {
+  many : length l.masks.items ≡ MOST_STEPS;
+  told : AreMasksTo l.entries MOST_STEPS l.k l.masks.items;
 }

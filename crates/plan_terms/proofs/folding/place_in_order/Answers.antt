@@ -7,5 +7,5 @@ pub returns-clause-is : goal.returns-clause-is
 returns-clause-is c =
     IfOk-weaker c.fold_place.result _ _
     (λ s is. other_order c.fold_place.new.self c.args.op c.args.ty s c.args.fold.now c.as_slice.result.now c.in_ok-all.all
-    c.as_slice.ensures c.in_ok-all.ensures is)
+    c.as_slice.ensures c.in_ok-all.ensures.more is)
     c.fold_place.ensures.is

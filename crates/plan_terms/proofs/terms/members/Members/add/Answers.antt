@@ -8,4 +8,4 @@ returns c =
     on_ok_weaker c.append.result
     (more_after c.args.op c.args.ty c.args.self.now c.settle_full.new.self c.append.new.self c.args.member.word c.args.member.times
     c.in_ok-settle_full.ensures)
-    c.append.ensures
+    c.append.ensures.more

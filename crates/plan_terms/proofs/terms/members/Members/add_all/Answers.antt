@@ -6,5 +6,5 @@ use Rattle.plan_terms.proofs.terms.members.Members.add_all.Goals as goal
 pub returns : goal.returns
 returns c =
     on_ok_weaker c.join.result
-    (all_after c.args.op c.args.ty c.args.self.now c.settle.new.self c.join.new.self c.args.members.now c.in_ok-settle.ensures)
+    (all_after c.args.op c.args.ty c.args.self.now c.settle.new.self c.join.new.self c.args.members.now c.in_ok-settle.ensures.more)
     c.join.ensures
