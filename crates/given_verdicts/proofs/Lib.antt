@@ -4,3 +4,4 @@ pub mod Reading
 pub mod Wording
 pub mod Answering
 pub mod Flawless
+pub mod Meant

@@ -59,7 +59,8 @@ pub enum GivenAnswer {
         /// Why.
         cause: GivenCause,
     },
-    /// Whether it is right for all inputs wasn't found, for the cell of a result. Of given inputs this is never said.
+    /// Whether it is right for all inputs wasn't found, for the cell of a result, which holds what is meant for the inputs of numbered
+    /// bytes. Of given inputs this is never said, nor where nothing is combined, unless the shape's own plan is refused.
     Unknown {
         /// The result's line, counted from 1.
         line: u64,

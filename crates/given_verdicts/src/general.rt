@@ -2,6 +2,8 @@
 //! plan is right for each of them, or the first line at fault and why, or the first result of which it isn't known.
 
 mod answering;
+mod bare;
 mod unknown;
 
 pub use answering::general_answer;
+pub use bare::bare_plans_are_known;

@@ -56,7 +56,7 @@ held_list p inputs (Some c) = value p inputs c
 abbrev pub given_lists : Plan → HeldCells → Inputs → Lists
 given_lists p h inputs = map (λ b. map (λ r. held_list p inputs (held_cell h b r)) (from_to 0 h.ranks)) (from_to 0 h.buffers)
 
--- the results of a schedule are those of a description
+-- a schedule is for as many buffers and ranks as a description has, and each of its results is a cell of its plan on the result's rank
 pub record FitsShape (o : Outline) (s : ScheduleOf) : Type 0 where
   pub buffers : s.held.buffers ≡ length o.buffers
   pub ranks : s.plan.ranks ≡ o.ranks

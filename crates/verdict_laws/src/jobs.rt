@@ -63,7 +63,8 @@ pub fn given_job(
     Job::new(alloc, schedule, inputs)
 }
 
-/// The schedule of a given plan in which nothing is at fault is for its description, whose printed buffers its results are.
+/// The schedule of a given plan in which nothing is at fault is for as many buffers as its description has, and as many ranks; each of its
+/// results is a cell of the plan on the result's rank.
 pub fn given_jobs()
     ensures { (o : Outline) (g : Given) (inputs : Lists) → IsWellFormed o → IsFlawless g.plan o g.done g.marks →
         FitsShape o (given_job o g inputs).schedule }

@@ -1,8 +1,8 @@
 //! The answer on a text for all inputs.
 
-ghost use Rattle.std.specs.Prelude.{IfOk};
+ghost use Rattle.std.specs.Prelude.{ℕ, IfOk};
 ghost use Rattle.given_verdicts.specs.Answers.{IsFlawless};
-ghost use Rattle.plan_agreement.specs.Agreement.{Agrees, IsPlanFor, IsShown};
+ghost use Rattle.plan_agreement.specs.Agreement.{Agrees, AreNumbersTried, IsPlanFor, IsShown};
 ghost use Rattle.given_verdicts.specs.general.General.{IsAnsweredFor, IsFound, IsGeneralAnswer};
 
 use crate::general::unknown::on_unknown;
@@ -15,20 +15,15 @@ use ptl_types::NoMemory;
 use std::alloc::Global;
 
 /// The answer where these inputs show of a result that it isn't what is meant.
-fn on_witness(
-    alloc: Global,
-    text: &FlawlessText,
-    mark: u32,
-    inputs: &Inputs,
-) -> Result<GivenAnswer, NoMemory>
+fn on_witness(alloc: Global, text: &FlawlessText, inputs: &Inputs) -> Result<GivenAnswer, NoMemory>
     requires flawless { IsFlawless text.now }
     requires fits { IsPlanFor text.now.given.plan text.now.description.shape }
-    requires shown { IsShown text.now.given.plan text.now.description.shape text.now.given.marks mark inputs.now }
+    requires shown { (i : ℕ) × IsShown text.now.given.plan text.now.description.shape text.now.given.marks i inputs.now }
     ensures { IfOk result (IsFound text.now) }
 {
     match wrong_for(alloc, text, inputs)? {
         Some(WrongResult { line, cause }) => Ok(GivenAnswer::Fails { line, cause }),
-        None => on_unknown(alloc, text, mark, 0),
+        None => unreachable!(),
     }
 }
 
@@ -41,11 +36,12 @@ fn on_agreement(
     requires flawless { IsFlawless text.now }
     requires fits { IsPlanFor text.now.given.plan text.now.description.shape }
     requires found { Agrees text.now.given.plan text.now.description.shape text.now.given.marks found }
+    requires tried { AreNumbersTried text.now.given.plan text.now.description.shape text.now.given.marks found }
     ensures { IfOk result (IsFound text.now) }
 {
     match found {
         Agreement::Same => Ok(GivenAnswer::Holds),
-        Agreement::Differs(mark, inputs) => on_witness(alloc, text, mark, &inputs),
+        Agreement::Differs(_, inputs) => on_witness(alloc, text, &inputs),
         Agreement::Unknown(mark, byte) => on_unknown(alloc, text, mark, byte),
     }
 }
@@ -73,7 +69,8 @@ fn on_flawless(alloc: Global, text: &FlawlessText) -> Result<GivenAnswer, NoMemo
 ///
 /// It is judged as by `judge_text`. Where that shows no flaw, the bytes of the cells follow, and then the lists of the results: the plan
 /// holds where each is computed from the inputs' bytes as it is in the shape's own plan; it fails where inputs were found for which one
-/// is wrong; else it isn't known.
+/// is wrong; else it isn't known of a result, which is what is meant for the inputs of numbered bytes. Where nothing is combined these
+/// tell, and it is known, unless the shape's own plan is refused.
 ///
 /// # Errors
 ///
