@@ -20,7 +20,7 @@ use Rattle.text_notes.specs.declared.notes.note.About.TheVariants.{Fails}
 use Rattle.text_notes.specs.declared.notes.note.Note.{Note}
 use Rattle.text_notes.specs.notes.Notes.{note_text}
 use Rattle.text_notes.specs.notes.Shown.{then_shown}
-use Rattle.text_notes.specs.Places.{IsNamed, Stands, line_at}
+use Rattle.text_notes.specs.Places.{IsNamed, Stands, line_at, line_of_order}
 use Rattle.plan_top.specs.notes.Notes.{Notes}
 use Rattle.plan_top.specs.Explained.{Beside}
 use Rattle.given_top.specs.declared.checking.TheConstants.{LONGEST_PLAN_CHECK}
@@ -78,11 +78,11 @@ pub record IsOrderNote (orders : List ℕ) (lines : ℕ) (IsLine : ℕ → Type 
   pub found : Stands (line_at orders note.line) note
   pub shown : text ≡ note_text (record note { line = whole_line lines note.line })
 
--- what is told of a verdict on orders
+-- what is told of a verdict on orders: of what fails at a rank, with the line of its order
 abbrev pub NotesVerdict : List ℕ → ℕ → Verdict → List ℕ → Type 0
 NotesVerdict orders lines Holds text = text ≡ []
 NotesVerdict orders lines (verdicts.Fails r place cause) text =
-    IsOrderNote orders lines (λ n. Unit {0}) (λ about. about ≡ Fails r place cause) text
+    IsOrderNote orders lines (λ n. n ≡ line_of_order orders r) (λ about. about ≡ Fails r place cause) text
 
 -- orders that fail where the sink's line says it
 abbrev pub BesideVerdict : List ℕ → ℕ → Outflow → Outflow → List ℕ → Type 0

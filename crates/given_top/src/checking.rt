@@ -91,6 +91,7 @@ fn moved(mut note: Note, lines: u32) -> Printable
 
 /// What a person is told of orders that fail; nothing of others.
 fn verdict_note(orders: OrderText, verdict: Verdict) -> Printable
+    requires { length orders.text.now ≤ LONGEST_CHECK }
     ensures { NotesVerdict orders.entry.text.now orders.entry.lines verdict result }
 {
     match verdict {
@@ -109,6 +110,7 @@ fn answer_verdict<K: Sink>(
     sink: &mut K,
     told: &mut Printable,
 ) -> Status
+    requires { length orders.text.now ≤ LONGEST_CHECK }
     ensures written { Written (owed_verdict verdict) (K.outflow sink.old) (K.outflow sink.new) result }
     ensures told { TellsOf (BesideVerdict orders.entry.text.now orders.entry.lines (K.outflow sink.old) (K.outflow sink.new)) result
         told.new }
@@ -146,6 +148,7 @@ fn answer_ordered<K: Sink>(
     requires flawless { IsFlawless found }
     requires at_most { length found.given.plan.links < 2 ^ 26 }
     requires lists { length orders.now ≡ found.given.plan.ranks }
+    requires short { length text.text.now ≤ LONGEST_CHECK }
     ensures checks { Checks (Ordered found orders.now) (K.outflow sink.old) (K.outflow sink.new) result }
     ensures told { TellsOf (BesideVerdict text.entry.text.now text.entry.lines (K.outflow sink.old) (K.outflow sink.new)) result told.new }
 {

@@ -1,5 +1,5 @@
 -- What holds for the text that was read holds for the bytes of the source.
-use Rattle.std.proofs.Common.{◌≡◌, ◌≢◌, ℕ, ◌+◌, ◌≤◌, List, [], length, drop, Option, Some, None, Result, Ok, Err, refl, sym, subst}
+use Rattle.std.proofs.Common.{◌≡◌, ◌≢◌, ℕ, ◌≤◌, List, [], length, Option, Some, None, Result, Ok, Err, refl, sym, subst}
 use Rattle.port_io.specs.Counts.{Rose}
 use Rattle.port_io.specs.Ends.{Inflow, Outflow}
 use Rattle.coll_lang.specs.declared.fault.Refusal.{Refusal}
@@ -20,7 +20,7 @@ use Rattle.portals_top.specs.declared.words.Command.{Command}
 use Rattle.portals_top.specs.declared.words.Command.TheVariants.{Execute, Plan}
 use Rattle.job_runs.specs.declared.modes.Mode.{Mode}
 use Rattle.job_runs.specs.declared.modes.Mode.TheVariants.{Once, Sim, Run, Trace, Steady}
-use Rattle.run_text.specs.Ending.{IsTold, Leaves, MayAnswer, Stands, Written, done, refused}
+use Rattle.run_text.specs.Ending.{IsTold, MayAnswer, Stands, Written, done, refused}
 use Rattle.run_text.specs.Refused.{step_line}
 use Rattle.portals_top.specs.Due.{due, due_chosen, due_compiled, due_described, due_in_mode, due_of, excess_name}
 use Rattle.portals_top.specs.declared.words.Task.{Task}

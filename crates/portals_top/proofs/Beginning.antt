@@ -20,7 +20,7 @@ use Rattle.portals_top.specs.declared.words.Command.TheVariants.{Execute, Plan}
 use Rattle.job_runs.specs.declared.modes.Mode.{Mode}
 use Rattle.job_runs.specs.declared.modes.Mode.TheVariants.{Run}
 use Rattle.portals_top.specs.declared.words.Request.{Request}
-use Rattle.portals_top.specs.declared.words.Request.TheVariants.{Do, Large}
+use Rattle.portals_top.specs.declared.words.Request.TheVariants.{Do}
 use Rattle.portals_top.specs.declared.words.Task.{Task}
 use Rattle.run_text.specs.Ending.{Leaves, Stands, Written, done}
 use Rattle.portals_top.specs.Answered.{Answered, HandsBack, LeavesDescribed, LeavesOf, LeavesWorld}

@@ -1,6 +1,5 @@
 -- What the program owes for its words and the bytes that it is given.
-use Rattle.std.specs.Prelude.{ℕ, ◌+◌, ◌*◌, List, [], ◌∷◌, ◌++◌, length, Option, Some, None, Result, Ok, Err, drop, codes}
-use Rattle.std.specs.Prelude.{if◌then◌else◌}
+use Rattle.std.specs.Prelude.{ℕ, ◌+◌, List, [], ◌∷◌, ◌++◌, Option, Some, None, Result, Ok, Err, drop, codes}
 use Rattle.coll_text.specs.Text.{line}
 use Rattle.coll_shape.specs.Outline.{Outline}
 use Rattle.coll_shape.specs.Meaning.{Lists}
@@ -18,7 +17,7 @@ use Rattle.run_text.specs.Refused.{step_line}
 use Rattle.worlds.specs.World.{WorldState}
 use Rattle.job_runs.specs.Orders.{orders_in}
 use Rattle.plan_choice.specs.World.{ChoiceState}
-use Rattle.run_text.specs.declared.status.Status.TheVariants.{Done, Usage, Refused}
+use Rattle.run_text.specs.declared.status.Status.TheVariants.{Usage}
 use Rattle.job_runs.specs.declared.modes.Mode.{Mode}
 use Rattle.job_runs.specs.declared.modes.Mode.TheVariants.{Once, Sim, Run, Trace, Steady}
 use Rattle.portals_top.specs.declared.words.Command.{Command}

@@ -10,7 +10,7 @@ use Rattle.text_notes.specs.notes.Shown.{IsNote}
 use Rattle.text_notes.specs.declared.notes.note.Note.{Note}
 use Rattle.text_notes.specs.declared.notes.note.About.{About}
 use Rattle.text_notes.specs.declared.notes.note.About.TheVariants as abouts
-use Rattle.text_notes.specs.Places.{IsNamed}
+use Rattle.text_notes.specs.Places.{IsNamed, Stands, line_at, line_of_order}
 use Rattle.note_lines.specs.Said.{Begins, BeginsNotes}
 use Rattle.run_text.specs.Orders.{fails_line}
 use Rattle.run_text.specs.Putting.{Ends}
@@ -30,25 +30,52 @@ answer_to line (abouts.Fails rank place cause) = fails_line rank place cause
 abbrev pub answer_of : Note → List ℕ
 answer_of note = answer_to note.line note.about
 
--- of a refusal there is a note, and its line stands in the sink
+-- it is about a refusal, and not about orders
+abbrev pub IsRefusal : About → Type 0
+IsRefusal (abouts.Refused cause) = Unit {0}
+IsRefusal (abouts.Fails rank place cause) = ⊥
+
+abbrev pub IsOfRefusal : Note → Type 0
+IsOfRefusal note = IsRefusal note.about
+
+-- a note of the line of a rank's order in this text; what it shows stands in its column there
+abbrev pub PointsAtOrder : List ℕ → ℕ → Note → Type 0
+PointsAtOrder bytes rank note = (note.line ≡ line_of_order bytes rank) × (note.path ≡ []) × Stands (line_at bytes note.line) note
+
+-- a note about what fails at a rank points at its order in this text
+abbrev pub IsPlacedBy : List ℕ → About → Note → Type 0
+IsPlacedBy bytes (abouts.Refused cause) note = Unit {0}
+IsPlacedBy bytes (abouts.Fails rank place cause) note = PointsAtOrder bytes rank note
+
+abbrev pub IsPlaced : List ℕ → Note → Type 0
+IsPlaced bytes note = IsPlacedBy bytes note.about note
+
+-- of a refusal, or of orders that fail, there is such a note, and its line stands in the sink
+abbrev pub TellsOf : (Note → Type 0) → Status → Outflow → Outflow → Option Note → Type 0
+TellsOf IsSuch Done sink sink' told = Unit {0}
+TellsOf IsSuch Usage sink sink' told = Unit {0}
+TellsOf IsSuch Refused sink sink' told = IsSomeAnd told (λ note. Ends sink sink' (answer_of note) × IsSuch note)
+TellsOf IsSuch ReadFault sink sink' told = Unit {0}
+TellsOf IsSuch WriteFault sink sink' told = Unit {0}
+TellsOf IsSuch NoMemory sink sink' told = Unit {0}
+
 abbrev pub Tells : Status → Outflow → Outflow → Option Note → Type 0
-Tells Done sink sink' told = Unit {0}
-Tells Usage sink sink' told = Unit {0}
-Tells Refused sink sink' told = IsSomeAnd told (λ note. Ends sink sink' (answer_of note))
-Tells ReadFault sink sink' told = Unit {0}
-Tells WriteFault sink sink' told = Unit {0}
-Tells NoMemory sink sink' told = Unit {0}
+Tells status sink sink' told = TellsOf IsOfRefusal status sink sink' told
 
 -- the same of what one thread does, which leaves nothing of a refusal to workers
-abbrev pub TellsBegun : Begun → Outflow → Outflow → Option Note → Type 0
-TellsBegun (begun.Answered status) sink sink' told = Tells status sink sink' told
-TellsBegun (begun.Run crew job) sink sink' told = Unit {0}
-TellsBegun (begun.Large number workers job) sink sink' told = Unit {0}
+abbrev pub TellsBegunOf : (Note → Type 0) → Begun → Outflow → Outflow → Option Note → Type 0
+TellsBegunOf IsSuch (begun.Answered status) sink sink' told = TellsOf IsSuch status sink sink' told
+TellsBegunOf IsSuch (begun.Run crew job) sink sink' told = Unit {0}
+TellsBegunOf IsSuch (begun.Large number workers job) sink sink' told = Unit {0}
 
--- there is a note of orders that fail
-abbrev pub NotesVerdict : Verdict → Option Note → Type 0
-NotesVerdict Holds told = told ≡ None
-NotesVerdict (Fails r place cause) told = IsSomeAnd told (λ note. note.about ≡ abouts.Fails r place cause)
+abbrev pub TellsBegun : Begun → Outflow → Outflow → Option Note → Type 0
+TellsBegun begun sink sink' told = TellsBegunOf IsOfRefusal begun sink sink' told
+
+-- there is a note of orders in a text that fail
+abbrev pub NotesVerdict : List ℕ → Verdict → Option Note → Type 0
+NotesVerdict bytes Holds told = told ≡ None
+NotesVerdict bytes (Fails r place cause) told =
+    IsSomeAnd told (λ note. (note.about ≡ abouts.Fails r place cause) × PointsAtOrder bytes r note)
 
 -- a note of that line and that name
 abbrev pub Points : ℕ → Refusal → Option Note → Type 0
@@ -77,12 +104,12 @@ Says ReadFault told old new = BeginsNotes old new
 Says WriteFault told old new = BeginsNotes old new
 Says NoMemory told old new = BeginsNotes old new
 
--- What standard error took: nothing beside a result; beside a refusal, or orders that fail, the line of a note of it or a beginning of
--- that line; and else lines of notes or a beginning of them.
-abbrev pub Explained : Status → Outflow → Outflow → Outflow → Outflow → Type 0
-Explained Done sink sink' old new = new ≡ old
-Explained Usage sink sink' old new = BeginsNotes old new
-Explained Refused sink sink' old new = (note : Note) × Ends sink sink' (answer_of note) × SaysNote old new note
-Explained ReadFault sink sink' old new = BeginsNotes old new
-Explained WriteFault sink sink' old new = BeginsNotes old new
-Explained NoMemory sink sink' old new = BeginsNotes old new
+-- What standard error took, where the source has this text: nothing beside a result; beside a refusal, or orders that fail, the line of a
+-- note of it, or a beginning of that line; and else lines of notes or a beginning of them.
+abbrev pub Explained : List ℕ → Status → Outflow → Outflow → Outflow → Outflow → Type 0
+Explained bytes Done sink sink' old new = new ≡ old
+Explained bytes Usage sink sink' old new = BeginsNotes old new
+Explained bytes Refused sink sink' old new = (note : Note) × Ends sink sink' (answer_of note) × IsPlaced bytes note × SaysNote old new note
+Explained bytes ReadFault sink sink' old new = BeginsNotes old new
+Explained bytes WriteFault sink sink' old new = BeginsNotes old new
+Explained bytes NoMemory sink sink' old new = BeginsNotes old new

@@ -3,7 +3,6 @@ use Rattle.std.specs.Prelude.{ℕ, ◌<◌, List, [], ◌∷◌, Option, Some, N
 use Rattle.std.specs.Str.{bytes_eq}
 use Rattle.coll_text.specs.Text.{number_between}
 use Rattle.job_runs.specs.Modes.{HasWorkers, seed_of, workers_of}
-use Rattle.job_runs.specs.declared.modes.Mode.{Mode}
 use Rattle.job_runs.specs.declared.modes.Mode.TheVariants.{Once, Sim, Run, Trace, Steady}
 use Rattle.portals_top.specs.declared.words.Command.{Command}
 use Rattle.portals_top.specs.declared.words.Command.TheVariants.{Execute, Plan}

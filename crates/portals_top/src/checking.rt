@@ -1,13 +1,14 @@
 //! The verdict on given orders.
 
-ghost use Rattle.std.specs.Prelude.{◌≡◌, [], IfOk, Some, length};
+ghost use Rattle.std.specs.Prelude.{◌≡◌, ◌<◌, ◌≤◌, [], IfOk, Some, length};
 ghost use Rattle.coll_shape.specs.Meaning.{AreInputs};
 ghost use Rattle.order_lines.specs.Check.{read_check};
 ghost use Rattle.run_text.specs.Orders.{fails_line};
 ghost use Rattle.run_text.specs.Putting.{EndsWith};
 ghost use Rattle.schedule_compiler.specs.shapes.Footprint.{refusal};
 ghost use Rattle.schedule_compiler.specs.Schedules.{schedule_of};
-ghost use Rattle.portals_top.specs.Explained.{NotesVerdict, Tells};
+ghost use Rattle.order_lines.specs.declared.checking.TheConstants.{LONGEST_CHECK};
+ghost use Rattle.portals_top.specs.Explained.{IsPlaced, NotesVerdict, Tells, TellsOf};
 ghost use Rattle.portals_top.specs.Checked.{FindsFor, FindsIn, IsVerdictOn, Judges, due_checked, due_judged, due_verdict};
 ghost use Rattle.run_text.specs.Ending.{Written};
 
@@ -84,7 +85,8 @@ fn verdict_on(
 
 /// The note of a verdict on the orders of a text.
 fn note_of(text: &[u8], verdict: Verdict) -> Option<Note>
-    ensures { NotesVerdict verdict result }
+    requires { length text.now ≤ LONGEST_CHECK }
+    ensures { NotesVerdict text.now verdict result }
 {
     match verdict {
         Verdict::Holds => None,
@@ -100,8 +102,9 @@ fn answer_verdict<K: Sink>(
     sink: &mut K,
     told: &mut Option<Note>,
 ) -> Status
+    requires short { length text.now ≤ LONGEST_CHECK }
     ensures written { Written (due_verdict (Some verdict)) (K.outflow sink.old) (K.outflow sink.new) result }
-    ensures told { Tells result (K.outflow sink.old) (K.outflow sink.new) told.new }
+    ensures told { TellsOf (IsPlaced text.now) result (K.outflow sink.old) (K.outflow sink.new) told.new }
 {
     let Ok(mut out) = Pieces::open(alloc) else {
         return Status::NoMemory;
@@ -123,9 +126,10 @@ fn compiled<K: Sink>(
     told: &mut Option<Note>,
 ) -> Status
     requires lists { length orders.now ≡ d.shape.ranks }
+    requires short { length text.now ≤ LONGEST_CHECK }
     ensures judged { Judges (λ found. due_judged d.shape found (refusal d.shape))
         (λ found. FindsFor d.shape d.inputs orders.now (refusal d.shape) found) (K.outflow sink.old) (K.outflow sink.new) result }
-    ensures told { Tells result (K.outflow sink.old) (K.outflow sink.new) told.new }
+    ensures told { TellsOf (IsPlaced text.now) result (K.outflow sink.old) (K.outflow sink.new) told.new }
 {
     let (shape, inputs) = d.into_parts();
     match compile(alloc, &shape) {
@@ -146,7 +150,9 @@ pub(crate) fn judged_text<K: Sink>(
 ) -> Status
     ensures judged { Judges (λ found. due_checked found (read_check text.now)) (λ found. FindsIn (read_check text.now) found)
         (K.outflow sink.old) (K.outflow sink.new) result }
-    ensures told { Tells result (K.outflow sink.old) (K.outflow sink.new) told.new }
+    ensures told { TellsOf (IsPlaced text.now) result (K.outflow sink.old) (K.outflow sink.new) told.new }
+    // Of a text that is too long nothing is told of orders.
+    ensures long { LONGEST_CHECK < length text.now → Tells result (K.outflow sink.old) (K.outflow sink.new) told.new }
 {
     match parse_check(alloc, text) {
         Ok((d, orders)) => compiled(alloc, d, &orders, text, sink, told),

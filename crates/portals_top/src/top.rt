@@ -9,7 +9,7 @@ ghost use Rattle.portals_top.specs.Answered.{LeavesDescribed, LeavesOf, LeavesWo
 ghost use Rattle.portals_top.specs.Begun.{Begins, BeginsCall, IsLeft, IsLeftOf, IsLeftOfDescribed};
 ghost use Rattle.portals_top.specs.Checked.{AnswersTo, Checked};
 ghost use Rattle.portals_top.specs.Due.{due, due_compiled, due_described, due_of};
-ghost use Rattle.portals_top.specs.Explained.{Explained, Tells, TellsBegun};
+ghost use Rattle.portals_top.specs.Explained.{Explained, IsPlaced, Tells, TellsBegun, TellsBegunOf, TellsOf};
 ghost use Rattle.portals_top.specs.Formats.{read_as};
 ghost use Rattle.portals_top.specs.Left.{nothing_ran};
 ghost use Rattle.job_runs.specs.Modes.{HasWorkers};
@@ -213,7 +213,8 @@ fn read_and_check<S: Source, K: Sink>(
 ) -> Status
     ensures checked { (bytes : List ℕ) × IsTold (S.inflow source.old).left bytes
         × Checked bytes (S.inflow source.old) (S.inflow source.new) (K.outflow sink.old) (K.outflow sink.new) nothing_ran result }
-    ensures told { Tells result (K.outflow sink.old) (K.outflow sink.new) told.new }
+    ensures told { (bytes : List ℕ) × IsTold (S.inflow source.old).left bytes
+        × TellsOf (IsPlaced bytes) result (K.outflow sink.old) (K.outflow sink.new) told.new }
 {
     match read_text(alloc, LONGEST_CHECK, source) {
         Ok(text) => judged_text(alloc, text.as_slice(), sink, told),
@@ -234,7 +235,8 @@ fn started<R: Threads + Sync, G, S: Source, K: Sink>(
     ensures begun { (bytes : List ℕ) × IsTold (S.inflow source.old).left bytes
         × BeginsCall (request (map string_bytes words.now)) bytes (S.inflow source.old) (S.inflow source.new) (K.outflow sink.old)
         (K.outflow sink.new) ran.new result }
-    ensures told { TellsBegun result (K.outflow sink.old) (K.outflow sink.new) told.new }
+    ensures told { (bytes : List ℕ) × IsTold (S.inflow source.old).left bytes
+        × TellsBegunOf (IsPlaced bytes) result (K.outflow sink.old) (K.outflow sink.new) told.new }
 {
     ran.world = None;
     ran.choice = None;
@@ -287,7 +289,8 @@ fn answered<R: Threads + Wait + Sync, G: Gate, S: Source, K: Sink>(
     ensures answers { (bytes : List ℕ) × IsTold (S.inflow source.old).left bytes
         × AnswersTo (request (map string_bytes words.now)) bytes (S.inflow source.old) (S.inflow source.new) (K.outflow sink.old)
         (K.outflow sink.new) ran.new result }
-    ensures told { Tells result (K.outflow sink.old) (K.outflow sink.new) told.new }
+    ensures told { (bytes : List ℕ) × IsTold (S.inflow source.old).left bytes
+        × TellsOf (IsPlaced bytes) result (K.outflow sink.old) (K.outflow sink.new) told.new }
 {
     match started(host, words, source, sink, ran, told) {
         Begun::Answered(status) => status,
@@ -313,7 +316,8 @@ pub fn run_with_gate<R: Threads + Wait + Sync, G: Gate, S: Source, K: Sink, N: S
     ensures answers { (bytes : List ℕ) × IsTold (S.inflow source.old).left bytes
         × AnswersTo (request (map string_bytes words.now)) bytes (S.inflow source.old) (S.inflow source.new) (K.outflow sink.old)
         (K.outflow sink.new) ran.new result }
-    ensures explained { Explained result (K.outflow sink.old) (K.outflow sink.new) (N.outflow notes.old) (N.outflow notes.new) }
+    ensures explained { (bytes : List ℕ) × IsTold (S.inflow source.old).left bytes
+        × Explained bytes result (K.outflow sink.old) (K.outflow sink.new) (N.outflow notes.old) (N.outflow notes.new) }
 {
     let mut told = None;
     let status = answered(host, words, source, sink, ran, &mut told);
@@ -351,7 +355,8 @@ pub fn portals_main<R: Threads + Wait + Sync, S: Source, K: Sink, N: Sink>(
     ensures answers { (bytes : List ℕ) × IsTold (S.inflow source.old).left bytes
         × AnswersTo (request (map string_bytes words.now)) bytes (S.inflow source.old) (S.inflow source.new) (K.outflow sink.old)
         (K.outflow sink.new) ran.new result }
-    ensures explained { Explained result (K.outflow sink.old) (K.outflow sink.new) (N.outflow notes.old) (N.outflow notes.new) }
+    ensures explained { (bytes : List ℕ) × IsTold (S.inflow source.old).left bytes
+        × Explained bytes result (K.outflow sink.old) (K.outflow sink.new) (N.outflow notes.old) (N.outflow notes.new) }
 {
     run_with_gate(host, words, source, sink, notes, ran)
 }

@@ -1,2 +1,3 @@
+pub mod Checks
 pub mod Cutting
 pub mod Showing

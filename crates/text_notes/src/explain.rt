@@ -4,7 +4,7 @@ ghost use Rattle.std.specs.Prelude.{◌≡◌, ◌≤◌, List, ℕ, [], length}
 ghost use Rattle.text_notes.specs.notes.Causes.{name_of};
 ghost use Rattle.coll_lang.specs.declared.fault.Refusal.TheVariants as names;
 ghost use Rattle.text_notes.specs.declared.notes.note.About.{About};
-ghost use Rattle.text_notes.specs.Places.{IsNamed, Stands, line_at};
+ghost use Rattle.text_notes.specs.Places.{IsNamed, Stands, line_at, line_of_order};
 
 use crate::flaws::{
     excess, group_flaw, header_word, limit, members_of, most_ranks, need, new_name, number_flaw,
@@ -13,13 +13,13 @@ use crate::flaws::{
 use crate::keys::after_key;
 use crate::lines::line_flaw;
 use crate::notes::{About, Cause, FormFlaw, Note, Printable, cut_word};
-use crate::orders::{first_order, order_flaw};
+use crate::orders::order_flaw;
 use crate::places::{strange_place, word_place};
 use crate::standing::{Standing, standing_at};
 use coll_lang::{LONGEST_TEXT, Refusal};
 use coll_shape::Version;
 use coll_text::cut;
-use order_lines::LONGEST_CHECK;
+use order_lines::{LONGEST_CHECK, first_end};
 use ptl_types::{Cause as Failure, Rank};
 
 /// What of a line is to blame.
@@ -227,14 +227,27 @@ pub fn explain_text(bytes: &[u8], number: u32, name: Refusal) -> Note
     blamed_note(number, line, blame, About::Refused(cause))
 }
 
+/// The number of the line of a rank's order. A text that is too long to be read has none: 0.
+fn line_of_order(bytes: &[u8], rank: Rank) -> u32
+    ensures { length bytes.now ≤ LONGEST_CHECK → result ≡ line_of_order bytes.now rank }
+{
+    if bytes.len() > LONGEST_CHECK {
+        0
+    } else {
+        first_end(bytes).1.saturating_add(rank)
+    }
+}
+
 /// The note of orders that fail at a step of a rank: it points at the step's word in the rank's order line.
 pub fn explain_fails(bytes: &[u8], rank: Rank, place: u64, cause: Failure) -> Note
+    // Of a text that is read it is the rank's own line.
+    ensures line { length bytes.now ≤ LONGEST_CHECK → result.line ≡ line_of_order bytes.now rank }
     ensures about { result.about ≡ About.Fails rank place cause }
     ensures path { result.path ≡ [] }
     // What it shows stands in its column of that line.
     ensures stands { Stands (line_at bytes.now result.line) result }
 {
-    let number = first_order(bytes).saturating_add(rank);
+    let number = line_of_order(bytes, rank);
     let line = line_at(bytes, number);
     let word = usize::try_from(place.saturating_add(1)).unwrap_or(usize::MAX);
     let about = About::Fails { rank, place, cause };

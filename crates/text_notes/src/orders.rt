@@ -2,7 +2,7 @@
 
 use crate::notes::OrderFlaw;
 use crate::places::word;
-use coll_text::{Words, cut, is, number_between};
+use coll_text::{Words, is, number_between};
 use ptl_types::Rank;
 
 /// Whether the word is a local step of one of so many ranks.
@@ -33,20 +33,4 @@ pub(crate) fn order_flaw(line: &[u8], ranks: u32, rank: Rank) -> (usize, OrderFl
         number = number.saturating_add(1);
     }
     (2, OrderFlaw::NoStep { ranks })
-}
-
-/// The number of the line after the first line `end`.
-pub(crate) fn first_order(bytes: &[u8]) -> u32 {
-    let mut rest = bytes;
-    let mut number = 1u32;
-    loop {
-        let (line, Some(later)) = cut(rest, b'\n') else {
-            return number;
-        };
-        number = number.saturating_add(1);
-        if is(line, b"end") {
-            return number;
-        }
-        rest = later;
-    }
 }

@@ -2,9 +2,13 @@ use Rattle.std.proofs.Common.{ℕ, ◌∙◌, ap, subst, sym}
 use Rattle.coll_shape.specs.Outline.{Outline}
 use Rattle.plan_core.specs.Plan.{Plan}
 use Rattle.text_notes.specs.Places.{Stands, line_at}
+use Rattle.text_notes.proofs.Checks.{short_check}
 use Rattle.given_top.proofs.Beside.{orders_tells, refused_tells, unlike_tells}
 use Rattle.given_top.proofs.Checks.{orders_read, orders_unlike, told}
 use Rattle.given_top.proofs.checking.answer_orders.Goals as goal
+
+pub answer_ordered-requires-clause-short : goal.answer_ordered-requires-clause-short
+answer_ordered-requires-clause-short g c = short_check _ _ c.in-Ok.ensures.exact
 
 pub returns-then-ranks : goal.returns-then-ranks
 returns-then-ranks g c =

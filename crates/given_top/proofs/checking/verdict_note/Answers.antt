@@ -5,7 +5,7 @@ returns-in-Fails c =
     rw c.in-Fails.is
     (record {
       note = c.explain_fails.result;
-      line = tt;
+      line = c.explain_fails.ensures.line c.requires;
       about = c.explain_fails.ensures.about;
       path = c.explain_fails.ensures.path;
       found = c.explain_fails.ensures.stands;

@@ -5,7 +5,7 @@ use Rattle.portals_top.proofs.checking.answer_verdict.Goals as goal
 pub returns-in-Ok-write_verdict : goal.returns-in-Ok-write_verdict
 returns-in-Ok-write_verdict g c = record {
   written = verdict-written c.args.verdict _ _ _ c.status_of.ensures c.in-Ok-write_verdict.ensures;
-  told = verdict_tells c.args.verdict _ _ _ _ c.status_of.ensures c.in-Ok-write_verdict.ensures c.note_of.ensures;
+  told = verdict_tells c.args.text.now c.args.verdict _ _ _ _ c.status_of.ensures c.in-Ok-write_verdict.ensures c.note_of.ensures;
 }
 
 pub returns : goal.returns

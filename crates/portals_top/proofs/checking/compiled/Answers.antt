@@ -1,6 +1,7 @@
 use Rattle.std.proofs.Common.{None}
 use Rattle.portals_top.specs.declared.words.Command.TheVariants.{Plan}
 use Rattle.portals_top.proofs.Judging.{judged-compiled, judged-no_memory, judged-refused, judged-verdict}
+use Rattle.portals_top.proofs.Telling.{tells_placed}
 use Rattle.portals_top.proofs.checking.compiled.Goals as goal
 
 pub returns-in-Ok-verdict_on : goal.returns-in-Ok-verdict_on
@@ -28,5 +29,5 @@ returns g c =
       judged = rw (← c.into_parts-shape.ensures.shape, ← c.into_parts-shape.ensures.inputs)
           (judged-refused _ _ c.args.orders.now _ Plan c.args.d.inputs None _ _ _
           (c.refuse_plan.ensures.written Plan c.args.d.inputs None) c.refuse_plan.ensures.memory);
-      told = c.refuse_plan.ensures.told;
+      told = tells_placed c.args.text.now c.refuse_plan.result _ _ _ c.refuse_plan.ensures.told;
     }

@@ -1,3 +1,4 @@
+use Rattle.portals_top.specs.Explained.{IsPlaced}
 use Rattle.portals_top.proofs.Beginning.{answered-large, answered-left}
 use Rattle.portals_top.proofs.Telling.{done_tells_since}
 use Rattle.portals_top.proofs.top.answered.Goals as goal
@@ -13,7 +14,7 @@ returns-in-Run g c =
     let b = rw c.in-Run.is at c.started.ensures.begun in
     record {
       answers = (b.0, b.1, answered-left _ _ _ _ _ _ _ _ _ _ _ b.2.0 b.2.1 c.run.ensures.written c.run.ensures.world);
-      told = done_tells_since _ _ _ _ _ _ _ c.run.ensures.written;
+      told = (b.0, b.1, done_tells_since (IsPlaced b.0) _ _ _ _ _ _ _ c.run.ensures.written);
     }
 
 pub returns-in-Large : goal.returns-in-Large
@@ -21,5 +22,5 @@ returns-in-Large g c =
     let b = rw c.in-Large.is at c.started.ensures.begun in
     record {
       answers = (b.0, b.1, answered-large _ _ _ _ _ _ _ _ _ _ _ _ b.2.0 b.2.1 c.large.ensures.written c.large.ensures.world);
-      told = done_tells_since _ _ _ _ _ _ _ c.large.ensures.written;
+      told = (b.0, b.1, done_tells_since (IsPlaced b.0) _ _ _ _ _ _ _ c.large.ensures.written);
     }
