@@ -10,6 +10,10 @@ use std::test::*;
 /// A description of one rank, one that is refused in its fifth line, and one of two ranks.
 const ONE_RANK: &str = "coll 1\nranks 1\ninput a u8 2\n7 9\nprint a\nend\n";
 
+const REFUSED: &str = "coll 1\nranks 1\ninput a u8 1\n7\n9\nprint a\nend\n";
+
+const BARRIER: &str = "coll 1\nranks 2\nbarrier\nend\n";
+
 /// A plan for the first that has a cell more than its own plan, and one whose second cell waits for a link that isn't there.
 const PLAN: &str =
     "plan 1 3 2 local\ncell 0 0 u8 - 0 1\ncell 1 0 u8 - 2 1\ncell 2 0 u8 - 0 1\nlink 0 0 0 0 1 0 bump\nlink 1 1 0 0 2 0 \
@@ -17,10 +21,6 @@ bump\ndone 0 3\nresult a 0 1\nend\n";
 
 const FLAWED: &str =
     "plan 1 2 1 local\ncell 0 0 u8 - 0 1\ncell 1 0 u8 - 2 2\nlink 0 0 0 0 1 0 bump\ndone 0 2\nresult a 0 1\nend\n";
-
-const REFUSED: &str = "coll 1\nranks 1\ninput a u8 1\n7\n9\nprint a\nend\n";
-
-const BARRIER: &str = "coll 1\nranks 2\nbarrier\nend\n";
 
 /// The mark of the start, and of the end.
 const MARK: &[u8] = &[255, 255, 255, 255, 0, 0, 0, 0];
@@ -149,5 +149,9 @@ fn a_read_that_fails_is_told(rt: HostRuntime) -> Result<(), Fail> {
     let ended = rank_main(rt.alloc(), &[], &mut source, &mut sink, &mut notes);
     assert_eq!(rt; ended.number(), 4);
     assert!(rt; sink.as_slice().is_empty());
+    assert_eq!(rt;
+        notes.as_slice(),
+        "standard input failed, or ended before the rank did\n".as_bytes()
+    );
     Ok(())
 }

@@ -176,7 +176,8 @@ def main(program, logs, changes, calls="120"):
     with ThreadPoolExecutor(4) as pool:
         texts = list(pool.map(lambda seed: filled(program, seed, int(calls)), range(1, int(logs) + 1)))
         found = list(pool.map(lambda seed: tried(program, *texts[seed % len(texts)][:2], seed), range(int(changes))))
-    print(f"{logs} logs conform, {sum(text[2] for text in texts)} calls; of {changes} with one changed answer {found.count('differs')} differ,")
+    calls, differ = sum(text[2] for text in texts), found.count("differs")
+    print(f"{logs} logs conform, {calls} calls; of {changes} with one changed answer {differ} differ,")
     print(f"{found.count('refused')} are refused, and in {found.count('free')} a device is free")
 
 

@@ -1,5 +1,5 @@
 #!/usr/bin/env python3
-"""A device in Python, written from docs/PROFILE.md alone, and 35 that break one rule each.
+"""A device in Python, written from docs/PROFILE.md alone, and 41 that break one rule each.
 
     device.py [RULE] < LOG                 makes the calls of a log, and prints them with its own answers; the log gives names alone
     device.py --judge PORTALS_LOG          the device and each broken one make the calls of each log beside this file; portals_log judges
@@ -22,14 +22,17 @@ HIDES = {"hide_link": ("link",), "hide_unlink": ("auto_unlink", "auto_free"), "h
          "hide_overflow": ("put_overflow", "atomic_overflow"), "hide_send": ("send",)}
 RULES = """
 a_conditional_swap_never_swaps a_dropped_message_moves_the_offset a_full_queue_loses_the_oldest a_full_table_comes_before_a_stale_handle
-a_handle_comes_back a_local_entry_takes_the_offset_of_the_message a_loss_is_never_told a_use_once_entry_stays a_violation_unlinks
+a_handle_comes_back a_local_entry_takes_the_offset_of_the_message a_loss_is_never_told a_use_once_entry_stays
+a_use_once_local_entry_waits_for_min_free a_violation_unlinks
 an_answer_has_the_length_that_was_asked an_answer_has_the_offset_of_the_message an_append_takes_the_youngest_header
-auto_free_comes_early auto_free_goes_by_the_taker cancels_one_operation delivers_beyond_the_end each_start_counts
+auto_free_comes_early auto_free_goes_by_the_taker bytes_are_read_as_it_is_posted cancels_one_operation delivers_beyond_the_end
+each_acknowledgement_raises_an_event each_start_counts
 failures_are_counted_first failures_are_hidden_as_successes gets_search_the_overflow_list headers_have_no_limit
-hidden_events_are_lost min_free_is_not_looked_at overflow_deliveries_raise_events ready_one_below_the_threshold
-releases_what_awaits_an_answer the_last_entry_is_the_first the_overflow_list_is_first the_sending_half_awaits_the_reply
+hidden_events_are_lost min_free_is_not_looked_at overflow_deliveries_are_not_counted overflow_deliveries_raise_events
+ready_one_below_the_threshold
+releases_what_awaits_an_answer swaps_raise_atomic the_last_entry_is_the_first the_overflow_list_is_first the_sending_half_awaits_the_reply
 the_signed_least_is_the_unsigned thresholds_count_successes_alone truncates_where_it_is_forbidden unlinks_at_min_free
-what_is_hidden_is_not_counted writes_parts_of_elements
+what_fires_awaits_no_answer what_is_hidden_is_not_counted writes_parts_of_elements
 """.split()
 
 
@@ -282,6 +285,8 @@ class Interface:
         spent = "local" in entry.flags and (left <= entry.min_free if self.breaks("unlinks_at_min_free") else left < entry.min_free)
         if self.breaks("min_free_is_not_looked_at"):
             spent = False
+        if "local" in entry.flags and self.breaks("a_use_once_local_entry_waits_for_min_free"):
+            return spent
         return spent or "once" in entry.flags and not self.breaks("a_use_once_entry_stays")
 
     def deliver(self, message):
@@ -304,8 +309,10 @@ class Interface:
         place, delivered = self.place(entry, message)
         old = bytes(self.memory[place : place + delivered])
         self.memory[place : place + delivered] = self.written(message, old)
-        kind = "fetch_atomic" if message.kind == "swap" else message.kind
-        if self.counts(entry, "comm", kind):
+        kind = message.kind
+        if kind == "swap":
+            kind = "atomic" if self.breaks("swaps_raise_atomic") else "fetch_atomic"
+        if self.counts(entry, "comm", kind) and not (name == "overflow" and self.breaks("overflow_deliveries_are_not_counted")):
             self.count(entry.ct, 1, 0)
         entry.running += delivered if "local" in entry.flags else 0
         header = Thing(message=message, entry=entry, place=place, delivered=delivered)
@@ -328,7 +335,7 @@ class Interface:
             self.memory[at : at + length] = message.bytes
         if self.counts(md, message.kind, message.kind, message.ok):
             self.count(md.ct, int(message.ok), int(not message.ok))
-        if message.kind == "reply" or message.ack == "full":
+        if message.kind == "reply" or message.ack == "full" or self.breaks("each_acknowledgement_raises_an_event"):
             place = at if message.kind == "reply" and length else 0
             self.raised(md, md.queue, message.kind, source=message.source, pt=message.pt, bits=message.bits, data=message.data,
                         delivered=message.length, place=place, ok=message.ok)
@@ -360,6 +367,10 @@ class Interface:
         back = deed.kind in FETCHING and deed.back_offset + deed.length > deed.back.length
         return deed.at + deed.length > deed.md.length or back
 
+    def bytes_of(self, deed):
+        at = deed.md.start + deed.at
+        return b"" if deed.kind == "get" else bytes(self.memory[at : at + deed.length])
+
     def start(self, deed):
         """The message."""
         md, fetches = deed.md, deed.kind in FETCHING
@@ -367,7 +378,7 @@ class Interface:
         if fetches and self.breaks("the_sending_half_awaits_the_reply"):
             home = md
         home_offset = deed.back_offset if fetches else deed.at if deed.kind == "get" else 0
-        data = b"" if deed.kind == "get" else bytes(self.memory[md.start + deed.at : md.start + deed.at + deed.length])
+        data = self.bytes_of(deed) if deed.posted is None else deed.posted
         if md.ct and self.breaks("each_start_counts") or self.counts(md, "send", "send"):
             self.count(md.ct, 1, 0)
         self.raised(md, md.queue, "send", source=self.rank, pt=deed.pt, bits=deed.bits, data=deed.data, requested=deed.length)
@@ -395,7 +406,10 @@ class Interface:
         elif deed.kind == "set":
             deed.ct.count = list(deed.by)
         else:
-            return self.start(deed)
+            message = self.start(deed)
+            if message.home and self.breaks("what_fires_awaits_no_answer"):
+                message.home.awaits -= 1
+            return message
         return None
 
 
@@ -623,7 +637,8 @@ class Device:
         return Thing(kind=kind, md=ni.named("md", words[0]), at=amount("offset"), length=number(length), target=number(target),
                      pt=number(pt), bits=number(bits), offset=number(offset), data=amount("data"), ack=fields.get("ack", "none"),
                      type=element, op=op if kind != "swap" else None, swap=op if kind == "swap" else None, operand=amount("operand"),
-                     back=ni.named("md", fields.get("back")), back_offset=amount("back_offset"), half=half)
+                     back=ni.named("md", fields.get("back")), back_offset=amount("back_offset"), half=half,
+                     posted=None)
 
     def started(self, ni, kind, words, fields, name):
         deed = self.deed_of(ni, kind, words, fields)
@@ -638,6 +653,8 @@ class Device:
         refuse((ct is None or ni.stale(deed), "Stale"))
         full = deed.kind in ("inc", "set") and sum(deed.by) > TOP
         refuse((len(ni.waiting) >= ni.limits["triggered"], "NoSpace"), (ni.outside(deed), "OutOfRegion"), (full, "CountFull"))
+        if deed.kind in STARTS and ni.breaks("bytes_are_read_as_it_is_posted"):
+            deed.posted = ni.bytes_of(deed)
         ni.waiting.append(Thing(word=words[0], ct=ct, threshold=number(words[2]), deed=deed))
         return "ok"
 
