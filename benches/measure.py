@@ -1,6 +1,7 @@
 """Measures the built program beside programs in plain Rust that do the same work: `measure.sh` builds those and calls this.
 
-usage: measure.py PLAIN_FOLDER [RUNS]. It is run at the top of the repository; PORTALS_RUN names another program.
+usage: measure.py PLAIN_FOLDER [RUNS]. It is run at the top of the repository; PORTALS_RUN names another program. The status is 1 where both
+programs write different texts, or a run ends with another status than is due.
 """
 
 import os
@@ -11,6 +12,7 @@ import tempfile
 
 PROGRAM = os.environ.get("PORTALS_RUN", "crates/portals_run/out/portals_run")
 MEANING = "crates/small_programs/out/small_programs"
+REFUSED = 3
 
 
 def lines(*texts):
@@ -38,33 +40,37 @@ def values(*steps):
 
 
 def cases(plain):
-    """Names, words of the built program, words of the plain one, and texts."""
+    """Names, words of the built program, words of the plain one, texts, and the status that both end with."""
     plan, world = f"{plain}/plain_plan", f"{plain}/plain_world"
-    yield "read 1 MB", ["plan"], [plan], values("nothing")
-    yield "plan, 60 allgathers", ["plan"], [plan], allgathers()
-    yield "plan, 64 groups", ["plan"], [plan], groups()
+    yield "read 1 MB", ["plan"], [plan], values("nothing"), REFUSED
+    yield "plan, 60 allgathers", ["plan"], [plan], allgathers(), 0
+    yield "plan, 64 groups", ["plan"], [plan], groups(), 0
     worlds = {
         "60 allgathers": allgathers("print b59"),
         "allreduce": values("allreduce sum a b", "print b", "end"),
         "barrier on 256": lines("coll 2", "ranks 256", "barrier", "end"),
     }
     for name, text in worlds.items():
-        yield f"once, {name}", ["once"], [world, "once"], text
-        yield f"sim 1, {name}", ["sim", "1"], [world, "sim", "1"], text
+        yield f"once, {name}", ["once"], [world, "once"], text, 0
+        yield f"sim 1, {name}", ["sim", "1"], [world, "sim", "1"], text, 0
 
 
 def output(words, text):
+    """What one run writes, and its status."""
     with open(text, "rb") as source:
-        return subprocess.run(words, stdin=source, capture_output=True).stdout
+        ran = subprocess.run(words, stdin=source, capture_output=True)
+    return ran.stdout, ran.returncode
 
 
-def seconds(words, text):
-    """The processor time of one run."""
+def seconds(words, text, status):
+    """The processor time of one run, which has to end with the status."""
     with open(text, "rb") as source, open(os.devnull, "wb") as sink:
         started = subprocess.Popen(words, stdin=source, stdout=sink)
-        _, _, usage = os.wait4(started.pid, 0)
-        started.returncode = 0
-        return usage.ru_utime + usage.ru_stime
+        _, ended, usage = os.wait4(started.pid, 0)
+    started.returncode = os.waitstatus_to_exitcode(ended)
+    if started.returncode != status:
+        sys.exit(f"{' '.join(words)} ended with {started.returncode}, not {status}")
+    return usage.ru_utime + usage.ru_stime
 
 
 def megabytes(words, text):
@@ -74,15 +80,17 @@ def megabytes(words, text):
     return int(told.split()[-1]) / 1024
 
 
-def compare(name, built, plain, text, runs):
+def compare(name, built, plain, text, runs, status):
+    """Writes a row; whether both programs write the same."""
     if output(built, text) != output(plain, text):
         print(f"{name}: THE OUTPUTS DIFFER")
-        return
-    times = [(seconds(built, text), seconds(plain, text)) for _ in range(runs)]
+        return False
+    times = [(seconds(built, text, status), seconds(plain, text, status)) for _ in range(runs)]
     (a, b), (x, y) = map(min, zip(*times)), map(statistics.median, zip(*times))
     m, n = megabytes(built, text), megabytes(plain, text)
     row = [a, b, a / b, x, y, x / y, m, n, m / n] if b and y else [a, b, 0, x, y, 0, m, n, m / n]
     print(f"{name:24}" + " ".join(f"{value:8.3f}" for value in row[:6]) + " ".join(f"{value:8.1f}" for value in row[6:]))
+    return True
 
 
 def main():
@@ -90,16 +98,18 @@ def main():
     runs = int(sys.argv[2]) if len(sys.argv) > 2 else 9
     columns = ["least", "plain", "ratio", "median", "plain", "ratio", "MB", "plain", "ratio"]
     print(f"{'':24}" + " ".join(f"{column:>8}" for column in columns))
+    same = True
     with tempfile.TemporaryDirectory() as folder:
         text = f"{folder}/text.coll"
-        for name, words, plain_words, description in cases(plain):
+        for name, words, plain_words, description, status in cases(plain):
             with open(text, "w") as sink:
                 sink.write(description)
-            compare(name, [PROGRAM, *words], plain_words, text, runs)
+            same &= compare(name, [PROGRAM, *words], plain_words, text, runs, status)
         if os.path.exists(MEANING):
             cells = (1 + 2 * 31) * 64 * 4096 * 8 / 2**20
             peak = megabytes([MEANING, "meaning"], os.devnull)
             print(f"meaning: {peak:.1f} MB, {peak / cells:.2f} times the {cells:.0f} MB of its cells")
+    sys.exit(0 if same else 1)
 
 
 if __name__ == "__main__":

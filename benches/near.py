@@ -3,7 +3,8 @@
 usage: near.py [RUNS]         times and greatest memory, medians of so many runs (9)
        near.py check [SEEDS]  whether both write the same: `once`, and `sim X` for so many seeds (5), of more texts
 
-It is run at the top of the repository; PORTALS_RUN names another program. It needs rustc and /usr/bin/time.
+It is run at the top of the repository; PORTALS_RUN names another program. It needs rustc and /usr/bin/time. The status is 1 where both
+programs write different texts, or a run that is measured ends with another status than 0.
 """
 
 import glob
@@ -82,6 +83,7 @@ def measure(near, folder, runs):
     columns = ["cpu s", "near", "ratio", "clock s", "near", "ratio", "MB", "near", "ratio"]
     print(f"{'':30}" + " ".join(f"{column:>8}" for column in columns))
     text = f"{folder}/text.coll"
+    same = True
     for name, description in texts().items():
         with open(text, "w") as sink:
             sink.write(description)
@@ -90,12 +92,14 @@ def measure(near, folder, runs):
             title = f"{' '.join(words)}, {name}"
             if output(both[0], text) != output(both[1], text):
                 print(f"{title}: THE OUTPUTS DIFFER")
+                same = False
                 continue
             times = [[seconds(program, text) for program in both] for _ in range(runs)]
             memory = [[megabytes(program, text) for program in both] for _ in range(min(3, runs))]
             cpu, clock = ([[time[i] for time in each] for each in times] for i in range(2))
             row = [f"{value:8.3f}" for value in pairs(cpu) + pairs(clock)] + [f"{value:8.2f}" for value in pairs(memory)]
             print(f"{title:30}" + " ".join(row), flush=True)
+    return same
 
 
 def check(near, folder, seeds):
@@ -119,8 +123,10 @@ def main():
     with tempfile.TemporaryDirectory() as folder:
         near = build(folder)
         if words[:1] == ["check"]:
-            sys.exit(0 if check(near, folder, int(words[1]) if words[1:] else 5) else 1)
-        measure(near, folder, int(words[0]) if words else 9)
+            same = check(near, folder, int(words[1]) if words[1:] else 5)
+        else:
+            same = measure(near, folder, int(words[0]) if words else 9)
+    sys.exit(0 if same else 1)
 
 
 if __name__ == "__main__":

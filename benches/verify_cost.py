@@ -43,9 +43,9 @@ class Given:
         return "".join(out) + "end\n"
 
 
-def one_input(ranks, count, steps="", prints="print a\n"):
+def one_input(ranks, count, steps="", prints="print a\n", kind="u8"):
     data = (" ".join(["1"] * count) + "\n") * ranks
-    return f"coll 2\nranks {ranks}\ninput a u8 {count}\n{data}{steps}{prints}end\n"
+    return f"coll 2\nranks {ranks}\ninput a {kind} {count}\n{data}{steps}{prints}end\n"
 
 
 def begun(ranks, count, steps=""):
@@ -261,6 +261,14 @@ def ordered_folds():
     return g.text()
 
 
+def scans(ranks, kind, count):
+    """A description: 28 scans, each of what the one before it gave."""
+    steps = "".join(f"scan sum {f'b{n - 1}' if n else 'a'} b{n}\n" for n in range(28))
+    return one_input(ranks, count, steps, "print b27\n", kind)
+
+
+# descriptions, whose plans the program draws
+DRAWN = {"scans": (126, "u8", 4096), "scans_of_words": (64, "u64", 512)}
 KINDS = [digits, blank, spaces, digits_in_a_plan, blank_after_a_plan, words_in_a_plan, enters, cells, links, links_that_overlap, barriers,
          barriers_far, barriers_twice, bytes_put, bytes_combined, bytes_carried, falling, folds, ordered_folds]
 
@@ -290,11 +298,14 @@ def row(name, text, *forms):
         print(f"{name:<22}{' '.join(words[1:]):<14}{len(text) / 1e6:7.1f} MB{seconds:8.2f} s{megabytes:7.0f} MB  {said}", flush=True)
 
 
+def drawn(program, text):
+    return text + subprocess.run([program, "draw"], input=text, stdout=subprocess.PIPE, text=True, check=True).stdout
+
+
 def allgathers(program, portals_run):
     text = one_input(64, 1, "".join(f"allgather a b{n}\n" for n in range(60)), "print a\n" + "".join(f"print b{n}\n" for n in range(60)))
     row("60 allgathers", text, [portals_run, "plan"])
-    drawn = subprocess.run([program, "draw"], input=text, stdout=subprocess.PIPE, text=True, check=True).stdout
-    row("60 allgathers", text + drawn, [program, "verify"], [program, "verify", "given"])
+    row("60 allgathers", drawn(program, text), [program, "verify"], [program, "verify", "given"])
 
 
 def main():
@@ -304,6 +315,9 @@ def main():
     for kind in KINDS:
         if not wanted or kind.__name__ in wanted:
             row(kind.__name__, kind(), [program, "verify"], [program, "verify", "given"])
+    for name, asked in DRAWN.items():
+        if not wanted or name in wanted:
+            row(name, drawn(program, scans(*asked)), [program, "verify"], [program, "verify", "given"])
 
 
 if __name__ == "__main__":

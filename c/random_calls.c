@@ -2,7 +2,8 @@
  *
  *     random_calls [SEED [CALLS]]
  *
- * `c/random_calls SCRIPTS` has `portals_log judge` say of each such log whether the interface of the crates would have answered so. */
+ * `c/random_calls PORTALS_LOG SCRIPTS [FOLDER]` has `portals_log judge` say of each such log whether the interface of the crates would have
+ * answered so. */
 #include "sinfreddy.h"
 #include <inttypes.h>
 #include <stdio.h>

@@ -92,7 +92,8 @@ def lines(ranks, cells, links, numbers):
         target = links[number][1]
         yield f"path {target} rank {cells[target]} time {found.reached[target]} link {number} bytes {links[number][2]} {said(row)}"
     between = [length for source, target, length, _ in links if cells[source] != cells[target]]
-    yield f"total {found.reached[end]} messages {len(between)} bytes {sum(between)} {said([sum(row) for row in zip([0] * len(SPENT), *rows)])}"
+    sums = [sum(row) for row in zip([0] * len(SPENT), *rows)]
+    yield f"total {found.reached[end]} messages {len(between)} bytes {sum(between)} {said(sums)}"
 
 
 def read(text):

@@ -2,6 +2,7 @@
 
 A program beside this file makes a plan by these calls, in an order in which each cell is made after those that it gets bytes from.
 Lengths and offsets are in bytes."""
+import os
 import sys
 
 WIDTH = {"u8": 1, "i8": 1, "u16": 2, "i16": 2, "u32": 4, "i32": 4, "u64": 8, "i64": 8}
@@ -65,7 +66,8 @@ class Plan:
         for number, (rank, kind, op, length) in enumerate(self.cells):
             done[rank] += 1
             yield f"cell {number} {rank} {kind} {op} {length} {needs[number]}"
-        for number, (target, source, start, length, to, what) in enumerate(self.links if self.turned else sorted(self.links, key=lambda link: link[0])):
+        links = self.links if self.turned else sorted(self.links, key=lambda link: link[0])
+        for number, (target, source, start, length, to, what) in enumerate(links):
             yield f"link {number} {source} {start} {length} {target} {to} {what}"
         for rank in range(self.ranks):
             yield f"done {rank} {done[rank]}"
@@ -85,6 +87,11 @@ class Plan:
         for rank in range(self.ranks):
             print(*((rank * 37 + place * 11 + 5) % (10 if asked else 100) for place in range(self.count)))
         print(*steps, "end", *self.lines(needs), sep="\n")
+
+
+def generators():
+    """The names of the programs beside this file that write plans."""
+    return sorted(name[:-3] for name in os.listdir(os.path.dirname(os.path.abspath(__file__))) if "_" in name and name.endswith(".py"))
 
 
 asked = int(sys.argv[2]) if len(sys.argv) == 3 and sys.argv[2].isdigit() else 0

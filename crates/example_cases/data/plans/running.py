@@ -1,7 +1,5 @@
 """What a description means and what a plan does in one order of its steps, in few words and apart from the programs of this repository:
-`mutants` holds `portals_plan` against it. It reads texts that are right (docs/LANGUAGE.md, docs/PLANS.md)."""
-import random
-
+`check_plans` and `try_forms` hold `portals_plan` against it. It reads texts that are right (docs/LANGUAGE.md, docs/PLANS.md)."""
 WIDTH = {"u8": 1, "i8": 1, "u16": 2, "i16": 2, "u32": 4, "i32": 4, "u64": 8, "i64": 8}
 LEAST = {kind: -(1 << 8 * width - 1) if kind[0] == "i" else 0 for kind, width in WIDTH.items()}
 MOST = {kind: (1 << 8 * width - (kind[0] == "i")) - 1 for kind, width in WIDTH.items()}
@@ -53,11 +51,6 @@ class Description:
             elif words[0] not in ("coll", "complete", "end"):
                 on = words.pop(0) == "on" and self.groups[words.pop(0)] if words[0] == "on" else list(range(self.ranks))
                 self.steps.append((on, words))
-
-    def shuffled(self, chance):
-        """Other numbers in its inputs, of the same types."""
-        pick = lambda kind: chance.choice([LEAST[kind], MOST[kind], 0, 1, chance.randint(LEAST[kind], MOST[kind])])
-        self.inputs = [(name, kind, [[pick(kind) for _ in row] for row in rows]) for name, kind, rows in self.inputs]
 
     def meaning(self):
         """For each buffer its type and the list at each rank that holds one."""
@@ -218,7 +211,8 @@ class Run:
         self.raised(rank)
 
     def to_rest(self):
-        """Makes steps in a random order until none is left, and tells what is wrong then, or None. Some ranks begin when nothing else goes."""
+        """Makes steps in a random order until none is left, and tells what is wrong then, or None. Some ranks begin when nothing else
+        goes."""
         while True:
             steps = [(self.begun, rank) for rank in self.asleep - self.late]
             steps += [(self.delivered, pair) for pair, lane in self.lanes.items() if lane]
@@ -235,19 +229,3 @@ class Run:
         place = self.chance.randrange(len(self.ready))
         self.ready[place], self.ready[-1] = self.ready[-1], self.ready[place]
         self.fired(self.ready.pop())
-
-
-def wrong(given, description, meaning, chance):
-    """What one random order of a plan's steps ends with that isn't right, or None."""
-    run = Run(given, description, chance)
-    fault = run.to_rest()
-    if fault:
-        return fault
-    if run.told != given.done:
-        return f"done counters {run.told}"
-    for name in description.prints:
-        kind, lists = meaning[name]
-        for rank, values in lists.items():
-            if (name, rank) not in given.results or elements(run.memory[given.results[name, rank]], kind) != values:
-                return f"{name} at rank {rank}"
-    return None
