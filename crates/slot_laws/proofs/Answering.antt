@@ -35,7 +35,7 @@ use Rattle.slot_laws.specs.Renamed.{renamed_message}
 use Rattle.slot_laws.specs.Naming.{renamed_flights}
 use Rattle.slot_laws.specs.Told.{KnowsAlike, HoldsOfNamed, renamed_owed, renaming_of}
 use Rattle.slot_laws.specs.Alike.{AftersAlike, IsConsistentAfter, AlikeButEntries, SeatsAlike}
-use Rattle.slot_laws.specs.Scenes.{AllAlike, AreRenamings, CamesAlike, Renamings, ScenesAlike, at}
+use Rattle.slot_laws.proofs.terms.Scenes.{AllAlike, AreRenamings, CamesAlike, Renamings, ScenesAlike, at}
 use Rattle.slot_laws.proofs.Comparing.{found_alike, owed_text_alike}
 use Rattle.slot_laws.proofs.Firing.{ready_numbers_renamed}
 use Rattle.slot_laws.proofs.Knowing.{answering_alike, operations_alike}

@@ -33,7 +33,7 @@ use Rattle.ni_model.specs.Calls.{ends_by, me_append, me_search, me_unlink, new_i
 use Rattle.slot_laws.specs.Renaming.{IsRenaming, Renaming}
 use Rattle.slot_laws.specs.Renamed.{renamed, renamed_appended, renamed_entry, renamed_index, renamed_indexed, renamed_indices}
 use Rattle.slot_laws.specs.Renamed.{renamed_linked, renamed_parts, renamed_side, renamed_things, renamed_unexpected}
-use Rattle.slot_laws.specs.Answered.{renamed_appends, renamed_done, renamed_result, renamed_searched}
+use Rattle.slot_laws.proofs.terms.Answered.{renamed_appends, renamed_done, renamed_result, renamed_searched}
 use Rattle.slot_laws.proofs.Base.{is_live_or_none_renamed, mapped_twice, where_set_renamed}
 use Rattle.slot_laws.proofs.Ending.{ends_by_as, ends_by_same}
 use Rattle.slot_laws.proofs.Telling.{counted_renamed}

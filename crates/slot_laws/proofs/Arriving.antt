@@ -35,7 +35,7 @@ use Rattle.slot_laws.specs.Renaming.{IsRenaming, KeepsApart, Renaming}
 use Rattle.slot_laws.specs.Renamed.{renamed_header, renamed_headers, renamed_index, renamed_indexed, renamed_indices, renamed_linked}
 use Rattle.slot_laws.specs.Renamed.{renamed_message}
 use Rattle.slot_laws.specs.Renamed.{renamed_parts, renamed_things}
-use Rattle.slot_laws.specs.Received.{renamed_found, renamed_received}
+use Rattle.slot_laws.proofs.terms.Received.{renamed_found, renamed_received}
 use Rattle.slot_laws.proofs.Base.{find_mapped, where_set_renamed}
 use Rattle.slot_laws.proofs.Indices.{advanced_renamed, index_at_renamed, queue_of_renamed, unlinked_renamed, with_list_renamed}
 use Rattle.slot_laws.proofs.Telling.{counted_renamed, told_of_entry_renamed}

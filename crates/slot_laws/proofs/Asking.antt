@@ -19,11 +19,12 @@ use Rattle.log_verdict.specs.Steps.{Asks}
 use Rattle.log_verdict.specs.declared.scenes.Scene.{Scene}
 use Rattle.slot_laws.specs.Told.{renaming_of}
 use Rattle.slot_laws.specs.Alike.{AftersAlike, IsConsistent, IsConsistentAfter, SeatsAlike}
-use Rattle.slot_laws.specs.Counting.{Counts, IsStamped, made, one_of}
-use Rattle.slot_laws.specs.Pairing.{paired, same_sort, with_pair}
-use Rattle.slot_laws.specs.Scenes.{AgreeBelow, AreRenamings, CamesAlike, MayBeAlike, Renamings, ScenesAlike, at, given_at, given_in}
-use Rattle.slot_laws.specs.Scenes.{given_of}
-use Rattle.slot_laws.specs.Kin.{GoesOn, Kin, KinCame, Matches}
+use Rattle.slot_laws.proofs.terms.Counting.{Counts, IsStamped, made, one_of}
+use Rattle.slot_laws.proofs.terms.Pairing.{paired, same_sort, with_pair}
+use Rattle.slot_laws.proofs.terms.Scenes.{AgreeBelow, AreRenamings, CamesAlike, MayBeAlike, Renamings, ScenesAlike, at, given_at, given_in}
+use Rattle.slot_laws.proofs.terms.Scenes.{given_of}
+use Rattle.slot_laws.proofs.terms.Kin.{GoesOn, Kin, KinCame}
+use Rattle.slot_laws.specs.Alike.{Matches}
 use Rattle.slot_laws.proofs.Answering.{answered_alike}
 use Rattle.slot_laws.proofs.CallCounts.{answers_counts}
 use Rattle.slot_laws.proofs.Calls.{answers_alike, answers_ordered}

@@ -9,7 +9,7 @@ use Rattle.log_seats.specs.Answers.{md_of}
 use Rattle.log_seats.specs.Bytes.{bytes_in}
 use Rattle.log_seats.specs.Seats.{handle_if, handle_of, operation_of}
 use Rattle.log_seats.specs.declared.seats.Seat.{Seat}
-use Rattle.slot_laws.specs.Counting.{Counts}
+use Rattle.slot_laws.proofs.terms.Counting.{Counts}
 use Rattle.slot_laws.proofs.SeatOrder.{Stays, arrived_stays, asks_stays, cancels_stays, fires_at_stays, me_search_stays}
 use Rattle.slot_laws.proofs.SeatOrder.{me_unlink_stays, posts_stays, pt_alloc_stays, pt_free_stays, starts_stays}
 use Rattle.slot_laws.proofs.SeatOrder.{writes_stays}

@@ -19,7 +19,7 @@ use Rattle.ni_model.specs.Calls.{with_counter, with_operation, write_memory}
 use Rattle.slot_laws.specs.Renaming.{IsRenaming, Renaming}
 use Rattle.slot_laws.specs.Renamed.{renamed, renamed_action, renamed_bound, renamed_md, renamed_message, renamed_operations, renamed_table}
 use Rattle.slot_laws.specs.Renamed.{renamed_things}
-use Rattle.slot_laws.specs.Answered.{renamed_done, renamed_result}
+use Rattle.slot_laws.proofs.terms.Answered.{renamed_done, renamed_result}
 use Rattle.slot_laws.proofs.Base.{changed_renamed, lookup_renamed, with_new_renamed, without_renamed}
 use Rattle.slot_laws.proofs.Ending.{ends_by_alike, ends_by_renamed}
 use Rattle.slot_laws.proofs.Refusing.{action_fault_renamed, alloc_fault_renamed, bind_fault_renamed, ct_free_fault_renamed}

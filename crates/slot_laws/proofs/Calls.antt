@@ -18,8 +18,8 @@ use Rattle.slot_laws.proofs.SeatCounts.{none_made}
 use Rattle.slot_laws.specs.Renaming.{IsRenaming, Renaming}
 use Rattle.slot_laws.specs.Renamed.{renamed_message}
 use Rattle.slot_laws.specs.Alike.{AftersAlike, IsConsistent, IsConsistentAfter, KeepsNone, SeatsAlike}
-use Rattle.slot_laws.specs.Counting.{Counts, made}
-use Rattle.slot_laws.specs.Kin.{Matches}
+use Rattle.slot_laws.proofs.terms.Counting.{Counts, made}
+use Rattle.slot_laws.specs.Alike.{Matches}
 use Rattle.slot_laws.proofs.Named.{AreRising}
 use Rattle.slot_laws.proofs.SeatAnswers.{after_alike, ended_alike}
 use Rattle.slot_laws.proofs.SeatAsked.{OneNew, altered_alike, altered_ordered, asked_alike, asked_ordered, counter_made_alike}

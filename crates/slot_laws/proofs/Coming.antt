@@ -16,8 +16,8 @@ use Rattle.log_verdict.specs.Steps.{posted_name}
 use Rattle.log_verdict.specs.Steps.{flaw_or, said_if, taken_by, taken_word}
 use Rattle.log_verdict.specs.declared.answering.Step.TheVariants as steps
 use Rattle.log_verdict.specs.declared.scenes.Scene.{Scene}
-use Rattle.slot_laws.specs.Scenes.{MayBeAlike, Renamings}
-use Rattle.slot_laws.specs.Kin.{Kin, KinCame}
+use Rattle.slot_laws.proofs.terms.Scenes.{MayBeAlike, Renamings}
+use Rattle.slot_laws.proofs.terms.Kin.{Kin, KinCame}
 use Rattle.slot_laws.proofs.Asking.{asks_kin}
 use Rattle.slot_laws.proofs.Delivering.{delivers_kin}
 use Rattle.slot_laws.proofs.Lines.{loses_kin, stays_kin, tells_kin}

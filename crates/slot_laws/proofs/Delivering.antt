@@ -18,9 +18,9 @@ use Rattle.log_verdict.specs.declared.answering.Step.TheVariants as steps
 use Rattle.log_verdict.specs.declared.scenes.Scene.{Scene}
 use Rattle.slot_laws.specs.Naming.{renamed_flight, renamed_flights}
 use Rattle.slot_laws.specs.Alike.{AftersAlike, IsConsistentAfter, SeatsAlike}
-use Rattle.slot_laws.specs.Counting.{Counts, made}
-use Rattle.slot_laws.specs.Scenes.{AgreeBelow, AreRenamings, CamesAlike, Renamings, ScenesAlike, at, given_at}
-use Rattle.slot_laws.specs.Kin.{GoesOn, Kin, KinCame}
+use Rattle.slot_laws.proofs.terms.Counting.{Counts, made}
+use Rattle.slot_laws.proofs.terms.Scenes.{AgreeBelow, AreRenamings, CamesAlike, Renamings, ScenesAlike, at, given_at}
+use Rattle.slot_laws.proofs.terms.Kin.{GoesOn, Kin, KinCame}
 use Rattle.slot_laws.proofs.Answering.{answered_alike}
 use Rattle.slot_laws.proofs.Asking.{others_removed, seats_alike}
 use Rattle.slot_laws.proofs.CallCounts.{arrived_counts}

@@ -5,7 +5,7 @@ use Rattle.ni_model.specs.State.{State}
 use Rattle.ni_model.specs.Calls.{ends_by}
 use Rattle.slot_laws.specs.Renaming.{Renaming}
 use Rattle.slot_laws.specs.Renamed.{renamed}
-use Rattle.slot_laws.specs.Answered.{renamed_done, renamed_result}
+use Rattle.slot_laws.proofs.terms.Answered.{renamed_done, renamed_result}
 
 pub ends_by_as : {A : Type 0} (r : Renaming) (f : A → A) (o : Option NiFault) (old new : State) (x : A) →
     ends_by o (renamed r old) (renamed r new) (f x) ≡ renamed_done r (renamed_result f) (ends_by o old new x)

@@ -6,8 +6,8 @@ use Rattle.log_verdict.specs.Filling.{Extent, FillGoes, Fills, IsFilled, end_or,
 use Rattle.log_verdict.specs.declared.judge.Taken.{Taken}
 use Rattle.log_verdict.specs.declared.judge.Taken.TheVariants as takes
 use Rattle.log_verdict.specs.declared.Filler.{Filler}
-use Rattle.slot_laws.specs.Scenes.{Renamings}
-use Rattle.slot_laws.specs.Judges.{JudgesKin, TookKin}
+use Rattle.slot_laws.proofs.terms.Scenes.{Renamings}
+use Rattle.slot_laws.proofs.terms.Judges.{JudgesKin, TookKin}
 use Rattle.slot_laws.proofs.Judging.{PassesAs, end_kin, first_kin, next_kin, passes_as, took_kin}
 
 -- both judges of a filler

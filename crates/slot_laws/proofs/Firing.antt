@@ -16,7 +16,7 @@ use Rattle.ni_model.specs.Ready.{message_target, posted_at, ready_numbers, ready
 use Rattle.ni_model.specs.Ready.{without_number}
 use Rattle.slot_laws.specs.Renaming.{IsRenaming, Renaming}
 use Rattle.slot_laws.specs.Renamed.{renamed, renamed_action, renamed_operations, renamed_posted, renamed_things}
-use Rattle.slot_laws.specs.Started.{renamed_fires, renamed_started}
+use Rattle.slot_laws.proofs.terms.Started.{renamed_fires, renamed_started}
 use Rattle.slot_laws.proofs.Base.{changed_renamed, filter_mapped, find_mapped}
 use Rattle.slot_laws.proofs.Telling.{counted_renamed}
 use Rattle.slot_laws.proofs.Refusing.{lookup_thing_renamed}

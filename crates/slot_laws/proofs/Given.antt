@@ -19,9 +19,9 @@ use Rattle.log_verdict.specs.declared.answering.Compared.TheVariants as compares
 use Rattle.log_verdict.specs.declared.answering.Step.{Step}
 use Rattle.log_verdict.specs.declared.answering.Step.TheVariants as steps
 use Rattle.log_verdict.specs.declared.scenes.Scene.{Scene}
-use Rattle.slot_laws.specs.Counting.{Counts, made}
-use Rattle.slot_laws.specs.Scenes.{given_at, given_in, given_of}
-use Rattle.slot_laws.specs.Kin.{GoesOn}
+use Rattle.slot_laws.proofs.terms.Counting.{Counts, made}
+use Rattle.slot_laws.proofs.terms.Scenes.{given_at, given_in, given_of}
+use Rattle.slot_laws.proofs.terms.Kin.{GoesOn}
 use Rattle.slot_laws.proofs.Answering.{nic_of_new}
 use Rattle.slot_laws.proofs.Maps.{number_put}
 use Rattle.slot_laws.proofs.Rows.{number_is}

@@ -25,9 +25,9 @@ use Rattle.log_verdict.specs.declared.judge.Verdict.TheVariants as verdicts
 use Rattle.log_verdict.specs.declared.scenes.Scene.{Scene}
 use Rattle.log_verdict.specs.Scenes.{no_interfaces}
 use Rattle.slot_laws.specs.Renaming.{KeepsApart}
-use Rattle.slot_laws.specs.Scenes.{AllAlike, AllConsistent, AreRenamings, Renamings, ScenesAlike}
-use Rattle.slot_laws.specs.Kin.{GoesOn, Kin, KinCame}
-use Rattle.slot_laws.specs.Judges.{JudgesKin, TookKin}
+use Rattle.slot_laws.proofs.terms.Scenes.{AllAlike, AllConsistent, AreRenamings, Renamings, ScenesAlike}
+use Rattle.slot_laws.proofs.terms.Kin.{GoesOn, Kin, KinCame}
+use Rattle.slot_laws.proofs.terms.Judges.{JudgesKin, TookKin}
 use Rattle.slot_laws.proofs.Coming.{line_kin}
 
 -- ---- a line

@@ -32,7 +32,7 @@ use Rattle.ni_model.specs.Queues.{Waiting}
 use Rattle.ni_objects.proofs.users.SumLemmas.{same-is}
 use Rattle.target_engine.proofs.Within.{chosen-linked}
 use Rattle.target_engine.proofs.Recorded.{linked-anywhere}
-use Rattle.slot_laws.specs.Lasting.{Lasts}
+use Rattle.slot_laws.proofs.terms.Lasting.{Lasts}
 use Rattle.slot_laws.proofs.Lasting.{either_more, lasts_counted, lasts_counts_after, lasts_each_counted, lasts_each_gone}
 use Rattle.slot_laws.proofs.Lasting.{lasts_events_after}
 use Rattle.slot_laws.proofs.Lasting.{lasts_gone_raised, lasts_self, lasts_told_of_entry, lasts_twice}

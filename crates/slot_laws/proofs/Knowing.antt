@@ -15,7 +15,7 @@ use Rattle.log_verdict.specs.declared.scenes.Scene.{Scene}
 use Rattle.slot_laws.specs.Renaming.{IsRenaming, Renaming}
 use Rattle.slot_laws.specs.Told.{KnowsAlike}
 use Rattle.slot_laws.specs.Alike.{AlikeButEntries}
-use Rattle.slot_laws.specs.Scenes.{AllAlike, AreRenamings, MayBeAlike, Renamings, at}
+use Rattle.slot_laws.proofs.terms.Scenes.{AllAlike, AreRenamings, MayBeAlike, Renamings, at}
 use Rattle.slot_laws.proofs.Firing.{is_ready_renamed}
 use Rattle.slot_laws.proofs.Numbered.{word_of_number_renamed}
 use Rattle.slot_laws.proofs.SameNames.{is_named_renamed}

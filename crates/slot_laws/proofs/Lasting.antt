@@ -31,7 +31,7 @@ use Rattle.ni_model.specs.Append.{each_counted, each_gone, frees, gone_events, g
 use Rattle.ni_model.specs.Starts.{awaits_more, one_awaited, counted_on, header_of, send_told, started, started_by}
 use Rattle.ni_model.specs.Answers.{Home, answered, answered_at, awaits_less, bound_at, came_home, counter_home, events_home, is_due}
 use Rattle.ni_model.specs.Answers.{lost_answer, one_answer, one_less}
-use Rattle.slot_laws.specs.Lasting.{Gains, Lasts, Loses}
+use Rattle.slot_laws.proofs.terms.Lasting.{Gains, Lasts, Loses}
 
 -- ---- tests
 

@@ -1,3 +1,4 @@
+pub mod terms
 pub mod Base
 pub mod Telling
 pub mod Indices

@@ -14,8 +14,8 @@ use Rattle.log_verdict.specs.declared.answering.Step.TheVariants as steps
 use Rattle.log_verdict.specs.declared.scenes.Scene.{Scene}
 use Rattle.slot_laws.specs.Naming.{renamed_flight}
 use Rattle.slot_laws.specs.Told.{HoldsOfNamed, renamed_owed}
-use Rattle.slot_laws.specs.Scenes.{AllConsistent, AreRenamings, CamesAlike, Renamings, ScenesAlike, at, given_at}
-use Rattle.slot_laws.specs.Kin.{Kin, KinCame}
+use Rattle.slot_laws.proofs.terms.Scenes.{AllConsistent, AreRenamings, CamesAlike, Renamings, ScenesAlike, at, given_at}
+use Rattle.slot_laws.proofs.terms.Kin.{Kin, KinCame}
 use Rattle.slot_laws.proofs.Answering.{compared_with_alike}
 use Rattle.slot_laws.proofs.Comparing.{owed_text_alike}
 use Rattle.slot_laws.proofs.Knowing.{others_alike}

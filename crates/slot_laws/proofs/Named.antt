@@ -15,7 +15,7 @@ use Rattle.slot_laws.specs.Renaming.{IsRenaming, KeepsApart, Renaming}
 use Rattle.slot_laws.specs.Renamed.{renamed}
 use Rattle.slot_laws.specs.Naming.{IsRising, NamesAgree, NoneAt, WordsKnown}
 use Rattle.slot_laws.specs.Told.{renamed_owed}
-use Rattle.slot_laws.specs.Lasting.{is_known}
+use Rattle.slot_laws.specs.Alike.{is_known}
 use Rattle.slot_laws.specs.Alike.{AftersAlike, AlikeButEntries, IsConsistent, IsConsistentAfter, IsNewIn, IsNot, KnownIn, Live}
 use Rattle.slot_laws.specs.Alike.{SeatsAlike, SlotsApart}
 use Rattle.slot_laws.proofs.Appending.{is_linked_anywhere_renamed}

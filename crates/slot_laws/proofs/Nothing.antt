@@ -18,7 +18,7 @@ use Rattle.ni_model.specs.Calls.{ends_by, me_append}
 use Rattle.initiator_engine.proofs.Starting.{need-later, need-test}
 use Rattle.portals_ni.proofs.Kept.{not-false}
 use Rattle.log_words.specs.declared.call_fields.said.TheConstants.{NO_HANDLE}
-use Rattle.slot_laws.specs.Lasting.{Alters, altered, refused, Appends, Keeps}
+use Rattle.slot_laws.proofs.terms.Lasting.{Alters, altered, refused, Appends, Keeps}
 use Rattle.slot_laws.specs.Alike.{KnownIn}
 use Rattle.slot_laws.proofs.Leaving.{me_append_leaves}
 

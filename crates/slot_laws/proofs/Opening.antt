@@ -21,9 +21,9 @@ use Rattle.log_verdict.specs.declared.scenes.Scene.{Scene}
 use Rattle.slot_laws.specs.Renaming.{Renaming}
 use Rattle.slot_laws.specs.Renamed.{renamed, renamed_index}
 use Rattle.slot_laws.specs.Alike.{IsConsistent, KnownIn, SeatsAlike}
-use Rattle.slot_laws.specs.Lasting.{is_known}
-use Rattle.slot_laws.specs.Scenes.{AllAlike, Renamings, ScenesAlike, at, given_at, given_in}
-use Rattle.slot_laws.specs.Kin.{Kin, KinCame}
+use Rattle.slot_laws.specs.Alike.{is_known}
+use Rattle.slot_laws.proofs.terms.Scenes.{AllAlike, Renamings, ScenesAlike, at, given_at, given_in}
+use Rattle.slot_laws.proofs.terms.Kin.{Kin, KinCame}
 use Rattle.slot_laws.proofs.Lines.{said_alike, stays_kin}
 use Rattle.slot_laws.proofs.Maps.{number_put}
 use Rattle.slot_laws.proofs.Nothing.{none_linked, opened_nothing}

@@ -7,7 +7,7 @@ use Rattle.std.specs.Ordering.{match_ordering}
 use Rattle.log_answers.specs.names.Keys.{Numbers, at_number, number_lookup, with_number, without_number}
 use Rattle.log_seats.specs.declared.seats.Seat.{Seat}
 use Rattle.slot_laws.specs.Alike.{IsConsistent, SeatsAlike}
-use Rattle.slot_laws.specs.Scenes.{AllAlike, AllConsistent, MayBeAlike, Renamings, at}
+use Rattle.slot_laws.proofs.terms.Scenes.{AllAlike, AllConsistent, MayBeAlike, Renamings, at}
 use Rattle.slot_laws.proofs.Maps.{at_number_is}
 
 pub number_is : (q k : ℕ) → at_number q k ≡ true → q ≡ k

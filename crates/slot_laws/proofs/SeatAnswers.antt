@@ -15,10 +15,10 @@ use Rattle.log_seats.specs.Seats.{with_nic, with_operations}
 use Rattle.log_seats.specs.declared.seats.Seat.{Seat}
 use Rattle.slot_laws.specs.Renaming.{Renaming}
 use Rattle.slot_laws.specs.Renamed.{renamed, renamed_message}
-use Rattle.slot_laws.specs.Answered.{renamed_done, renamed_result}
+use Rattle.slot_laws.proofs.terms.Answered.{renamed_done, renamed_result}
 use Rattle.slot_laws.specs.Told.{HoldsOfNamed, renamed_owed}
 use Rattle.slot_laws.specs.Naming.{NamesAgree, NamesRenamed, renamed_postings}
-use Rattle.slot_laws.specs.Lasting.{Keeps}
+use Rattle.slot_laws.proofs.terms.Lasting.{Keeps}
 use Rattle.slot_laws.specs.Alike.{AftersAlike, IsNot, KnownIn, AlikeButEntries, OldIn, SeatsAlike}
 use Rattle.slot_laws.proofs.SameNames.{agree_fewer}
 

@@ -28,7 +28,7 @@ use Rattle.log_seats.specs.declared.seats.Seat.{Seat}
 use Rattle.slot_laws.specs.Renaming.{IsRenaming, Renaming}
 use Rattle.slot_laws.specs.Renamed.{renamed, renamed_indexed, renamed_posted, renamed_unexpected}
 use Rattle.slot_laws.specs.Told.{HoldsOfNamed, renamed_owed}
-use Rattle.slot_laws.specs.Counting.{makes_none}
+use Rattle.slot_laws.proofs.terms.Counting.{makes_none}
 use Rattle.slot_laws.specs.Alike.{AftersAlike, KeepsNone, KnownIn, SeatsAlike}
 use Rattle.slot_laws.proofs.Handles.{handle_of_renamed, operation_of_alike}
 use Rattle.slot_laws.proofs.SeatAnswers.{after_alike, unless_alike}

@@ -9,7 +9,7 @@ use Rattle.log_seats.specs.Answers.{After, Answers, EntryAnswers, TableAnswers, 
 use Rattle.log_seats.specs.Bytes.{bytes_in}
 use Rattle.log_seats.specs.declared.seats.Seat.{Seat}
 use Rattle.slot_laws.specs.Renaming.{IsRenaming, Renaming}
-use Rattle.slot_laws.specs.Kin.{Matches}
+use Rattle.slot_laws.specs.Alike.{Matches}
 use Rattle.slot_laws.specs.Alike.{AftersAlike, IsConsistent, KeepsNone, SeatsAlike}
 use Rattle.slot_laws.proofs.Nothing.{NothingKnown}
 use Rattle.slot_laws.proofs.SeatEntries.{me_append_matched, me_search_alike, pt_alloc_alike, pt_free_alike}

@@ -34,9 +34,9 @@ use Rattle.log_seats.specs.Answers.{unless_misused}
 use Rattle.log_seats.specs.Seats.{with_nic}
 use Rattle.log_seats.specs.declared.seats.Seat.{Seat}
 use Rattle.initiator_engine.proofs.Starting.{need-later, need-test}
-use Rattle.slot_laws.specs.Lasting.{Alters, FreesBound, FreesCount, FreesQueue, Keeps, altered, refused}
-use Rattle.slot_laws.specs.Scenes.{given_of}
-use Rattle.slot_laws.specs.Counting.{Counts, IsStamped, made, makes_none, one_of}
+use Rattle.slot_laws.proofs.terms.Lasting.{Alters, FreesBound, FreesCount, FreesQueue, Keeps, altered, refused}
+use Rattle.slot_laws.proofs.terms.Scenes.{given_of}
+use Rattle.slot_laws.proofs.terms.Counting.{Counts, IsStamped, made, makes_none, one_of}
 use Rattle.slot_laws.proofs.Keeping.{AppendKeeps, LinksParts, append_keeps}
 use Rattle.slot_laws.proofs.Leaving.{ct_free_frees, ct_inc_keeps, ct_set_keeps, eq_free_frees, eq_get_keeps, md_release_frees}
 use Rattle.slot_laws.proofs.SeatOrder.{Stays, asks_stays, tells_stays}

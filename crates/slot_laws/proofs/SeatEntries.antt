@@ -27,10 +27,10 @@ use Rattle.log_seats.specs.Seats.{handle_if}
 use Rattle.log_seats.specs.declared.seats.Seat.{Seat}
 use Rattle.slot_laws.specs.Renaming.{IsRenaming, Renaming}
 use Rattle.slot_laws.specs.Renamed.{renamed, renamed_appended, renamed_entry, renamed_unexpected}
-use Rattle.slot_laws.specs.Answered.{renamed_done, renamed_result}
+use Rattle.slot_laws.proofs.terms.Answered.{renamed_done, renamed_result}
 use Rattle.slot_laws.specs.Told.{HoldsOfNamed, renamed_owed}
-use Rattle.slot_laws.specs.Lasting.{Alters, altered, refused, Appends}
-use Rattle.slot_laws.specs.Kin.{Matches}
+use Rattle.slot_laws.proofs.terms.Lasting.{Alters, altered, refused, Appends}
+use Rattle.slot_laws.specs.Alike.{Matches}
 use Rattle.slot_laws.specs.Alike.{AftersAlike, IsNot, KeepsNone, KnownIn, SeatsAlike}
 use Rattle.slot_laws.proofs.Appending.{me_append_renamed, me_search_renamed, pt_alloc_renamed, pt_free_renamed}
 use Rattle.slot_laws.proofs.Leaving.{me_append_leaves, me_search_keeps, pt_alloc_keeps, pt_free_keeps}

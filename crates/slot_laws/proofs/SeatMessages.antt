@@ -15,7 +15,7 @@ use Rattle.log_seats.specs.Seats.{with_nic}
 use Rattle.log_seats.specs.declared.seats.Seat.{Seat}
 use Rattle.slot_laws.specs.Renaming.{IsRenaming, Renaming}
 use Rattle.slot_laws.specs.Renamed.{renamed, renamed_message}
-use Rattle.slot_laws.specs.Lasting.{Keeps}
+use Rattle.slot_laws.proofs.terms.Lasting.{Keeps}
 use Rattle.slot_laws.specs.Alike.{AftersAlike, SeatsAlike}
 use Rattle.slot_laws.proofs.Arriving.{request_renamed}
 use Rattle.slot_laws.proofs.Starting.{answered_renamed, home_of_answer}

@@ -22,10 +22,10 @@ use Rattle.log_seats.specs.Seats.{handle_of, operation_of, with_nic, with_operat
 use Rattle.log_seats.specs.declared.seats.Seat.{Seat}
 use Rattle.slot_laws.specs.Renaming.{IsRenaming, Renaming}
 use Rattle.slot_laws.specs.Renamed.{renamed, renamed_action, renamed_message}
-use Rattle.slot_laws.specs.Answered.{renamed_done, renamed_result}
-use Rattle.slot_laws.specs.Started.{renamed_fires}
+use Rattle.slot_laws.proofs.terms.Answered.{renamed_done, renamed_result}
+use Rattle.slot_laws.proofs.terms.Started.{renamed_fires}
 use Rattle.slot_laws.specs.Told.{HoldsOfNamed, renamed_owed}
-use Rattle.slot_laws.specs.Lasting.{Keeps}
+use Rattle.slot_laws.proofs.terms.Lasting.{Keeps}
 use Rattle.slot_laws.specs.Alike.{AftersAlike, KeepsNone, KnownIn, AlikeButEntries, SeatsAlike}
 use Rattle.slot_laws.proofs.Refusing.{start_misuse_renamed}
 use Rattle.slot_laws.proofs.Calling.{ct_cancel_renamed, start_renamed, triggered_renamed, write_memory_renamed}

@@ -40,11 +40,12 @@ use Rattle.log_seats.specs.Seats.{with_nic}
 use Rattle.log_seats.specs.declared.seats.Seat.{Seat}
 use Rattle.initiator_engine.proofs.Starting.{need-test}
 use Rattle.slot_laws.specs.Naming.{WordsKnown}
-use Rattle.slot_laws.specs.Lasting.{Keeps, Lasts, is_known}
+use Rattle.slot_laws.proofs.terms.Lasting.{Keeps, Lasts}
+use Rattle.slot_laws.specs.Alike.{is_known}
 use Rattle.ni_model.specs.Calls.{header_slot}
 use Rattle.slot_laws.proofs.Nothing.{NothingKnown, append_nothing, keeps_nothing}
 use Rattle.slot_laws.specs.Alike.{IsNewIn, IsConsistent, IsConsistentAfter, KnownIn, Live, SlotsApart}
-use Rattle.slot_laws.specs.Counting.{makes_none}
+use Rattle.slot_laws.proofs.terms.Counting.{makes_none}
 use Rattle.slot_laws.proofs.Lasting.{either_more, lasts_self}
 use Rattle.slot_laws.proofs.Keeping.{AppendKeeps, LinksParts, append_keeps, linked_set}
 use Rattle.slot_laws.proofs.Leaving.{ct_cancel_keeps, fired_keeps, keeps_self, me_search_keeps, me_unlink_keeps, pt_alloc_keeps}

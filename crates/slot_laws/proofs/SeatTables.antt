@@ -27,7 +27,7 @@ use Rattle.log_seats.specs.Seats.{handle_of, with_nic, without_thing}
 use Rattle.log_seats.specs.declared.seats.Seat.{Seat}
 use Rattle.slot_laws.specs.Renaming.{IsRenaming, Renaming}
 use Rattle.slot_laws.specs.Renamed.{renamed, renamed_bound, renamed_md, renamed_table, renamed_things}
-use Rattle.slot_laws.specs.Answered.{renamed_done, renamed_result}
+use Rattle.slot_laws.proofs.terms.Answered.{renamed_done, renamed_result}
 use Rattle.slot_laws.specs.Told.{HoldsOfNamed, renamed_owed, renaming_of}
 use Rattle.slot_laws.specs.Alike.{AftersAlike, IsConsistent, KeepsNone, KnownIn, Live, AlikeButEntries, SeatsAlike}
 use Rattle.slot_laws.specs.Naming.{OnlyAtItsSlot}

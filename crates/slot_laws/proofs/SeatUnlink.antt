@@ -24,8 +24,9 @@ use Rattle.log_seats.specs.Seats.{handle_of, with_nic}
 use Rattle.log_seats.specs.declared.seats.Seat.{Seat}
 use Rattle.slot_laws.specs.Renaming.{IsRenaming, KeepsApart, Renaming}
 use Rattle.slot_laws.specs.Renamed.{renamed, renamed_index, renamed_indices, renamed_linked}
-use Rattle.slot_laws.specs.Answered.{renamed_done}
-use Rattle.slot_laws.specs.Lasting.{Alters, altered, refused, Keeps, Unlinks, is_known}
+use Rattle.slot_laws.proofs.terms.Answered.{renamed_done}
+use Rattle.slot_laws.proofs.terms.Lasting.{Alters, altered, refused, Keeps, Unlinks}
+use Rattle.slot_laws.specs.Alike.{is_known}
 use Rattle.slot_laws.specs.Alike.{AftersAlike, IsConsistent, KeepsNone, KnownIn, AlikeButEntries, OldIn, SeatsAlike}
 use Rattle.slot_laws.proofs.SameNames.{agree_fewer, cleared_agrees, named_it}
 use Rattle.slot_laws.proofs.Appending.{me_unlink_renamed}

@@ -16,9 +16,9 @@ use Rattle.log_verdict.specs.Settling.{ArrivesAs, FiresAs, Moves, Reaches, Rests
 use Rattle.log_verdict.specs.declared.scenes.Scene.{Scene}
 use Rattle.slot_laws.specs.Naming.{renamed_flight}
 use Rattle.slot_laws.specs.Alike.{AftersAlike, IsConsistentAfter, SeatsAlike}
-use Rattle.slot_laws.specs.Scenes.{AgreeBelow, AllAlike, AllConsistent, AreRenamings, MayBeAlike, Renamings, ScenesAlike, at, given_at}
-use Rattle.slot_laws.specs.Scenes.{given_in, given_of}
-use Rattle.slot_laws.specs.Kin.{Kin}
+use Rattle.slot_laws.proofs.terms.Scenes.{AgreeBelow, AllAlike, AllConsistent, AreRenamings, MayBeAlike, Renamings, ScenesAlike, at, given_at}
+use Rattle.slot_laws.proofs.terms.Scenes.{given_in, given_of}
+use Rattle.slot_laws.proofs.terms.Kin.{Kin}
 use Rattle.slot_laws.proofs.Answering.{answer_alike, nic_of_new}
 use Rattle.slot_laws.proofs.Asking.{others_removed, seats_alike}
 use Rattle.slot_laws.proofs.Calls.{arrived_alike}

@@ -27,7 +27,7 @@ use Rattle.ni_model.specs.Starts.{send_told, sent_from, started, started_by}
 use Rattle.slot_laws.specs.Renaming.{IsRenaming, Renaming}
 use Rattle.slot_laws.specs.Renamed.{renamed_action, renamed_bound, renamed_header, renamed_home, renamed_live, renamed_message, renamed_put}
 use Rattle.slot_laws.specs.Renamed.{renamed_table, renamed_things}
-use Rattle.slot_laws.specs.Started.{renamed_returned, renamed_started}
+use Rattle.slot_laws.proofs.terms.Started.{renamed_returned, renamed_started}
 use Rattle.slot_laws.proofs.Base.{changed_renamed, lookup_renamed, where_set_renamed}
 use Rattle.slot_laws.proofs.Telling.{counted_renamed, told_of_descriptor_renamed}
 

@@ -13,8 +13,8 @@ use Rattle.log_verdict.specs.declared.answering.Step.{Step}
 use Rattle.log_verdict.specs.declared.answering.Step.TheVariants as steps
 use Rattle.log_verdict.specs.declared.scenes.Scene.{Scene}
 use Rattle.slot_laws.specs.Alike.{IsConsistentAfter}
-use Rattle.slot_laws.specs.Scenes.{AgreeBelow, AllConsistent, AreRenamings, CamesAlike, Renamings, ScenesAlike, given_at}
-use Rattle.slot_laws.specs.Kin.{GoesOn, Kin, KinCame}
+use Rattle.slot_laws.proofs.terms.Scenes.{AgreeBelow, AllConsistent, AreRenamings, CamesAlike, Renamings, ScenesAlike, given_at}
+use Rattle.slot_laws.proofs.terms.Kin.{GoesOn, Kin, KinCame}
 use Rattle.slot_laws.proofs.Named.{AreRising, ordered_named}
 use Rattle.slot_laws.proofs.Rows.{insert_ordered}
 

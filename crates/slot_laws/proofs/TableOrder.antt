@@ -24,7 +24,7 @@ use Rattle.log_seats.specs.Answers.{after, counts, fault_word, found, frees, lan
 use Rattle.log_seats.specs.Answers.{reads, ready_at_owed, ready_owed, says, tells, told, unless_misused, yes}
 use Rattle.log_seats.specs.declared.seats.Seat.{Seat}
 use Rattle.slot_laws.specs.Naming.{IsRising, OnlyAtItsSlot, WordsKnown}
-use Rattle.slot_laws.specs.Lasting.{Gains, Loses}
+use Rattle.slot_laws.proofs.terms.Lasting.{Gains, Loses}
 use Rattle.slot_laws.specs.Alike.{IsConsistent, IsConsistentAfter, Live, SlotsApart}
 use Rattle.slot_laws.proofs.Lasting.{gains_new as gains_with_new, loses_without}
 use Rattle.slot_laws.proofs.Named.{AreRising}

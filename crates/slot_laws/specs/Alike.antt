@@ -1,8 +1,10 @@
 -- When two interfaces of a log, and what calls of them leave, differ in the slots of handles alone.
-use Rattle.std.specs.Prelude.{ℕ, ◌≡◌, true, None, option_map}
+use Rattle.std.specs.Prelude.{ℕ, ◌≡◌, Bool, true, ◌||◌, None, option_map}
 use Rattle.ptl_types.specs.declared.handles.Handle.{Handle}
 use Rattle.ni_model.specs.State.{State}
 use Rattle.ni_model.specs.Tables.{Table, is_live}
+use Rattle.ni_model.specs.Headers.{names_entry}
+use Rattle.ni_model.specs.Refusals.{is_linked_anywhere}
 use Rattle.log_words.specs.declared.call_fields.said.TheConstants.{NO_HANDLE}
 use Rattle.log_answers.specs.declared.owed.Owed.{Owed}
 use Rattle.log_answers.specs.declared.owed.Owed.TheVariants as owed
@@ -12,9 +14,8 @@ use Rattle.log_seats.specs.Answers.{After}
 use Rattle.log_seats.specs.declared.seats.Seat.{Seat}
 use Rattle.slot_laws.specs.Renaming.{Renaming}
 use Rattle.slot_laws.specs.Renamed.{renamed, renamed_message}
-use Rattle.slot_laws.specs.Told.{HoldsOfNamed, renamed_owed}
+use Rattle.slot_laws.specs.Told.{HoldsOfNamed, renamed_owed, renaming_of}
 use Rattle.slot_laws.specs.Naming.{NamesAgree, NamesRenamed, WordsKnown, renamed_postings}
-use Rattle.slot_laws.specs.Lasting.{is_known}
 
 -- the renaming leaves the handle that no thing has
 pub record KeepsNone (r : Renaming) : Type 0 where
@@ -29,7 +30,11 @@ pub record KeepsNone (r : Renaming) : Type 0 where
 abbrev pub Live : {A : Type 0} → Table A → Handle → Type 0
 Live t h = is_live h t ≡ true
 
--- it is a match entry that is known
+-- a match entry that is linked, or in which a header lies
+abbrev pub is_known : Handle → State → Bool
+is_known h s = is_linked_anywhere h s.indices || names_entry h s.headers.unexpected
+
+-- it is such an entry
 abbrev pub KnownIn : State → Handle → Type 0
 KnownIn s h = is_known h s ≡ true
 
@@ -94,3 +99,9 @@ pub record AftersAlike (r : Renaming) (x y : After) : Type 0 where
   pub owed : y.owed ≡ renamed_owed r x.seat.nic.rank x.owed
   pub sent : y.sent ≡ option_map (renamed_message r) x.sent
   pub named : HoldsOfNamed (λ h. word_of (r.me h) y.seat.entries ≡ word_of h x.seat.entries) x.owed
+
+-- the renaming takes what is new in the one to what is new in the other
+abbrev pub Matches : Renaming → ℕ → Owed → Owed → Type 0
+Matches r rank (owed.New sort h) (owed.New sort' h') = sort' ≡ sort → renaming_of r rank sort h ≡ h'
+Matches r rank (owed.Linked h) (owed.Linked h') = r.me h ≡ h'
+Matches r rank _ _ = Unit {0}

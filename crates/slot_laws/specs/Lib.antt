@@ -1,14 +1,5 @@
 pub mod Renaming
 pub mod Renamed
-pub mod Received
-pub mod Answered
-pub mod Started
 pub mod Told
 pub mod Naming
-pub mod Lasting
 pub mod Alike
-pub mod Scenes
-pub mod Counting
-pub mod Pairing
-pub mod Kin
-pub mod Judges

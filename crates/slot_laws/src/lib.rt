@@ -16,7 +16,7 @@ ghost use Rattle.log_seats.specs.declared.seats.Seat.{Seat};
 ghost use Rattle.log_verdict.specs.Judging.{IsVerdict};
 ghost use Rattle.log_verdict.specs.declared.judge.Verdict.{Verdict};
 ghost use Rattle.slot_laws.specs.Alike.{AftersAlike, IsConsistent, KeepsNone, SeatsAlike};
-ghost use Rattle.slot_laws.specs.Kin.{Matches};
+ghost use Rattle.slot_laws.specs.Alike.{Matches};
 ghost use Rattle.slot_laws.specs.Renaming.{IsRenaming, Renaming};
 
 /// Two interfaces of a log that differ in the slots of handles alone answer a call alike, but for the handle of what is new, and a message

@@ -2,8 +2,8 @@
 use Rattle.std.specs.Prelude.{◌≡◌, None}
 use Rattle.log_verdict.specs.Judging.{Took, verdict_given}
 use Rattle.log_verdict.specs.declared.judge.Judge.{Judge}
-use Rattle.slot_laws.specs.Scenes.{Renamings}
-use Rattle.slot_laws.specs.Kin.{Kin}
+use Rattle.slot_laws.proofs.terms.Scenes.{Renamings}
+use Rattle.slot_laws.proofs.terms.Kin.{Kin}
 
 -- they stand at one line, and their scenes are kin
 pub record JudgesKin (g : Renamings) (j k : Judge) : Type 0 where

@@ -7,7 +7,7 @@ use Rattle.log_answers.specs.declared.owed.Sort.{Sort}
 use Rattle.log_answers.specs.declared.owed.Sort.TheVariants.{Counter, Queue, Descriptor, Entry}
 use Rattle.log_seats.specs.Answers.{After}
 use Rattle.log_seats.specs.declared.seats.Seat.{Seat}
-use Rattle.slot_laws.specs.Scenes.{given_of}
+use Rattle.slot_laws.proofs.terms.Scenes.{given_of}
 
 -- an answer tells of no new thing
 abbrev pub makes_none : Owed → Bool

@@ -1,20 +1,10 @@
 -- Two scenes that differ in the slots that their interfaces gave, and in nothing else, however the log goes on: they are kin.
-use Rattle.std.specs.Prelude.{ℕ, ◌≡◌}
-use Rattle.log_answers.specs.declared.owed.Owed.{Owed}
-use Rattle.log_answers.specs.declared.owed.Owed.TheVariants as owed
+use Rattle.std.specs.Prelude.{◌≡◌}
 use Rattle.log_verdict.specs.Answering.{Came}
 use Rattle.log_verdict.specs.declared.answering.Step.{Step}
 use Rattle.log_verdict.specs.declared.answering.Step.TheVariants as steps
 use Rattle.log_verdict.specs.declared.scenes.Scene.{Scene}
-use Rattle.slot_laws.specs.Renaming.{Renaming}
-use Rattle.slot_laws.specs.Told.{renaming_of}
-use Rattle.slot_laws.specs.Scenes.{AgreeBelow, AllConsistent, AreRenamings, Renamings, ScenesAlike}
-
--- what both answers tell of that is new, is one thing under the renaming
-abbrev pub Matches : Renaming → ℕ → Owed → Owed → Type 0
-Matches r rank (owed.New sort h) (owed.New sort' h') = sort' ≡ sort → renaming_of r rank sort h ≡ h'
-Matches r rank (owed.Linked h) (owed.Linked h') = r.me h ≡ h'
-Matches r rank _ _ = Unit {0}
+use Rattle.slot_laws.proofs.terms.Scenes.{AgreeBelow, AllConsistent, AreRenamings, Renamings, ScenesAlike}
 
 -- a step after which the log goes on
 abbrev pub GoesOn : Step → Type 0

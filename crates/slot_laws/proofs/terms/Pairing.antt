@@ -6,7 +6,7 @@ use Rattle.log_answers.specs.declared.owed.Owed.{Owed}
 use Rattle.log_answers.specs.declared.owed.Owed.TheVariants as owed
 use Rattle.log_answers.specs.declared.owed.Sort.{Sort}
 use Rattle.log_answers.specs.declared.owed.Sort.TheVariants.{Counter, Queue, Descriptor, Entry}
-use Rattle.slot_laws.specs.Scenes.{Renamings}
+use Rattle.slot_laws.proofs.terms.Scenes.{Renamings}
 
 -- the slot p for q, and q for p
 abbrev pub exchanged : ℕ → ℕ → ℕ → ℕ

@@ -1,19 +1,14 @@
 -- What each call of an interface leaves as it was: the live things, the known match entries, and how many of each were made.
-use Rattle.std.specs.Prelude.{◌≡◌, ℕ, ◌+◌, Bool, true, false, ◌&&◌, ◌||◌, not, ◌==◌, ◌⊎◌, Result, Ok, Err}
+use Rattle.std.specs.Prelude.{◌≡◌, ℕ, ◌+◌, true, false, ◌&&◌, ◌||◌, not, ◌==◌, ◌⊎◌, Result, Ok, Err}
 use Rattle.ptl_types.specs.declared.handles.Handle.{Handle}
 use Rattle.ptl_types.specs.declared.calls.Appended.{Appended}
 use Rattle.ptl_types.specs.declared.calls.Appended.TheVariants.{Linked as IsLinked, Consumed}
 use Rattle.ptl_types.specs.declared.calls.NiFault.{NiFault}
 use Rattle.ptl_types.specs.Handles.{same_handle}
 use Rattle.ni_model.specs.Tables.{Table, handle, has_slot, is_live}
-use Rattle.ni_model.specs.Headers.{names_entry}
-use Rattle.ni_model.specs.Refusals.{is_linked_anywhere}
 use Rattle.ni_model.specs.State.{State}
 use Rattle.ni_model.specs.Calls.{Done}
-
--- a match entry that is linked, or in which a header lies
-abbrev pub is_known : Handle → State → Bool
-is_known h s = is_linked_anywhere h s.indices || names_entry h s.headers.unexpected
+use Rattle.slot_laws.specs.Alike.{is_known}
 
 -- ---- tables
 

@@ -1,0 +1,9 @@
+pub mod Received
+pub mod Answered
+pub mod Started
+pub mod Lasting
+pub mod Counting
+pub mod Scenes
+pub mod Pairing
+pub mod Kin
+pub mod Judges
