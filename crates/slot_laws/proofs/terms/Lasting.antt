@@ -32,27 +32,24 @@ pub record Loses {A : Type 0} (gone : Handle) (t t' : Table A) : Type 0 where
 
 -- ---- a whole interface
 
--- no handle comes or goes, but that a match entry may be known no more
-pub record Keeps (s s' : State) : Type 0 where
+-- no thing of the tables comes or goes, so many match entries were made, and those that are known may be
+pub record Leaves (given : ℕ) (MayBeKnown : Handle → Type 0) (s s' : State) : Type 0 where
   pub rank : s'.rank ≡ s.rank
   pub ranks : s'.ranks ≡ s.ranks
   pub limits : s'.limits ≡ s.limits
   pub cts : Lasts s.cts s'.cts
   pub eqs : Lasts s.eqs s'.eqs
   pub mds : Lasts s.mds s'.mds
-  pub entries : s'.entries_given ≡ s.entries_given
-  pub known : (h : Handle) → is_known h s' ≡ true → is_known h s ≡ true
+  pub entries : s'.entries_given ≡ given
+  pub known : (h : Handle) → is_known h s' ≡ true → MayBeKnown h
+
+-- no handle comes or goes, but that a match entry may be known no more
+abbrev pub Keeps : State → State → Type 0
+Keeps s s' = Leaves s.entries_given (λ h. is_known h s ≡ true) s s'
 
 -- one match entry more may be known, with this slot and the next stamp
-pub record Links (slot : ℕ) (s s' : State) : Type 0 where
-  pub rank : s'.rank ≡ s.rank
-  pub ranks : s'.ranks ≡ s.ranks
-  pub limits : s'.limits ≡ s.limits
-  pub cts : Lasts s.cts s'.cts
-  pub eqs : Lasts s.eqs s'.eqs
-  pub mds : Lasts s.mds s'.mds
-  pub entries : s'.entries_given ≡ s.entries_given + 1
-  pub known : (h : Handle) → is_known h s' ≡ true → (is_known h s ≡ true) ⊎ (h ≡ handle slot s.entries_given)
+abbrev pub Links : ℕ → State → State → Type 0
+Links slot s s' = Leaves (s.entries_given + 1) (λ h. (is_known h s ≡ true) ⊎ (h ≡ handle slot s.entries_given)) s s'
 
 -- ---- calls
 
