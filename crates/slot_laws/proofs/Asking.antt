@@ -20,7 +20,8 @@ use Rattle.log_verdict.specs.declared.scenes.Scene.{Scene}
 use Rattle.slot_laws.specs.Told.{renaming_of}
 use Rattle.slot_laws.specs.Alike.{AftersAlike, IsConsistent, IsConsistentAfter, SeatsAlike}
 use Rattle.slot_laws.proofs.terms.Counting.{Counts, IsStamped, made, one_of}
-use Rattle.slot_laws.proofs.terms.Pairing.{paired, same_sort, with_pair}
+use Rattle.slot_laws.proofs.terms.Pairing.{paired, with_pair}
+use Rattle.slot_laws.proofs.terms.Counting.{same_sort}
 use Rattle.slot_laws.proofs.terms.Scenes.{AgreeBelow, AreRenamings, CamesAlike, MayBeAlike, Renamings, ScenesAlike, at, given_at, given_in}
 use Rattle.slot_laws.proofs.terms.Scenes.{given_of}
 use Rattle.slot_laws.proofs.terms.Kin.{GoesOn, Kin, KinCame}

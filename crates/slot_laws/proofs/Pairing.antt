@@ -8,7 +8,8 @@ use Rattle.log_answers.specs.declared.owed.Sort.{Sort}
 use Rattle.log_answers.specs.declared.owed.Sort.TheVariants.{Counter, Queue, Descriptor, Entry}
 use Rattle.slot_laws.specs.Renaming.{KeepsApart}
 use Rattle.slot_laws.proofs.terms.Scenes.{AreRenamings, Renamings}
-use Rattle.slot_laws.proofs.terms.Pairing.{exchanged, same_sort, with_exchange, with_pair}
+use Rattle.slot_laws.proofs.terms.Pairing.{exchanged, with_exchange, with_pair}
+use Rattle.slot_laws.proofs.terms.Counting.{same_sort}
 
 exchanged_same : (p q a b : ℕ) → (exchanged p q a == exchanged p q b) ≡ (a == b)
 exchanged_same p q a b = grind (arith, nat_tests)

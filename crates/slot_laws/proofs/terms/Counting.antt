@@ -1,5 +1,5 @@
 -- How many things of each sort a call of an interface makes, and the stamp that a new one gets.
-use Rattle.std.specs.Prelude.{ℕ, ◌≡◌, ◌+◌, ◌<◌, Bool, true, false}
+use Rattle.std.specs.Prelude.{if◌then◌else◌, ℕ, ◌≡◌, ◌+◌, ◌<◌, Bool, true, false}
 use Rattle.ptl_types.specs.Handles.{top}
 use Rattle.log_answers.specs.declared.owed.Owed.{Owed}
 use Rattle.log_answers.specs.declared.owed.Owed.TheVariants as owed
@@ -15,13 +15,17 @@ makes_none (owed.New sort h) = false
 makes_none (owed.Linked h) = false
 makes_none _ = true
 
+-- both are one sort
+abbrev pub same_sort : Sort → Sort → Bool
+same_sort Counter Counter = true
+same_sort Queue Queue = true
+same_sort Descriptor Descriptor = true
+same_sort Entry Entry = true
+same_sort _ _ = false
+
 -- 1 where both are one sort
 abbrev pub one_of : Sort → Sort → ℕ
-one_of Counter Counter = 1
-one_of Queue Queue = 1
-one_of Descriptor Descriptor = 1
-one_of Entry Entry = 1
-one_of _ _ = 0
+one_of a b = if same_sort a b then 1 else 0
 
 -- how many things of a sort an answer tells of that are new
 abbrev pub made : Sort → Owed → ℕ

@@ -1,24 +1,17 @@
 -- A renaming that takes one handle more, that of a thing that is new, to its handle in the other run. It exchanges the two slots, so that
 -- it keeps handles apart.
-use Rattle.std.specs.Prelude.{ℕ, Bool, true, false, ◌==◌, ◌&&◌, if◌then◌else◌}
+use Rattle.std.specs.Prelude.{ℕ, ◌==◌, ◌&&◌, if◌then◌else◌}
 use Rattle.ptl_types.specs.declared.handles.Handle.{Handle}
 use Rattle.log_answers.specs.declared.owed.Owed.{Owed}
 use Rattle.log_answers.specs.declared.owed.Owed.TheVariants as owed
 use Rattle.log_answers.specs.declared.owed.Sort.{Sort}
-use Rattle.log_answers.specs.declared.owed.Sort.TheVariants.{Counter, Queue, Descriptor, Entry}
+use Rattle.log_answers.specs.declared.owed.Sort.TheVariants.{Entry}
+use Rattle.slot_laws.proofs.terms.Counting.{same_sort}
 use Rattle.slot_laws.proofs.terms.Scenes.{Renamings}
 
 -- the slot p for q, and q for p
 abbrev pub exchanged : ℕ → ℕ → ℕ → ℕ
 exchanged p q slot = if slot == p then q else if slot == q then p else slot
-
--- both are one sort
-abbrev pub same_sort : Sort → Sort → Bool
-same_sort Counter Counter = true
-same_sort Queue Queue = true
-same_sort Descriptor Descriptor = true
-same_sort Entry Entry = true
-same_sort _ _ = false
 
 -- the slots p and q are exchanged in the handles of one stamp
 abbrev pub with_exchange : ℕ → ℕ → ℕ → (Handle → Handle) → Handle → Handle
