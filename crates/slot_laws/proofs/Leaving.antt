@@ -40,7 +40,8 @@ use Rattle.ni_objects.proofs.users.SumLemmas.{same-is}
 use Rattle.portals_ni.proofs.Stands.{by-fault}
 use Rattle.portals_ni.proofs.Kept.{not-false}
 use Rattle.initiator_engine.proofs.Starting.{need-test, need-later}
-use Rattle.slot_laws.proofs.terms.Lasting.{Alters, refused, altered, Appends, CreatesBound, CreatesCount, CreatesQueue, FreesBound, FreesCount}
+use Rattle.slot_laws.proofs.terms.Lasting.{Alters, refused, altered, Appends, CreatesBound, CreatesCount, CreatesQueue, FreesBound}
+use Rattle.slot_laws.proofs.terms.Lasting.{FreesCount}
 use Rattle.slot_laws.proofs.terms.Lasting.{FreesQueue, Keeps, Lasts, Unlinks}
 use Rattle.slot_laws.specs.Alike.{is_known}
 use Rattle.slot_laws.proofs.Lasting.{LastsHome, either_more, gains_new, lasts_answered, lasts_changed, lasts_counted, lasts_self}

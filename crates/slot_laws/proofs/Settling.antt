@@ -16,7 +16,8 @@ use Rattle.log_verdict.specs.Settling.{ArrivesAs, FiresAs, Moves, Reaches, Rests
 use Rattle.log_verdict.specs.declared.scenes.Scene.{Scene}
 use Rattle.slot_laws.specs.Naming.{renamed_flight}
 use Rattle.slot_laws.specs.Alike.{AftersAlike, IsConsistentAfter, SeatsAlike}
-use Rattle.slot_laws.proofs.terms.Scenes.{AgreeBelow, AllAlike, AllConsistent, AreRenamings, MayBeAlike, Renamings, ScenesAlike, at, given_at}
+use Rattle.slot_laws.proofs.terms.Scenes.{AgreeBelow, AllAlike, AllConsistent, AreRenamings, MayBeAlike, Renamings, ScenesAlike}
+use Rattle.slot_laws.proofs.terms.Scenes.{at, given_at}
 use Rattle.slot_laws.proofs.terms.Scenes.{given_in, given_of}
 use Rattle.slot_laws.proofs.terms.Kin.{Kin}
 use Rattle.slot_laws.proofs.Answering.{answer_alike, nic_of_new}
